@@ -1,0 +1,64 @@
+-- The grid of paper 01 as a stripe system, and the sizes of an array.
+-- Assumes nothing.
+use mathlib.Core.Bool.{Bool, _&&_}
+use mathlib.Core.List.{List, [], _∷_}
+use Prim.Native.Nat.{ℕ, _+_, _*_, _/_, _%_}
+use lib.Dec.{leb, ltb, eqb}
+use lib.ListN.{length, getD}
+use Rattle.model.specs.Fold.{every, tabulate}
+use Rattle.model.specs.Stripes.{Layout}
+use Rattle.model.specs.declared.Size.{Size}
+
+-- r data rows and c data columns, with a parity disk to each and one in the corner. Disks are numbered by rows. Row i is
+-- stripe i and column j is stripe base + j, the parity disks and the corner included.
+unfoldable pub grid : (r c base : ℕ) → Layout
+grid r c base =
+    record {
+      disks = (r + 1) * (c + 1);
+      lines = base + (c + 1);
+      through = λ d. (d / (c + 1)) ∷ (base + d % (c + 1)) ∷ [];
+    }
+
+-- Data rows and data columns of a size.
+unfoldable pub rows : Size → ℕ
+rows z = z .side
+
+unfoldable pub columns : Size → ℕ
+columns z = z .side
+
+-- Disks in a row of the grid.
+unfoldable pub across : Size → ℕ
+across z = columns z + 1
+
+-- The stripe system of a size: column j is stripe 16 + j.
+unfoldable pub gridOf : Size → Layout
+gridOf z = grid (rows z) (columns z) 16
+
+unfoldable pub disks : Size → ℕ
+disks z = (rows z + 1) * across z
+
+-- The disk in row r and column c of the grid.
+unfoldable pub diskAt : Size → ℕ → ℕ → ℕ
+diskAt z r c = r * across z + c
+
+-- A disk that holds data.
+unfoldable pub isData : Size → ℕ → Bool
+isData z d = ltb (d / across z) (rows z) && ltb (d % across z) (columns z)
+
+-- The bytes of an array with blocks of B bytes.
+unfoldable pub arrayBytes : Size → ℕ → ℕ
+arrayBytes z B = disks z * B
+
+-- The array whose disk d has the byte f d p at place p of its block.
+unfoldable pub arrayOf : Size → ℕ → (ℕ → ℕ → ℕ) → List ℕ
+arrayOf z B f = tabulate (arrayBytes z B) (λ i. f (i / B) (i % B))
+
+-- What refusals 1, 2 and 4 test. A map has a byte for each disk: 0 present, 1 erased (paper 01: marked).
+unfoldable pub sizeFits : Size → Bool
+sizeFits z = leb 2 (z .side) && leb (z .side) 15
+
+unfoldable pub blockFits : ℕ → Bool
+blockFits B = leb 1 B && leb B 4096
+
+unfoldable pub mapFits : Size → List ℕ → Bool
+mapFits z m = eqb (length m) (disks z) && every (length m) (λ d. leb (getD m d 0) 1)

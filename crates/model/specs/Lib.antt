@@ -1,0 +1,7 @@
+pub mod Fold
+pub mod Stripes
+pub mod Grid
+pub mod Equations
+pub mod Refusal
+pub mod Array
+pub mod Cases

@@ -1,0 +1,65 @@
+-- A stripe system: which stripes each disk lies on, and what it is for the disks' blocks to be a codeword.
+-- Everything is said over a stretch of the block, so that a part of a block can be an array by itself.
+-- Assumes nothing.
+use mathlib.Core.Path.{_≡_}
+use mathlib.Core.Bool.{Bool, false, _||_}
+use mathlib.Core.List.{List, [], _∷_}
+use Prim.Native.Nat.{ℕ, _+_, _*_, _<_}
+use lib.Dec.{eqb}
+use lib.ListN.{length, getD}
+use Rattle.model.specs.Fold.{xsum, gate, every}
+
+-- Disks (paper 01: cards) and stripes (paper 01: lines), both numbered from 0. `through d` lists the stripes of disk d,
+-- lowest first. A number below `lines` that no disk lists is an empty stripe.
+pub record Layout : Type 0 where
+  pub disks : ℕ
+  pub lines : ℕ
+  pub through : ℕ → List ℕ
+
+-- Every disk lies on just two stripes.
+pub record TwoStripes (L : Layout) : Type 0 where
+  pub low : ℕ → ℕ
+  pub high : ℕ → ℕ
+  pub two : (d : ℕ) → d < L .disks → L .through d ≡ low d ∷ high d ∷ []
+  pub order : (d : ℕ) → d < L .disks → low d < high d
+  pub bound : (d : ℕ) → d < L .disks → high d < L .lines
+
+unfoldable pub among : ℕ → List ℕ → Bool
+among s [] = false
+among s (t ∷ ts) = eqb s t || among s ts
+
+-- Disk d lies on stripe s.
+unfoldable pub on : Layout → ℕ → ℕ → Bool
+on L d s = among s (L .through d)
+
+-- A stretch of the block: `width` bytes from `offset` on, in blocks of `block` bytes.
+pub record Stretch : Type 0 where
+  pub block : ℕ
+  pub offset : ℕ
+  pub width : ℕ
+
+-- The whole of a block of B bytes.
+unfoldable pub whole : ℕ → Stretch
+whole B = record { block = B; offset = 0; width = B }
+
+-- The byte of disk d at place p of the stretch. The array holds the blocks in the order of the disks.
+unfoldable pub byte : Stretch → List ℕ → ℕ → ℕ → ℕ
+byte x a d p = getD a (d * x .block + (x .offset + p)) 0
+
+-- The exclusive or over stripe s of what f gives for each disk.
+unfoldable pub sumOver : Layout → (ℕ → ℕ) → ℕ → ℕ
+sumOver L f s = xsum (L .disks) (λ d. gate (on L d s) (f d))
+
+-- The sum of stripe s at place p.
+unfoldable pub stripeSum : Layout → Stretch → List ℕ → ℕ → ℕ → ℕ
+stripeSum L x a s p = sumOver L (λ d. byte x a d p) s
+
+-- The sum of stripe s is zero at every place: a test.
+unfoldable pub clear : Layout → Stretch → List ℕ → ℕ → Bool
+clear L x a s = every (x .width) (λ p. eqb (stripeSum L x a s p) 0)
+
+-- Paper 01: an array of the right length is sealed if every stripe's sum is zero at every place.
+pub record Codeword (L : Layout) (x : Stretch) (a : List ℕ) : Type 0 where
+  pub sized : length a ≡ L .disks * x .block
+  pub bytes : (i : ℕ) → i < length a → getD a i 0 < 256
+  pub sums : (s : ℕ) → s < L .lines → (p : ℕ) → p < x .width → stripeSum L x a s p ≡ 0

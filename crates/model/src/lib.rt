@@ -1,0 +1,17 @@
+// What is right. This crate has no code: specs/ says what the array, its parities and each call are, and proofs/ says what
+// follows from that. The types below are those that the definitions and the calls share.
+
+// The size of an array, which every call takes. Paper 01's n: data disks along a side.
+pub struct Size {
+    pub side: usize,
+}
+
+// What a check answers.
+pub enum Checked {
+    // Every stripe's sum is zero at every place.
+    Sealed,
+    // The lowest stripe whose sum is not zero.
+    Unsealed(usize),
+    // A refusal by its number.
+    Refused(u32),
+}
