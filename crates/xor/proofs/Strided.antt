@@ -1,0 +1,209 @@
+-- Laws of evenly spaced sums, over the width of a stretch.
+-- Assumes nothing.
+use mathlib.Core.Path.{_≡_, refl, sym, _∙_, ap, ap₂}
+use mathlib.Core.Bool.{Bool, true, false, not, _&&_, and-false}
+use mathlib.Core.Logic.{⊎-elim}
+use mathlib.Core.List.{List}
+use Prim.Native.Nat.{ℕ, zero, suc, _+_, _*_, _-_, _≤_, _<_}
+use native.Mathlib.Nat.{add-assoc, add-zero, zero-add, add-sub-of-le, mul-le-mul-right, suc-mul, eq-or-lt-of-le}
+use native.Mathlib.Numerals.{add-one}
+use native.Mathlib.Omega.{arith}
+use borrow.Author.Tests.{eq-eqb, ne-eqb, eqb-true, eqb-false}
+use lib.Dec.{eqb}
+use lib.Bits.{bitXor, bitOr, bitAnd, or-add-and, and-le-l, and-le-r}
+use lib.ListN.{length, getD, set, replicate, length-replicate, getD-replicate}
+use lib.Seq.{ext-getD}
+use Rattle.model.specs.Fold.{_⊕_, xsum, gate, every, tabulate}
+use Rattle.model.proofs.Xor.{⊕-zero}
+use Rattle.model.proofs.Fold.{xsum-ext, every-add, every-ext, length-tabulate, getD-tabulate, list-is, tabulate-ext, lt-or-le}
+use Rattle.xor.specs.Strided.{strided, sums, mixed, stored, filled, cancelled, Spaced}
+use Rattle.xor.proofs.Stored.{stored-is, stored-more, stored-next, stored-all, stored-ext, stored-none, length-stored, getD-before, getD-after}
+
+-- ---- one more byte
+module _ (a : List ℕ) (first step skip k : ℕ) where
+  pub strided-next : (k ≡ skip → ⊥) → strided a first step (k + 1) skip ≡ strided a first step k skip ⊕ getD a (first + k * step) 0
+  unfolding strided xsum gate
+  strided-next n = rw add-one (simp (ne-eqb k skip n))
+
+  pub strided-skip : k ≡ skip → strided a first step (k + 1) skip ≡ strided a first step k skip
+  unfolding strided xsum gate
+  strided-skip e = rw add-one (simp (eq-eqb k skip e) (⊕-zero _))
+
+-- ---- w bytes side by side
+module _ (w : ℕ) (a : List ℕ) (first step skip : ℕ) where
+  pub sums-none : sums w a first step 0 skip ≡ replicate w 0
+  unfolding sums strided xsum
+  sums-none = sym (list-is (replicate w 0) w _ (length-replicate w 0) (λ i b. getD-replicate w i 0 0 b))
+
+  pub sums-next : (k : ℕ) → (k ≡ skip → ⊥) → mixed w (sums w a first step k skip) a (first + k * step) ≡ sums w a first step (k + 1) skip
+  unfolding sums mixed
+  sums-next k n =
+      tabulate-ext w
+      (λ i b.
+      ap₂ (λ (x j : ℕ). x ⊕ getD a j 0) (getD-tabulate w _ i b) (omega arith)
+      ∙ sym (strided-next a (first + i) step skip k n))
+
+  pub sums-at : (k : ℕ) (v : List ℕ) → v ≡ sums w a first step k skip → (i : ℕ) → i < w → getD v i 0 ≡ strided a (first + i) step k skip
+  unfolding sums
+  sums-at k v e i b = ap (λ (l : List ℕ). getD l i 0) e ∙ getD-tabulate w _ i b
+
+  pub sums-skip : (k : ℕ) → k ≡ skip → sums w a first step k skip ≡ sums w a first step (k + 1) skip
+  unfolding sums
+  sums-skip k e = tabulate-ext w (λ i b. sym (strided-skip a (first + i) step skip k e))
+
+-- ---- the loop that adds w bytes
+abbrev pub added : List ℕ → List ℕ → ℕ → ℕ → ℕ
+added acc a at i = getD acc i 0 ⊕ getD a (at + i) 0
+
+pub mix-next : (acc a : List ℕ) (at i : ℕ) (r : List ℕ) → r ≡ stored acc 0 i (added acc a at) → i < length acc
+    → set r i (bitXor (getD r i 0) (getD a (at + i) 0)) ≡ stored acc 0 (i + 1) (added acc a at)
+unfolding _⊕_
+mix-next acc a at i r e h =
+    let here : getD r i 0 ≡ getD acc i 0 = ap (λ (l : List ℕ). getD l i 0) e ∙ getD-after acc 0 i (added acc a at) i (omega arith) in
+    ap (λ (x : ℕ). set r i (bitXor x (getD a (at + i) 0))) here
+    ∙ ap₂ (λ (l : List ℕ) (k : ℕ). set l k (added acc a at i)) e (sym (zero-add i))
+    ∙ stored-next acc 0 i (added acc a at) (added acc a at i) refl (omega arith)
+
+pub mix-done : (acc a : List ℕ) (at : ℕ) (w i : ℕ) (r : List ℕ) → r ≡ stored acc 0 i (added acc a at) → i ≡ w → length acc ≡ w
+    → r ≡ mixed w acc a at
+unfolding mixed
+mix-done acc a at w i r e n l = e ∙ ap (λ (k : ℕ). stored acc 0 k (added acc a at)) n ∙ stored-all acc w (added acc a at) l
+
+-- ---- the loop that fills a stretch
+-- A place of another stretch is not one of the m places of stretch number `skip` that were stored.
+strided-apart : (a : List ℕ) (first step count skip m : ℕ) (f : ℕ → ℕ) (i : ℕ) → i < step → m ≤ step
+    → strided (stored a (first + skip * step) m f) (first + i) step count skip ≡ strided a (first + i) step count skip
+unfolding strided gate
+strided-apart a first step count skip m f i h g =
+    xsum-ext count
+    (λ k b.
+    ⊎-elim
+    (λ l.
+    let q : suc k * step ≤ skip * step = mul-le-mul-right step l in
+    let s : suc k * step ≡ k * step + step = suc-mul k step in
+    ap (gate (not (eqb k skip))) (getD-before a (first + skip * step) m f (first + i + k * step) (omega arith)))
+    (λ l.
+    ⊎-elim
+    (λ e. simp (eq-eqb k skip (sym e)))
+    (λ o.
+    let q : suc skip * step ≤ k * step = mul-le-mul-right step o in
+    let s : suc skip * step ≡ skip * step + step = suc-mul skip step in
+    ap (gate (not (eqb k skip))) (getD-after a (first + skip * step) m f (first + i + k * step) (omega arith)))
+    (eq-or-lt-of-le l))
+    (lt-or-le k skip))
+
+pub length-filled : (n : ℕ) (a : List ℕ) (first step count skip : ℕ) → length (filled n a first step count skip) ≡ length a
+unfolding filled
+length-filled n a first step count skip = length-stored a (first + skip * step) n _
+
+pub filled-none : (a : List ℕ) (first step count skip : ℕ) → a ≡ filled 0 a first step count skip
+unfolding filled
+filled-none a first step count skip = stored-none a (first + skip * step) _
+
+-- w places more.
+pub fill-next : (a : List ℕ) (first step count skip n w : ℕ) (r : List ℕ) (at : ℕ) (f : ℕ → ℕ)
+    → n + w ≤ step
+    → r ≡ filled n a first step count skip
+    → at ≡ first + skip * step + n
+    → ((i : ℕ) → i < w → f i ≡ strided r (first + n + i) step count skip)
+    → stored r at w f ≡ filled (n + w) a first step count skip
+unfolding filled
+fill-next a first step count skip n w r at f h e p v =
+    ap₂ (λ (l : List ℕ) (k : ℕ). stored l k w f) e p
+    ∙ stored-ext (filled n a first step count skip) (first + skip * step + n) w
+    (λ i b.
+    v i b ∙ ap₂ (λ (l : List ℕ) (k : ℕ). strided l k step count skip) e (add-assoc first n i)
+    ∙ strided-apart a first step count skip n _ (n + i) (omega arith) (omega arith))
+    ∙ stored-more a (first + skip * step) n w (λ i. strided a (first + i) step count skip)
+
+-- n places behind m.
+pub filled-then : (a : List ℕ) (first step count skip m n : ℕ) (r q : List ℕ) (at : ℕ)
+    → m + n ≤ step
+    → r ≡ filled m a first step count skip
+    → at ≡ first + m
+    → q ≡ filled n r at step count skip
+    → q ≡ filled (m + n) a first step count skip
+unfolding filled
+filled-then a first step count skip m n r q at h e p g =
+    g
+    ∙ fill-next a first step count skip m n r (at + skip * step) (λ i. strided r (at + i) step count skip) h e (omega arith)
+    (λ i b. ap (λ (k : ℕ). strided r k step count skip) (omega arith))
+
+-- The w places behind n of stretches that are spaced are spaced.
+pub spaced-later : (a b : List ℕ) (first step count skip len n w at : ℕ) → Spaced a first step count skip len → n + w ≤ len
+    → length b ≡ length a → at ≡ first + n → Spaced b at step count skip w
+spaced-later a b first step count skip len n w at s h e p =
+    let q = s .apart in
+    record { within = λ k l. let r = s .within k l in omega arith; apart = omega arith; one = s .one }
+
+-- ---- the test of a stretch
+pub or-zero : (a b : ℕ) → eqb (bitOr a b) 0 ≡ (eqb a 0 && eqb b 0)
+or-zero a b = go (eqb a 0) refl (eqb b 0) refl
+  where
+    sum : bitOr a b + bitAnd a b ≡ a + b
+    sum = or-add-and a b
+
+    left : bitAnd a b ≤ a
+    left = and-le-l a b
+
+    right : bitAnd a b ≤ b
+    right = and-le-r a b
+
+    go : (s : Bool) → eqb a 0 ≡ s → (t : Bool) → eqb b 0 ≡ t → eqb (bitOr a b) 0 ≡ (s && t)
+    go true e true f = let p = eqb-true a 0 e in let q = eqb-true b 0 f in let h = sum in eq-eqb (bitOr a b) 0 (omega arith)
+    go true e false f = ne-eqb (bitOr a b) 0 (λ z. eqb-false b 0 f (let h = sum in let l = left in omega arith))
+    go false e t f = ne-eqb (bitOr a b) 0 (λ z. eqb-false a 0 e (let h = sum in let l = right in omega arith))
+
+abbrev pub zeroAt : List ℕ → ℕ → Bool
+zeroAt v i = eqb (getD v i 0) 0
+
+pub zero-next : (v : List ℕ) (i any : ℕ) → eqb any 0 ≡ every i (zeroAt v) → eqb (bitOr any (getD v i 0)) 0 ≡ every (i + 1) (zeroAt v)
+unfolding every
+zero-next v i any e = rw add-one (or-zero any (getD v i 0) ∙ ap (λ (t : Bool). t && zeroAt v i) e)
+
+pub cancelled-add : (m n : ℕ) (a : List ℕ) (first step count : ℕ)
+    → cancelled (m + n) a first step count ≡ (cancelled m a first step count && cancelled n a (first + m) step count)
+unfolding cancelled
+cancelled-add m n a first step count =
+    every-add m n _
+    ∙ ap (λ (t : Bool). cancelled m a first step count && t)
+    (every-ext n (λ i b. ap (λ (k : ℕ). eqb (strided a k step count count) 0) (sym (add-assoc first m i))))
+
+-- The sums of w places are all zero.
+pub cancelled-sums : (w : ℕ) (a : List ℕ) (first step count : ℕ)
+    → every w (λ i. eqb (getD (sums w a first step count count) i 0) 0) ≡ cancelled w a first step count
+unfolding cancelled sums
+cancelled-sums w a first step count = every-ext w (λ i b. ap (λ (x : ℕ). eqb x 0) (getD-tabulate w _ i b))
+
+module _ (a : List ℕ) (first step count : ℕ) where
+  pub cancelled-none : cancelled 0 a first step count ≡ true
+  unfolding cancelled every
+  cancelled-none = refl
+
+  -- Where the first n places pass, the test of n + w is that of the w behind them.
+  pub cancelled-after : (n w at : ℕ) → at ≡ first + n → cancelled n a first step count ≡ true
+      → cancelled (n + w) a first step count ≡ cancelled w a at step count
+  cancelled-after n w at p e =
+      cancelled-add n w a first step count ∙ ap₂ (λ (t : Bool) (k : ℕ). t && cancelled w a k step count) e (sym p)
+
+  -- Where w places behind n fail, so does every test that takes them in.
+  pub cancelled-fails : (n w len at : ℕ) → at ≡ first + n → n + w ≤ len → cancelled w a at step count ≡ false
+      → false ≡ cancelled len a first step count
+  cancelled-fails n w len at p h e =
+      let fails : cancelled (n + w) a first step count ≡ false =
+      cancelled-add n w a first step count
+      ∙ ap (λ (k : ℕ). cancelled n a first step count && cancelled w a k step count) (sym p)
+      ∙ ap (λ (t : Bool). cancelled n a first step count && t) e
+      ∙ and-false (cancelled n a first step count) in
+      sym
+      (ap (λ (k : ℕ). cancelled k a first step count) (sym (add-sub-of-le h)) ∙ cancelled-add (n + w) (len - (n + w)) a first step count
+      ∙ ap (λ (t : Bool). t && cancelled (len - (n + w)) a (first + (n + w)) step count) fails)
+
+  -- The test of w sums that were taken.
+  pub cancelled-by : (w : ℕ) (v : List ℕ) (t : Bool) → v ≡ sums w a first step count count → t ≡ every w (zeroAt v)
+      → t ≡ cancelled w a first step count
+  cancelled-by w v t e p = p ∙ ap (λ (l : List ℕ). every w (zeroAt l)) e ∙ cancelled-sums w a first step count
+
+  pub cancelled-one : (v : ℕ) → v ≡ strided a first step count count → eqb v 0 ≡ cancelled 1 a first step count
+  unfolding cancelled every
+  cancelled-one v e = ap (λ (x : ℕ). eqb x 0) (e ∙ ap (λ (k : ℕ). strided a k step count count) (sym (add-zero first)))

@@ -1,0 +1,74 @@
+-- `xor::cancel::cancel1` meets its contract: the sums so far are all zero.
+-- Assumes nothing.
+use mathlib.Core.Path.{_≡_, _∙_, sym, ap, refl}
+use mathlib.Core.Bool.{Bool, true, false, _&&_, and-false}
+use Prim.Native.Nat.{ℕ, _≤_, _-_, _+_, _*_}
+use native.Mathlib.Omega.{arith}
+use borrow.Author.Needs.{needs}
+use borrow.Author.Tests.{eq-eqb, ne-eqb}
+use Rattle.xor.specs.Strided.{cancelled}
+use Rattle.xor.proofs.Strided.{cancelled-none, cancelled-after, cancelled-fails, cancelled-by, cancelled-one}
+use Rattle.xor.proofs.cancel.cancel1.Statement.{statement}
+use Rattle.xor.proofs.cancel.cancel1.Tie as tie
+
+abbrev Inv-loop : tie.InvT-loop
+Inv-loop a first step count len i₀ i = (i ≤ len) × (cancelled (i) a first step count ≡ true)
+
+abbrev μ-loop : tie.MeasureT-loop
+μ-loop a first step count len i₀ i = len - i
+
+loop-holds : tie.Need-loop-holds Inv-loop μ-loop
+loop-holds c = (search needs, cancelled-none _ _ _ _)
+
+add-sum1 : tie.Need-add-sum1 Inv-loop μ-loop
+add-sum1 c = search needs
+
+sum1-requires : tie.Need-sum1-requires Inv-loop μ-loop
+sum1-requires c κs = λ k h. omega (arith, c .before .before .before .pre .0 k h)
+
+returns : tie.Need-returns Inv-loop μ-loop
+returns c =
+    let a = c .before .before .before .before .before .args in
+    let l = c .before .before .before .loop in
+    let v = c .before .sum1 in
+    let t = cancelled-one (a .a .now) (a .first + l .i) (a .step) (a .count) (v .result) (v .ensures) in
+    cancelled-fails (a .a .now) (a .first) (a .step) (a .count) (l .i) 1 _ _ refl (omega arith) (sym t ∙ ne-eqb (v .result) 0 (c .if1 .taken))
+
+add-i : tie.Need-add-i Inv-loop μ-loop
+add-i c = search needs
+
+loop-less : tie.Need-loop-less Inv-loop μ-loop
+loop-less c = search needs
+
+loop-again : tie.Need-loop-again Inv-loop μ-loop
+loop-again c =
+    let a = c .before .before .before .before .before .args in
+    let l = c .before .before .before .loop in
+    let v = c .before .sum1 in
+    let t = cancelled-one (a .a .now) (a .first + l .i) (a .step) (a .count) (v .result) (v .ensures) in (
+      search needs,
+      ap (λ (n : ℕ). cancelled n (a .a .now) (a .first) (a .step) (a .count)) (omega arith)
+          ∙ cancelled-after (a .a .now) (a .first) (a .step) (a .count) (l .i) 1 _ refl (l .inv .1)
+          ∙ sym t ∙ eq-eqb (v .result) 0 (c .if1 .left),
+    )
+
+returns-2 : tie.Need-returns-2 Inv-loop μ-loop
+returns-2 c =
+    let a = c .before .before .before .args in
+    let l = c .before .loop in
+    sym (l .inv .1) ∙ ap (λ (n : ℕ). cancelled (n) (a .a .now) (a .first) (a .step) (a .count)) (omega arith)
+
+pub cancel1-spec : {M : Type 1} → statement M
+cancel1-spec =
+    tie.close
+    (tie.spec
+    Inv-loop
+    μ-loop
+    loop-holds
+    add-sum1
+    sum1-requires
+    returns
+    add-i
+    loop-less
+    loop-again
+    returns-2)

@@ -1,0 +1,84 @@
+-- `xor::cancel::cancel128` meets its contract: the sums so far are all zero.
+-- Assumes nothing.
+use mathlib.Core.Path.{_≡_, _∙_, sym, ap, refl}
+use mathlib.Core.Bool.{Bool, true, false, _&&_, and-false}
+use Prim.Native.Nat.{ℕ, _≤_, _-_, _+_, _*_}
+use native.Mathlib.Omega.{arith}
+use borrow.Author.Needs.{needs}
+use borrow.Author.Tests.{not-true, not-false}
+use Rattle.xor.specs.Strided.{cancelled}
+use Rattle.xor.proofs.Strided.{cancelled-none, cancelled-after, cancelled-fails, cancelled-by, cancelled-one}
+use Rattle.xor.proofs.cancel.cancel128.Statement.{statement}
+use Rattle.xor.proofs.cancel.cancel128.Tie as tie
+
+abbrev Inv-loop : tie.InvT-loop
+Inv-loop a first step count chunks i₀ i = (i ≤ chunks) × (cancelled (128 * i) a first step count ≡ true)
+
+abbrev μ-loop : tie.MeasureT-loop
+μ-loop a first step count chunks i₀ i = chunks - i
+
+loop-holds : tie.Need-loop-holds Inv-loop μ-loop
+loop-holds c = (search needs, cancelled-none _ _ _ _)
+
+mul-sum128 : tie.Need-mul-sum128 Inv-loop μ-loop
+mul-sum128 c = search needs
+
+add-sum128 : tie.Need-add-sum128 Inv-loop μ-loop
+add-sum128 c = search needs
+
+sum128-requires : tie.Need-sum128-requires Inv-loop μ-loop
+sum128-requires c κs = λ k h. omega (arith, c .before .before .before .pre .0 k h)
+
+zero128-requires : tie.Need-zero128-requires Inv-loop μ-loop
+zero128-requires c κs = search needs
+
+returns : tie.Need-returns Inv-loop μ-loop
+returns c =
+    let a = c .before .before .before .before .before .before .args in
+    let l = c .before .before .before .before .loop in
+    let v = c .before .before .sum128 in
+    let z = c .before .zero128 in
+    let t = cancelled-by (a .a .now) (a .first + 128 * l .i) (a .step) (a .count) 128 (v .result) (z .result) (v .ensures) (z .ensures) in
+    cancelled-fails (a .a .now) (a .first) (a .step) (a .count) (128 * l .i) 128 _ _ refl (omega arith) (sym t ∙ not-true _ (c .if1 .taken))
+
+add-i : tie.Need-add-i Inv-loop μ-loop
+add-i c = search needs
+
+loop-less : tie.Need-loop-less Inv-loop μ-loop
+loop-less c = search needs
+
+loop-again : tie.Need-loop-again Inv-loop μ-loop
+loop-again c =
+    let a = c .before .before .before .before .before .before .args in
+    let l = c .before .before .before .before .loop in
+    let v = c .before .before .sum128 in
+    let z = c .before .zero128 in
+    let t = cancelled-by (a .a .now) (a .first + 128 * l .i) (a .step) (a .count) 128 (v .result) (z .result) (v .ensures) (z .ensures) in (
+      search needs,
+      ap (λ (n : ℕ). cancelled n (a .a .now) (a .first) (a .step) (a .count)) (omega arith)
+          ∙ cancelled-after (a .a .now) (a .first) (a .step) (a .count) (128 * l .i) 128 _ refl (l .inv .1)
+          ∙ sym t ∙ not-false _ (c .if1 .left),
+    )
+
+returns-2 : tie.Need-returns-2 Inv-loop μ-loop
+returns-2 c =
+    let a = c .before .before .before .args in
+    let l = c .before .loop in
+    sym (l .inv .1) ∙ ap (λ (n : ℕ). cancelled (128 * n) (a .a .now) (a .first) (a .step) (a .count)) (omega arith)
+
+pub cancel128-spec : {M : Type 1} → statement M
+cancel128-spec =
+    tie.close
+    (tie.spec
+    Inv-loop
+    μ-loop
+    loop-holds
+    mul-sum128
+    add-sum128
+    sum128-requires
+    zero128-requires
+    returns
+    add-i
+    loop-less
+    loop-again
+    returns-2)

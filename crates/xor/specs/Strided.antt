@@ -1,0 +1,42 @@
+-- Sums of bytes that stand evenly spaced in a list, and lists with a stretch stored anew: what the leaf loops compute.
+-- Assumes nothing.
+use mathlib.Core.Bool.{Bool, cond, not, _&&_}
+use mathlib.Core.List.{List}
+use Prim.Native.Nat.{ℕ, _+_, _*_, _-_, _≤_, _<_}
+use lib.Dec.{leb, ltb, eqb}
+use lib.ListN.{length, getD}
+use Rattle.model.specs.Fold.{_⊕_, xsum, gate, every, tabulate}
+
+-- The stretches of w bytes, `count` of them that stand `step` apart from `first` on, lie within the list.
+abbrev pub Within : List ℕ → (first step count w : ℕ) → Type 0
+Within a first step count w = (k : ℕ) → k < count → first + k * step + w ≤ length a
+
+-- These stretches lie within the list and apart from each other, and `skip` is the number of one of them.
+pub record Spaced (a : List ℕ) (first step count skip w : ℕ) : Type 0 where
+  pub within : Within a first step count w
+  pub apart : w ≤ step
+  pub one : skip < count
+
+-- The exclusive or of `count` bytes that stand `step` apart from `first` on, number `skip` left out.
+unfoldable pub strided : List ℕ → (first step count skip : ℕ) → ℕ
+strided a first step count skip = xsum count (λ k. gate (not (eqb k skip)) (getD a (first + k * step) 0))
+
+-- w such sums side by side.
+unfoldable pub sums : ℕ → List ℕ → (first step count skip : ℕ) → List ℕ
+sums w a first step count skip = tabulate w (λ i. strided a (first + i) step count skip)
+
+-- The first w bytes of acc, each with the byte added that stands as far behind `at`.
+unfoldable pub mixed : ℕ → List ℕ → List ℕ → ℕ → List ℕ
+mixed w acc a at = tabulate w (λ i. getD acc i 0 ⊕ getD a (at + i) 0)
+
+-- The list with f 0 .. f (n - 1) at the places from `at` on.
+unfoldable pub stored : List ℕ → (at n : ℕ) → (ℕ → ℕ) → List ℕ
+stored l at n f = tabulate (length l) (λ i. cond (leb at i && ltb i (at + n)) (f (i - at)) (getD l i 0))
+
+-- The list with stretch number `skip`, n bytes of it, the sum of the others.
+unfoldable pub filled : ℕ → List ℕ → (first step count skip : ℕ) → List ℕ
+filled n a first step count skip = stored a (first + skip * step) n (λ i. strided a (first + i) step count skip)
+
+-- The sum of all the stretches is zero at each of n places.
+unfoldable pub cancelled : ℕ → List ℕ → (first step count : ℕ) → Bool
+cancelled n a first step count = every n (λ i. eqb (strided a (first + i) step count count) 0)

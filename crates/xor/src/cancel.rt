@@ -1,0 +1,105 @@
+// Tests whether the sum of all stretches is zero.
+ghost use mathlib.Core.Path.{_≡_};
+ghost use Prim.Native.Nat.{_+_, _*_, _≤_, _<_};
+ghost use lib.Dec.{eqb};
+ghost use lib.ListN.{length, getD};
+ghost use Rattle.model.specs.Fold.{every};
+ghost use Rattle.xor.specs.Strided.{Within, cancelled};
+use crate::sum::sum1;
+use crate::sum::sum16;
+use crate::sum::sum128;
+
+// Every byte of v is zero.
+fn zero128(v: [u8; 128]) -> bool
+    ensures { λ r. ⌜ r ≡ every 128 (λ i. eqb (getD v i 0) 0) ⌝ }
+{
+    let mut any = 0u8;
+    let mut i = 0;
+    while i < 128 {
+        any = any | v[i];
+        i += 1;
+    }
+    any == 0
+}
+
+// 128 bytes for each of `chunks`.
+fn cancel128(a: &[u8], first: usize, step: usize, count: usize, chunks: usize) -> bool
+    requires { ⌜ Within (now a) first step count (128 * chunks) ⌝ }
+    requires { ⌜ first + 128 * chunks ≤ length (now a) ⌝ }
+    ensures { λ r. ⌜ r ≡ cancelled (128 * chunks) (now (a .entry)) first step count ⌝ }
+{
+    let mut i = 0;
+    while i < chunks {
+        let v = sum128(a, first + 128 * i, step, count, count);
+        if !zero128(v) {
+            return false;
+        }
+        i += 1;
+    }
+    true
+}
+
+// Every byte of v is zero.
+fn zero16(v: [u8; 16]) -> bool
+    ensures { λ r. ⌜ r ≡ every 16 (λ i. eqb (getD v i 0) 0) ⌝ }
+{
+    let mut any = 0u8;
+    let mut i = 0;
+    while i < 16 {
+        any = any | v[i];
+        i += 1;
+    }
+    any == 0
+}
+
+// 16 bytes for each of `chunks`.
+fn cancel16(a: &[u8], first: usize, step: usize, count: usize, chunks: usize) -> bool
+    requires { ⌜ Within (now a) first step count (16 * chunks) ⌝ }
+    requires { ⌜ first + 16 * chunks ≤ length (now a) ⌝ }
+    ensures { λ r. ⌜ r ≡ cancelled (16 * chunks) (now (a .entry)) first step count ⌝ }
+{
+    let mut i = 0;
+    while i < chunks {
+        let v = sum16(a, first + 16 * i, step, count, count);
+        if !zero16(v) {
+            return false;
+        }
+        i += 1;
+    }
+    true
+}
+
+// One byte at a time.
+fn cancel1(a: &[u8], first: usize, step: usize, count: usize, len: usize) -> bool
+    requires { ⌜ Within (now a) first step count len ⌝ }
+    requires { ⌜ first + len ≤ length (now a) ⌝ }
+    ensures { λ r. ⌜ r ≡ cancelled len (now (a .entry)) first step count ⌝ }
+{
+    let mut i = 0;
+    while i < len {
+        let v = sum1(a, first + i, step, count, count);
+        if v != 0 {
+            return false;
+        }
+        i += 1;
+    }
+    true
+}
+
+// The sum of `count` stretches of `len` bytes that stand `step` apart from `first` on is zero at each place.
+pub fn cancel(a: &[u8], first: usize, step: usize, count: usize, len: usize) -> bool
+    requires { ⌜ Within (now a) first step count len ⌝ }
+    requires { ⌜ first + len ≤ length (now a) ⌝ }
+    ensures { λ r. ⌜ r ≡ cancelled len (now (a .entry)) first step count ⌝ }
+{
+    let wide = len / 128;
+    let rest = len % 128;
+    let narrow = rest / 16;
+    if !cancel128(a, first, step, count, wide) {
+        return false;
+    }
+    if !cancel16(a, first + 128 * wide, step, count, narrow) {
+        return false;
+    }
+    cancel1(a, first + 128 * wide + 16 * narrow, step, count, rest % 16)
+}
