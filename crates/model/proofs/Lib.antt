@@ -1,3 +1,4 @@
 pub mod Xor
 pub mod Fold
+pub mod Grid
 pub mod Cases
