@@ -31,7 +31,8 @@ pub by-cases {ℓ} : (P : Bool → Type ℓ) (b : Bool) → (b ≡ true → P tr
 by-cases P true t f = t refl
 by-cases P false t f = f refl
 
-below-suc : (P : ℕ → Type 0) (n : ℕ) → ((i : ℕ) → i < n → P i) → P n → (i : ℕ) → i < suc n → P i
+-- What holds of the numbers below n and of n holds of all that are not above n.
+pub below-suc : (P : ℕ → Type 0) (n : ℕ) → ((i : ℕ) → i < n → P i) → P n → (i : ℕ) → i < suc n → P i
 below-suc P n all here i h = ⊎-elim (λ e. subst P (sym e) here) (λ l. all i l) (eq-or-lt-of-le (le-of-suc-le-suc h))
 
 -- ---- sums

@@ -148,6 +148,14 @@ pub gridOf-two : (z : Size) → sizeFits z ≡ true → TwoStripes (gridOf z)
 unfolding gridOf
 gridOf-two z fits = let f : Fits z = size-fits z fits in grid-two (rows z) (columns z) 16 (omega arith)
 
+pub row-line : (z : Size) → Fits z → (r : ℕ) → r ≤ rows z → r < gridOf z .lines
+unfolding gridOf grid
+row-line z fits r l = omega arith
+
+pub column-line : (z : Size) (c : ℕ) → c ≤ columns z → 16 + c < gridOf z .lines
+unfolding gridOf grid
+column-line z c l = omega arith
+
 pub by-stripe : (z : Size) (P : ℕ → Type 0)
     → ((r : ℕ) → r ≤ rows z → P r) → ((s : ℕ) → rows z < s → s < 16 → P s) → ((c : ℕ) → c ≤ columns z → P (16 + c))
     → (s : ℕ) → s < gridOf z .lines → P s
