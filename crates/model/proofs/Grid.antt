@@ -4,18 +4,18 @@ use mathlib.Core.Path.{_≡_, refl, sym, _∙_, ap, ap₂, subst}
 use mathlib.Core.Bool.{Bool, true, false, _&&_, _||_}
 use mathlib.Core.List.{List}
 use Prim.Native.Nat.{ℕ, _+_, _*_, _/_, _%_, _-_, _≤_, _<_}
-use native.Mathlib.Nat.{zero-add, mul-zero, add-sub-of-le, lt-of-not-le, mod-lt, div-lt-iff-lt-mul, div-add-mod', pos-of-ne-zero}
+use native.Mathlib.Nat.{zero-add, mul-zero, add-sub-of-le, le-of-lt, lt-of-not-le, mod-lt, div-lt-iff-lt-mul, div-add-mod', pos-of-ne-zero}
 use native.Mathlib.Decide.{decLe, decLt}
 use native.Mathlib.Omega.{arith}
-use borrow.Author.Tests.{eq-eqb, ne-eqb, leb-true}
+use borrow.Author.Tests.{eq-eqb, ne-eqb, leb-true, ltb-true, lt-ltb}
 use lib.Arith.{digits-div, digits-mod, digits-lt}
-use lib.Dec.{eqb, leb}
-use lib.ListN.{length, getD}
+use lib.Dec.{eqb, leb, ltb}
+use lib.ListN.{length, getD, List·getD-eq-default}
 use Rattle.model.specs.Fold.{xsum, gate}
 use Rattle.model.specs.Stripes.{TwoStripes, among, on, Stretch, whole, byte, sumOver, stripeSum}
-use Rattle.model.specs.Grid.{grid, rows, columns, across, gridOf, disks, diskAt, arrayBytes, arrayOf, sizeFits, blockFits}
+use Rattle.model.specs.Grid.{grid, rows, columns, across, gridOf, disks, diskAt, isData, arrayBytes, arrayOf, sizeFits, blockFits}
 use Rattle.model.specs.declared.Size.{Size}
-use Rattle.model.proofs.Fold.{and-left, and-right, xsum-ext, xsum-zero, xsum-swap, xsum-mul, xsum-only, length-tabulate, getD-tabulate, list-is}
+use Rattle.model.proofs.Fold.{and-left, and-right, and-both, xsum-ext, xsum-zero, xsum-swap, xsum-mul, xsum-only, length-tabulate, getD-tabulate, list-is}
 
 -- ---- the stripes of a grid
 
@@ -169,6 +169,11 @@ by-stripe z P row between column s l = go (decLe s (rows z)) (decLt s 16)
 
 -- ---- disks
 
+-- A row holds its data columns and one disk more.
+pub column-inside : (z : Size) (c : ℕ) → c ≤ columns z → c < across z
+unfolding across
+column-inside z c l = omega arith
+
 -- A disk's number gives its row and its column, and these give the number.
 module _ (z : Size) where
   pub row-of : (r c : ℕ) → c < across z → diskAt z r c / across z ≡ r
@@ -199,12 +204,48 @@ module _ (z : Size) where
   pub by-disk : (P : ℕ → Type 0) → ((r c : ℕ) → r ≤ rows z → c ≤ columns z → P (diskAt z r c)) → (d : ℕ) → d < disks z → P d
   by-disk P all d l = subst P (sym (disk-is d)) (all (d / across z) (d % across z) (row-within d l) (column-within d))
 
+  -- The data disks are those of the data rows and data columns.
+  pub data-at : (r c : ℕ) → r < rows z → c < columns z → isData z (diskAt z r c) ≡ true
+  unfolding isData
+  data-at r c l k =
+      let w : c < across z = column-inside z c (le-of-lt k) in
+      and-both (ap (λ (i : ℕ). ltb i (rows z)) (row-of r c w) ∙ lt-ltb r (rows z) l)
+      (ap (λ (j : ℕ). ltb j (columns z)) (column-of r c w) ∙ lt-ltb c (columns z) k)
+
+  pub data-row : (d : ℕ) → isData z d ≡ true → d / across z < rows z
+  unfolding isData
+  data-row d e = ltb-true (d / across z) (rows z) (and-left _ (ltb (d % across z) (columns z)) e)
+
+  pub data-column : (d : ℕ) → isData z d ≡ true → d % across z < columns z
+  unfolding isData
+  data-column d e = ltb-true (d % across z) (columns z) (and-right (ltb (d / across z) (rows z)) _ e)
+
+  pub data-below : (d : ℕ) → isData z d ≡ true → d < disks z
+  data-below d e =
+      subst (λ (k : ℕ). k < disks z) (sym (disk-is d)) (disk-below (d / across z) (d % across z) (le-of-lt (data-row d e)) (le-of-lt (data-column d e)))
+
 -- ---- bytes
 
 -- Where a disk's byte stands in the array.
 pub byte-whole : (B : ℕ) (a : List ℕ) (d p : ℕ) → byte (whole B) a d p ≡ getD a (d * B + p) 0
 unfolding byte whole
 byte-whole B a d p = rw zero-add
+
+-- Where all bytes of an array are below 256, so is the byte that is read at any place, also outside the array.
+pub small-byte : (a : List ℕ) → ((i : ℕ) → i < length a → getD a i 0 < 256) → (x : Stretch) (d p : ℕ) → byte x a d p < 256
+unfolding byte
+small-byte a small x d p = go (d * x .block + (x .offset + p)) (decLt _ (length a))
+  where
+    go : (i : ℕ) → Dec (i < length a) → getD a i 0 < 256
+    go i (yes h) = small i h
+    go i (no h) = let out = List·getD-eq-default a 0 {n = i} (omega arith) in omega arith
+
+-- What holds of each byte of each disk holds of every byte of an array.
+pub by-byte : (z : Size) (B : ℕ) (P : ℕ → Type 0) → ((d p : ℕ) → d < disks z → p < B → P (d * B + p)) → (i : ℕ) → i < arrayBytes z B → P i
+unfolding arrayBytes
+by-byte z B P all i l =
+    let some : 0 < B = pos-of-ne-zero (λ q. let none : disks z * B ≡ 0 = ap (λ (k : ℕ). disks z * k) q ∙ mul-zero (disks z) in omega arith) in
+    subst P (div-add-mod' i B) (all (i / B) (i % B) (div-lt-iff-lt-mul {k = B} some .1 l) (mod-lt i some))
 
 -- An array is made of its disks' bytes, and equal if these are.
 module _ (z : Size) (B : ℕ) (f : ℕ → ℕ → ℕ) where
@@ -218,11 +259,16 @@ module _ (z : Size) (B : ℕ) (f : ℕ → ℕ → ℕ) where
 
   pub array-is : (l : List ℕ) → length l ≡ arrayBytes z B
       → ((d p : ℕ) → d < disks z → p < B → getD l (d * B + p) 0 ≡ f d p) → l ≡ arrayOf z B f
-  unfolding arrayOf arrayBytes
+  unfolding arrayOf
   array-is l e h =
-      list-is l (disks z * B) _ e (λ i b.
-      let some : 0 < B = pos-of-ne-zero (λ q. let none : disks z * B ≡ 0 = ap (λ (k : ℕ). disks z * k) q ∙ mul-zero (disks z) in omega arith) in
-      ap (λ (k : ℕ). getD l k 0) (sym (div-add-mod' i B)) ∙ h (i / B) (i % B) (div-lt-iff-lt-mul {k = B} some .1 b) (mod-lt i some))
+      list-is l (arrayBytes z B) _ e
+      (by-byte z B (λ i. getD l i 0 ≡ f (i / B) (i % B)) (λ d p k b. h d p k b ∙ sym (ap₂ f (digits-div d b) (digits-mod d b))))
+
+  pub array-all : (P : ℕ → Type 0) → ((d p : ℕ) → d < disks z → p < B → P (f d p))
+      → (i : ℕ) → i < length (arrayOf z B f) → P (getD (arrayOf z B f) i 0)
+  array-all P h i l =
+      by-byte z B (λ i. P (getD (arrayOf z B f) i 0)) (λ d p k b. subst P (sym (array-at d p k b)) (h d p k b)) i
+      (subst (λ (n : ℕ). i < n) array-length l)
 
   pub byte-arrayOf : (d p : ℕ) → d < disks z → p < B → byte (whole B) (arrayOf z B f) d p ≡ f d p
   byte-arrayOf d p l b = byte-whole B (arrayOf z B f) d p ∙ array-at d p l b

@@ -2,4 +2,6 @@ pub mod Xor
 pub mod Fold
 pub mod Grid
 pub mod Equations
+pub mod Refusal
+pub mod Seal
 pub mod Cases
