@@ -115,6 +115,16 @@ unfolding every
 every-all zero h = refl
 every-all (suc n) h = and-both (every-all n (λ i l. h i (le-step l))) (h n (lt-suc-self n))
 
+-- Where the test does not hold of every number, it fails at one.
+pub every-fails : (n : ℕ) (t : ℕ → Bool) → every n t ≡ false → (i : ℕ) × (i < n) × (t i ≡ false)
+unfolding every
+every-fails zero t e = absurd (true≢false e)
+every-fails (suc n) t e = go (every n t) refl (every-fails n t)
+  where
+    go : (b : Bool) → every n t ≡ b → (every n t ≡ false → (i : ℕ) × (i < n) × (t i ≡ false)) → (i : ℕ) × (i < suc n) × (t i ≡ false)
+    go true q up = (n, lt-suc-self n, ap (λ (b : Bool). b && t n) (sym q) ∙ e)
+    go false q up = let (i, l, h) = up q in (i, le-step l, h)
+
 pub every-add : (m n : ℕ) (t : ℕ → Bool) → every (m + n) t ≡ (every m t && every n (λ i. t (m + i)))
 unfolding every
 every-add m zero t = ap (λ (k : ℕ). every k t) (add-zero m) ∙ sym (and-true (every m t))

@@ -4,4 +4,5 @@ pub mod Grid
 pub mod Equations
 pub mod Refusal
 pub mod Seal
+pub mod Check
 pub mod Cases
