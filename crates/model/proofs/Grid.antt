@@ -7,7 +7,7 @@ use Prim.Native.Nat.{ℕ, _+_, _*_, _/_, _%_, _-_, _≤_, _<_}
 use native.Mathlib.Nat.{zero-add, mul-zero, add-sub-of-le, le-of-lt, lt-of-not-le, mod-lt, div-lt-iff-lt-mul, div-add-mod', pos-of-ne-zero}
 use native.Mathlib.Decide.{decLe, decLt}
 use native.Mathlib.Omega.{arith}
-use borrow.Author.Tests.{eq-eqb, ne-eqb, leb-true, ltb-true, lt-ltb}
+use borrow.Author.Tests.{eq-eqb, ne-eqb, eqb-true, eqb-false, leb-true, ltb-true, lt-ltb}
 use lib.Arith.{digits-div, digits-mod, digits-lt}
 use lib.Dec.{eqb, leb, ltb}
 use lib.ListN.{length, getD, List·getD-eq-default}
@@ -203,6 +203,21 @@ module _ (z : Size) where
   -- What holds of the disk in every row and column holds of every disk.
   pub by-disk : (P : ℕ → Type 0) → ((r c : ℕ) → r ≤ rows z → c ≤ columns z → P (diskAt z r c)) → (d : ℕ) → d < disks z → P d
   by-disk P all d l = subst P (sym (disk-is d)) (all (d / across z) (d % across z) (row-within d l) (column-within d))
+
+  -- Two disks are the same if and only if their rows and their columns are.
+  pub eqb-disk : (r c i j : ℕ) → c ≤ columns z → j ≤ columns z → eqb (diskAt z r c) (diskAt z i j) ≡ (eqb r i && eqb c j)
+  eqb-disk r c i j l k = go (eqb r i) (eqb c j) refl refl
+    where
+      same-row : diskAt z r c ≡ diskAt z i j → r ≡ i
+      same-row q = sym (row-of r c (column-inside z c l)) ∙ ap (λ (d : ℕ). d / across z) q ∙ row-of i j (column-inside z j k)
+
+      same-column : diskAt z r c ≡ diskAt z i j → c ≡ j
+      same-column q = sym (column-of r c (column-inside z c l)) ∙ ap (λ (d : ℕ). d % across z) q ∙ column-of i j (column-inside z j k)
+
+      go : (s t : Bool) → eqb r i ≡ s → eqb c j ≡ t → eqb (diskAt z r c) (diskAt z i j) ≡ (s && t)
+      go true true e h = eq-eqb _ _ (ap₂ (diskAt z) (eqb-true r i e) (eqb-true c j h))
+      go true false e h = ne-eqb _ _ (λ q. eqb-false c j h (same-column q))
+      go false t e h = ne-eqb _ _ (λ q. eqb-false r i e (same-row q))
 
   -- The data disks are those of the data rows and data columns.
   pub data-at : (r c : ℕ) → r < rows z → c < columns z → isData z (diskAt z r c) ≡ true

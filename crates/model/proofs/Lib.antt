@@ -5,4 +5,6 @@ pub mod Equations
 pub mod Refusal
 pub mod Seal
 pub mod Check
+pub mod Write
+pub mod Demand2
 pub mod Cases

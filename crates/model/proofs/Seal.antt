@@ -12,10 +12,20 @@ use Rattle.model.specs.Fold.{xsum}
 use Rattle.model.specs.Stripes.{whole, byte}
 use Rattle.model.specs.Grid.{rows, columns, across, diskAt, isData, arrayBytes}
 use Rattle.model.specs.Equations.{cell, rowData, columnData, Equations}
-use Rattle.model.specs.Array.{sealedByte, sealed}
+use Rattle.model.specs.Array.{sealedByte, sealed, sealStatus, sealArray}
 use Rattle.model.specs.declared.Size.{Size}
 use Rattle.model.proofs.Fold.{below-suc, xsum-ext, xsum-swap, xsum-byte}
+use Rattle.model.proofs.Refusal.{given-accepted, ArrayFits, array-fits}
 use Rattle.model.proofs.Grid.{column-inside, row-of, column-of, disk-is, disk-below, row-within, column-within, data-at, data-row, data-column, byte-whole, small-byte, array-length, array-is, array-all, byte-arrayOf}
+
+-- A seal that is not refused has passed its tests, and makes the sealed array.
+pub seal-fits : (z : Size) (B : ℕ) (a : List ℕ) → sealStatus z B a ≡ 0 → ArrayFits z B (length a)
+unfolding sealStatus
+seal-fits z B a ok = array-fits z B (length a) ok
+
+pub seal-is : (z : Size) (B : ℕ) (a : List ℕ) → sealStatus z B a ≡ 0 → sealArray z B a ≡ sealed z B a
+unfolding sealArray
+seal-is z B a ok = given-accepted (sealStatus z B a) _ _ ok
 
 -- Array b has the bytes that sealing a gives; it has the data of a.
 abbrev pub Has : Size → ℕ → (a b : List ℕ) → Type 0
@@ -52,7 +62,7 @@ module _ (z : Size) (B : ℕ) (a : List ℕ) where
   unfolding sealedByte
   byte-S p = rw (le-ltb (columns z) (columns z) (le-refl (columns z)), le-ltb (rows z) (rows z) (le-refl (rows z)))
 
-  -- The bytes of a sealed array: those that sealing gives, and a byte of the array for every disk.
+  -- The sealed array has these bytes.
   has-sealed : Has z B a (sealed z B a)
   unfolding cell sealed
   has-sealed r c l k p h =
@@ -82,7 +92,7 @@ module _ (z : Size) (B : ℕ) (a : List ℕ) where
               λ p h. corner p h ∙ xsum-swap (rows z) (columns z) (cell z (whole B) a p) ∙ sym (xsum-ext (columns z) (column p h));
         }
 
-    -- What has the data and keeps the equations has these bytes.
+    -- What has the data and keeps the equations has these bytes, and is the sealed array if its length is right.
     bytes-of-equations : Same z B a b → Equations z (whole B) b → Has z B a b
     unfolding whole
     bytes-of-equations same e r c l k p h =
