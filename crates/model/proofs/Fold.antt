@@ -38,7 +38,8 @@ lt-or-le a b = go (ltb a b) refl
     go true e = inl (ltb-true a b e)
     go false e = inr (ltb-false a b e)
 
-below-suc : (P : ℕ → Type 0) (n : ℕ) → ((i : ℕ) → i < n → P i) → P n → (i : ℕ) → i < suc n → P i
+-- What holds of the numbers below n and of n holds of all that are not above n.
+pub below-suc : (P : ℕ → Type 0) (n : ℕ) → ((i : ℕ) → i < n → P i) → P n → (i : ℕ) → i < suc n → P i
 below-suc P n all here i h = ⊎-elim (λ e. subst P (sym e) here) (λ l. all i l) (eq-or-lt-of-le (le-of-suc-le-suc h))
 
 -- ---- sums
@@ -120,6 +121,16 @@ pub every-all : (n : ℕ) {t : ℕ → Bool} → ((i : ℕ) → i < n → t i �
 unfolding every
 every-all zero h = refl
 every-all (suc n) h = and-both (every-all n (λ i l. h i (le-step l))) (h n (lt-suc-self n))
+
+-- Where the test does not hold of every number, it fails at one.
+pub every-fails : (n : ℕ) (t : ℕ → Bool) → every n t ≡ false → (i : ℕ) × (i < n) × (t i ≡ false)
+unfolding every
+every-fails zero t e = absurd (true≢false e)
+every-fails (suc n) t e = go (every n t) refl (every-fails n t)
+  where
+    go : (b : Bool) → every n t ≡ b → (every n t ≡ false → (i : ℕ) × (i < n) × (t i ≡ false)) → (i : ℕ) × (i < suc n) × (t i ≡ false)
+    go true q up = (n, lt-suc-self n, ap (λ (b : Bool). b && t n) (sym q) ∙ e)
+    go false q up = let (i, l, h) = up q in (i, le-step l, h)
 
 pub every-add : (m n : ℕ) (t : ℕ → Bool) → every (m + n) t ≡ (every m t && every n (λ i. t (m + i)))
 unfolding every

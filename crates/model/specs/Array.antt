@@ -75,6 +75,10 @@ writtenByte z B a d new e p =
 unfoldable pub written : Size → ℕ → List ℕ → ℕ → List ℕ → List ℕ
 written z B a d new = arrayOf z B (writtenByte z B a d new)
 
+-- The array with the block of disk d replaced and nothing else changed.
+unfoldable pub replaced : Size → ℕ → List ℕ → ℕ → List ℕ → List ℕ
+replaced z B a d new = arrayOf z B (λ e p. cond (eqb e d) (getD new p 0) (byte (whole B) a e p))
+
 unfoldable pub writeStatus : Size → ℕ → List ℕ → ℕ → List ℕ → ℕ
 writeStatus z B a d new = refusal (writeTests z B (length a) d (length new))
 

@@ -1,0 +1,113 @@
+-- What the answer of check says of the stripes: the lemmas behind the laws of check.
+-- Assumes nothing.
+use mathlib.Core.Path.{_≡_, refl, sym, _∙_, ap, ap₂, subst}
+use mathlib.Core.Bool.{Bool, true, false, cond, not, true≢false}
+use mathlib.Core.Logic.{_↔_}
+use mathlib.Core.List.{List}
+use Prim.Native.Nat.{ℕ, _<_}
+use native.Mathlib.Nat.{le-of-lt, lt-of-lt-of-le}
+use native.Mathlib.Omega.{arith}
+use borrow.Author.Tests.{eq-eqb, eqb-true, eqb-false, ltb-true, ltb-false, lt-ltb, le-ltb, not-true, not-false}
+use lib.Dec.{ltb}
+use lib.ListN.{length}
+use Rattle.model.specs.Fold.{lowest}
+use Rattle.model.specs.Stripes.{Layout, Stretch, whole, stripeSum, clear}
+use Rattle.model.specs.Grid.{gridOf}
+use Rattle.model.specs.Equations.{Equations}
+use Rattle.model.specs.Refusal.{refusal, arrayTests}
+use Rattle.model.specs.Array.{lowestUnsealed, checked}
+use Rattle.model.specs.declared.Size.{Size}
+use Rattle.model.specs.declared.Checked.{Checked}
+use Rattle.model.specs.declared.Checked.the-variants.{Sealed, Unsealed}
+use Rattle.model.proofs.Fold.{every-at, every-all, every-fails, Lowest, lowest-is, lowest-unique}
+use Rattle.model.proofs.Equations.{equations-iff-sums}
+use Rattle.model.proofs.Refusal.{given-accepted, array-fits}
+
+-- The test of a stripe holds where its sum is zero at every place, and fails where it is not at some place.
+module _ (L : Layout) (x : Stretch) (a : List ℕ) (s : ℕ) where
+  pub clear-sums : clear L x a s ≡ true → (p : ℕ) → p < x .width → stripeSum L x a s p ≡ 0
+  unfolding clear
+  clear-sums e p h = eqb-true (stripeSum L x a s p) 0 (every-at (x .width) _ e p h)
+
+  pub sums-clear : ((p : ℕ) → p < x .width → stripeSum L x a s p ≡ 0) → clear L x a s ≡ true
+  unfolding clear
+  sums-clear h = every-all (x .width) (λ p l. eq-eqb (stripeSum L x a s p) 0 (h p l))
+
+  pub unclear-place : clear L x a s ≡ false → (p : ℕ) × (p < x .width) × (stripeSum L x a s p ≡ 0 → ⊥)
+  unfolding clear
+  unclear-place e =
+      let (p, h, q) = every-fails (x .width) _ e in
+      (p, h, eqb-false (stripeSum L x a s p) 0 q)
+
+  pub place-unclear : (p : ℕ) → p < x .width → (stripeSum L x a s p ≡ 0 → ⊥) → clear L x a s ≡ false
+  place-unclear p h q = go (clear L x a s) refl
+    where
+      go : (b : Bool) → clear L x a s ≡ b → b ≡ false
+      go true e = absurd (q (clear-sums e p h))
+      go false e = refl
+
+-- What it tells that the answer is Sealed, or Unsealed.
+of-sealed : (b : Bool) (k : ℕ) → cond b (Unsealed k) Sealed ≡ Sealed → b ≡ false
+of-sealed true k e = cc
+of-sealed false k e = refl
+
+of-unsealed : (b : Bool) (k s : ℕ) → cond b (Unsealed k) Sealed ≡ Unsealed s → (b ≡ true) × (k ≡ s)
+of-unsealed true k s e = (refl, cc)
+of-unsealed false k s e = (cc, cc)
+
+-- The answer for the lowest number of which a test holds: Sealed if there is none, else Unsealed with that number.
+module _ (n : ℕ) (t : ℕ → Bool) where
+  answer : Checked
+  answer = cond (ltb (lowest n t) n) (Unsealed (lowest n t)) Sealed
+
+  sealed-iff : (answer ≡ Sealed) ↔ ((s : ℕ) → s < n → t s ≡ false)
+  unfolding answer
+  sealed-iff =
+      let low : Lowest n t (lowest n t) = lowest-is n t in (
+        λ e s l. low .none s (lt-of-lt-of-le l (ltb-false (lowest n t) n (of-sealed _ _ e))),
+        λ h.
+            let no : ¬ (lowest n t < n) = λ l. true≢false (sym (low .found l) ∙ h (lowest n t) l) in
+            ap (λ (b : Bool). cond b (Unsealed (lowest n t)) Sealed) (le-ltb (lowest n t) n (omega arith)),
+      )
+
+  unsealed-iff : (s : ℕ) → (answer ≡ Unsealed s) ↔ ((s < n) × (t s ≡ true) × ((i : ℕ) → i < s → t i ≡ false))
+  unfolding answer
+  unsealed-iff s = (
+    λ e.
+        let (b, k) = of-unsealed _ _ s e in
+        let low : Lowest n t s = subst (Lowest n t) k (lowest-is n t) in
+        let l : s < n = subst (λ (i : ℕ). i < n) k (ltb-true (lowest n t) n b) in
+        (l, low .found l, low .none),
+    λ h.
+        let k : lowest n t ≡ s = lowest-unique n t _ _ (lowest-is n t) (record { within = le-of-lt (h .0); none = h .2; found = λ l. h .1 }) in
+        ap₂ (λ (b : Bool) (i : ℕ). cond b (Unsealed i) Sealed) (ap (λ (i : ℕ). ltb i n) k ∙ lt-ltb s n (h .0)) k,
+  )
+
+-- The answer of a check that is not refused.
+module _ (z : Size) (B : ℕ) (a : List ℕ) (ok : refusal (arrayTests z B (length a)) ≡ 0) where
+  is-answer : checked z B a ≡ answer (gridOf z .lines) (λ s. not (clear (gridOf z) (whole B) a s))
+  unfolding checked lowestUnsealed answer
+  is-answer = given-accepted (refusal (arrayTests z B (length a))) _ _ ok
+
+  pub answer-sealed : (checked z B a ≡ Sealed) ↔ Equations z (whole B) a
+  answer-sealed =
+      let (sums, equations) = equations-iff-sums z (array-fits z B (length a) ok .size) (whole B) a in
+      let (none, back) = sealed-iff (gridOf z .lines) (λ s. not (clear (gridOf z) (whole B) a s)) in (
+        λ e. equations (λ s l. clear-sums (gridOf z) (whole B) a s (not-false _ (none (sym is-answer ∙ e) s l))),
+        λ q. is-answer ∙ back (λ s l. ap not (sums-clear (gridOf z) (whole B) a s (sums q s l))),
+      )
+
+  pub answer-unsealed : (s : ℕ) → (checked z B a ≡ Unsealed s)
+      ↔ ((s < gridOf z .lines) × ((p : ℕ) × (p < B) × (stripeSum (gridOf z) (whole B) a s p ≡ 0 → ⊥))
+      × ((i : ℕ) → i < s → (p : ℕ) → p < B → stripeSum (gridOf z) (whole B) a i p ≡ 0))
+  unfolding whole
+  answer-unsealed s =
+      let (found, back) = unsealed-iff (gridOf z .lines) (λ i. not (clear (gridOf z) (whole B) a i)) s in (
+        λ e.
+            let (l, here, lower) = found (sym is-answer ∙ e) in
+            (l, unclear-place (gridOf z) (whole B) a s (not-true _ here), λ i k. clear-sums (gridOf z) (whole B) a i (not-false _ (lower i k))),
+        λ h.
+            let (p, b, q) = h .1 in
+            is-answer
+            ∙ back (h .0, ap not (place-unclear (gridOf z) (whole B) a s p b q), λ i k. ap not (sums-clear (gridOf z) (whole B) a i (h .2 i k))),
+      )

@@ -1,0 +1,94 @@
+-- Demand 2: what seal, check and write promise of the array, for every size, block and input.
+-- Assumes nothing.
+use mathlib.Core.Path.{_≡_, sym, _∙_, subst}
+use mathlib.Core.Bool.{true}
+use mathlib.Core.Logic.{_↔_}
+use mathlib.Core.List.{List}
+use Prim.Native.Nat.{ℕ, _<_}
+use lib.ListN.{length, getD}
+use Rattle.model.specs.Stripes.{whole, byte, stripeSum, Codeword}
+use Rattle.model.specs.Grid.{gridOf, grid, across, disks, arrayBytes, isData}
+use Rattle.model.specs.Equations.{Equations}
+use Rattle.model.specs.Refusal.{refusal, arrayTests}
+use Rattle.model.specs.Array.{sealStatus, sealArray, checked, replaced, writeStatus, writeArray}
+use Rattle.model.specs.declared.Size.{Size}
+use Rattle.model.specs.declared.Checked.the-variants.{Sealed, Unsealed, Refused}
+use Rattle.model.proofs.Equations.{equations-iff-sums}
+use Rattle.model.proofs.Refusal.{given-refused}
+use Rattle.model.proofs.Seal.{Same, seal-fits, seal-is, sealed-length, sealed-same, sealed-equations, sealed-exact, sealed-small, same-of-data, data-of-same}
+use Rattle.model.proofs.Check.{answer-sealed, answer-unsealed}
+use Rattle.model.proofs.Write.{write-fits, write-is, written-sum, written-sealed, replaced-status}
+
+-- ---- seal
+
+-- A seal that is refused changes nothing.
+pub seal-refused : (z : Size) (B : ℕ) (a : List ℕ) → (sealStatus z B a ≡ 0 → ⊥) → sealArray z B a ≡ a
+unfolding sealArray
+seal-refused z B a refused = given-refused (sealStatus z B a) _ _ refused
+
+module _ (z : Size) (B : ℕ) (a : List ℕ) (ok : sealStatus z B a ≡ 0) where
+  -- After a seal the parity equations hold.
+  pub seal-equations : Equations z (whole B) (sealArray z B a)
+  seal-equations = subst (λ (b : List ℕ). Equations z (whole B) b) (sym (seal-is z B a ok)) (sealed-equations z B a)
+
+  -- A seal keeps the array's length and every byte of every data disk.
+  pub seal-length : length (sealArray z B a) ≡ length a
+  seal-length = subst (λ (b : List ℕ). length b ≡ length a) (sym (seal-is z B a ok)) (sealed-length z B a ∙ sym (seal-fits z B a ok .long))
+
+  pub seal-data : (d : ℕ) → isData z d ≡ true → (p : ℕ) → p < B → byte (whole B) (sealArray z B a) d p ≡ byte (whole B) a d p
+  seal-data = data-of-same z B a (sealArray z B a) (subst (λ (b : List ℕ). Same z B a b) (sym (seal-is z B a ok)) (sealed-same z B a))
+
+  -- There is just one such array: one of that length that has those data and keeps the equations is what seal makes.
+  pub seal-exact : (b : List ℕ) → length b ≡ length a
+      → ((d : ℕ) → isData z d ≡ true → (p : ℕ) → p < B → byte (whole B) b d p ≡ byte (whole B) a d p)
+      → Equations z (whole B) b → b ≡ sealArray z B a
+  seal-exact b long kept e = sealed-exact z B a b (long ∙ seal-fits z B a ok .long) (same-of-data z B a b kept) e ∙ sym (seal-is z B a ok)
+
+  -- An array of bytes is sealed to a codeword of the grid.
+  pub seal-codeword : ((i : ℕ) → i < length a → getD a i 0 < 256) → Codeword (gridOf z) (whole B) (sealArray z B a)
+  unfolding gridOf grid whole arrayBytes disks across
+  seal-codeword small =
+      record {
+        sized = seal-length ∙ seal-fits z B a ok .long;
+        bytes = subst (λ (b : List ℕ). (i : ℕ) → i < length b → getD b i 0 < 256) (sym (seal-is z B a ok)) (sealed-small z B a small);
+        sums = equations-iff-sums z (seal-fits z B a ok .size) (whole B) (sealArray z B a) .0 seal-equations;
+      }
+
+-- ---- check
+
+-- A check that is refused answers the refusal.
+pub check-refused : (z : Size) (B : ℕ) (a : List ℕ) → (refusal (arrayTests z B (length a)) ≡ 0 → ⊥)
+    → checked z B a ≡ Refused (refusal (arrayTests z B (length a)))
+unfolding checked
+check-refused z B a refused = given-refused (refusal (arrayTests z B (length a))) _ _ refused
+
+module _ (z : Size) (B : ℕ) (a : List ℕ) (ok : refusal (arrayTests z B (length a)) ≡ 0) where
+  -- A check answers Sealed if and only if the parity equations hold.
+  pub check-sealed : (checked z B a ≡ Sealed) ↔ Equations z (whole B) a
+  check-sealed = answer-sealed z B a ok
+
+  -- A check answers Unsealed s if and only if the sum of stripe s is not zero at some place, and no lower stripe's is.
+  pub check-unsealed : (s : ℕ) → (checked z B a ≡ Unsealed s)
+      ↔ ((s < gridOf z .lines) × ((p : ℕ) × (p < B) × (stripeSum (gridOf z) (whole B) a s p ≡ 0 → ⊥))
+      × ((i : ℕ) → i < s → (p : ℕ) → p < B → stripeSum (gridOf z) (whole B) a i p ≡ 0))
+  check-unsealed = answer-unsealed z B a ok
+
+-- ---- write
+
+module _ (z : Size) (B : ℕ) (a : List ℕ) (d : ℕ) (new : List ℕ) where
+  -- A write that is refused changes nothing.
+  pub write-refused : (writeStatus z B a d new ≡ 0 → ⊥) → writeArray z B a d new ≡ a
+  unfolding writeArray
+  write-refused refused = given-refused (writeStatus z B a d new) _ _ refused
+
+  -- A write keeps every stripe's sum at every place, also of an array that is not sealed.
+  pub write-sums : writeStatus z B a d new ≡ 0 → (s : ℕ) → s < gridOf z .lines → (p : ℕ) → p < B
+      → stripeSum (gridOf z) (whole B) (writeArray z B a d new) s p ≡ stripeSum (gridOf z) (whole B) a s p
+  write-sums ok s l p h = rw (write-is z B a d new ok) (written-sum z B a d new (write-fits z B a d new ok) s l p h)
+
+  -- A write to a sealed array makes what sealing the array with the block replaced makes.
+  pub write-sealed : writeStatus z B a d new ≡ 0 → Equations z (whole B) a
+      → writeArray z B a d new ≡ sealArray z B (replaced z B a d new)
+  write-sealed ok e =
+      write-is z B a d new ok ∙ written-sealed z B a d new (write-fits z B a d new ok) e
+      ∙ sym (seal-is z B (replaced z B a d new) (replaced-status z B a d new ok))

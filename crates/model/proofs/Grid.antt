@@ -1,0 +1,289 @@
+-- The laws of the grid: what its stripes sum, which sizes fit, and how disks and bytes are counted.
+-- Assumes nothing.
+use mathlib.Core.Path.{_≡_, refl, sym, _∙_, ap, ap₂, subst}
+use mathlib.Core.Bool.{Bool, true, false, _&&_, _||_}
+use mathlib.Core.List.{List}
+use Prim.Native.Nat.{ℕ, _+_, _*_, _/_, _%_, _-_, _≤_, _<_}
+use native.Mathlib.Nat.{zero-add, mul-zero, add-sub-of-le, le-of-lt, lt-of-not-le, mod-lt, div-lt-iff-lt-mul, div-add-mod', pos-of-ne-zero}
+use native.Mathlib.Decide.{decLe, decLt}
+use native.Mathlib.Omega.{arith}
+use borrow.Author.Tests.{eq-eqb, ne-eqb, eqb-true, eqb-false, leb-true, ltb-true, lt-ltb}
+use lib.Arith.{digits-div, digits-mod, digits-lt}
+use lib.Dec.{eqb, leb, ltb}
+use lib.ListN.{length, getD, List·getD-eq-default}
+use Rattle.model.specs.Fold.{xsum, gate}
+use Rattle.model.specs.Stripes.{TwoStripes, among, on, Stretch, whole, byte, sumOver, stripeSum}
+use Rattle.model.specs.Grid.{grid, rows, columns, across, gridOf, disks, diskAt, isData, arrayBytes, arrayOf, sizeFits, blockFits}
+use Rattle.model.specs.declared.Size.{Size}
+use Rattle.model.proofs.Fold.{and-left, and-right, and-both, xsum-ext, xsum-zero, xsum-swap, xsum-mul, xsum-only, length-tabulate, getD-tabulate, list-is}
+
+-- ---- the stripes of a grid
+
+-- Every disk of a grid lies on two stripes, its row and its column.
+pub grid-two : (r c base : ℕ) → r < base → TwoStripes (grid r c base)
+unfolding grid
+grid-two r c base h =
+    record {
+      low = λ d. d / (c + 1);
+      high = λ d. base + d % (c + 1);
+      two = λ d l. refl;
+      order = λ d l. let b : d / (c + 1) < r + 1 = div-lt-iff-lt-mul {k = c + 1} (omega arith) .1 l in omega arith;
+      bound = λ d l. let b : d % (c + 1) < c + 1 = mod-lt d (omega arith) in omega arith;
+    }
+
+-- A double sum of which the test lets only one column through.
+picked : (m n k : ℕ) (t : ℕ → ℕ → Bool) (f : ℕ → ℕ → ℕ) → k < n
+    → ((i : ℕ) → i < m → t i k ≡ true)
+    → ((i : ℕ) → i < m → (j : ℕ) → j < n → (j ≡ k → ⊥) → t i j ≡ false)
+    → xsum m (λ i. xsum n (λ j. gate (t i j) (f i j))) ≡ xsum m (λ i. f i k)
+unfolding gate
+picked m n k t f l yes-at no-at =
+    xsum-ext m (λ i h.
+    xsum-only n k l (λ j w q. ap (λ (b : Bool). gate b (f i j)) (no-at i h j w q))
+    ∙ ap (λ (b : Bool). gate b (f i k)) (yes-at i h))
+
+-- Disk i * (c + 1) + j lies on stripe s if s is row i or column j.
+crosses : (base s i j : ℕ) → Bool
+crosses base s i j = eqb s i || (eqb s (base + j) || false)
+
+by-cells : (r c base : ℕ) (f : ℕ → ℕ) (s : ℕ)
+    → sumOver (grid r c base) f s ≡ xsum (r + 1) (λ i. xsum (c + 1) (λ j. gate (crosses base s i j) (f (i * (c + 1) + j))))
+unfolding sumOver grid on among crosses
+by-cells r c base f s =
+    xsum-mul (r + 1) (c + 1) _
+    ∙ xsum-ext (r + 1) (λ i h. xsum-ext (c + 1) (λ j w. rw (digits-div i w, digits-mod i w)))
+
+crosses-is : (base s i j : ℕ) {x y : Bool} → eqb s i ≡ x → eqb s (base + j) ≡ y → crosses base s i j ≡ (x || (y || false))
+unfolding crosses
+crosses-is base s i j e k = ap₂ (λ (x y : Bool). x || (y || false)) e k
+
+-- The sum of a row, of a column, and of a number between rows and columns that no disk lists.
+module _ (r c base : ℕ) (h : r < base) (f : ℕ → ℕ) where
+  pub row-sum : (i : ℕ) → i ≤ r → sumOver (grid r c base) f i ≡ xsum (c + 1) (λ j. f (i * (c + 1) + j))
+  row-sum i l =
+      by-cells r c base f i ∙ xsum-swap (r + 1) (c + 1) _
+      ∙ picked (c + 1) (r + 1) i (λ j k. crosses base i k j) (λ j k. f (k * (c + 1) + j)) (omega arith)
+      (λ j w. crosses-is base i i j (eq-eqb i i refl) refl)
+      (λ j w k v q. crosses-is base i k j (ne-eqb i k (λ e. q (sym e))) (ne-eqb i (base + j) (omega arith)))
+
+  pub column-sum : (j : ℕ) → j ≤ c → sumOver (grid r c base) f (base + j) ≡ xsum (r + 1) (λ i. f (i * (c + 1) + j))
+  column-sum j l =
+      by-cells r c base f (base + j)
+      ∙ picked (r + 1) (c + 1) j (λ i k. crosses base (base + j) i k) (λ i k. f (i * (c + 1) + k)) (omega arith)
+      (λ i w. crosses-is base (base + j) i j (ne-eqb (base + j) i (omega arith)) (eq-eqb (base + j) (base + j) refl))
+      (λ i w k v q. crosses-is base (base + j) i k (ne-eqb (base + j) i (omega arith)) (ne-eqb (base + j) (base + k) (λ e. q (omega arith))))
+
+  pub empty-sum : (s : ℕ) → r < s → s < base → sumOver (grid r c base) f s ≡ 0
+  unfolding gate
+  empty-sum s l b =
+      by-cells r c base f s
+      ∙ xsum-zero (r + 1) (λ i w. xsum-zero (c + 1) (λ j v.
+      ap (λ (t : Bool). gate t (f (i * (c + 1) + j))) (crosses-is base s i j (ne-eqb s i (omega arith)) (ne-eqb s (base + j) (omega arith)))))
+
+-- ---- sizes
+
+-- The bounds that a size keeps if refusal 1 does not reject it, and a block if refusal 2 does not.
+pub record Fits (z : Size) : Type 0 where
+  pub rowsLow : 2 ≤ rows z
+  pub rowsHigh : rows z ≤ 15
+  pub columnsLow : 2 ≤ columns z
+  pub columnsHigh : columns z ≤ 15
+
+pub record BlockFits (B : ℕ) : Type 0 where
+  pub low : 1 ≤ B
+  pub high : B ≤ 4096
+
+-- A test of two bounds.
+both-bounds : (low n high : ℕ) → (leb low n && leb n high) ≡ true → (low ≤ n) × (n ≤ high)
+both-bounds low n high e =
+    (leb-true low n (and-left (leb low n) (leb n high) e), leb-true n high (and-right (leb low n) (leb n high) e))
+
+-- The one place that knows how many rows and columns a size has.
+pub size-fits : (z : Size) → sizeFits z ≡ true → Fits z
+unfolding sizeFits rows columns
+size-fits z e =
+    let b : (2 ≤ z .side) × (z .side ≤ 15) = both-bounds 2 (z .side) 15 e in
+    record { rowsLow = b .0; rowsHigh = b .1; columnsLow = b .0; columnsHigh = b .1 }
+
+pub block-fits : (B : ℕ) → blockFits B ≡ true → BlockFits B
+unfolding blockFits
+block-fits B e = let b : (1 ≤ B) × (B ≤ 4096) = both-bounds 1 B 4096 e in record { low = b .0; high = b .1 }
+
+-- ---- the stripes of a size
+
+-- The sum over the row, over the column, and over a stripe that no disk lists, at a size that fits.
+module _ (z : Size) (fits : Fits z) (f : ℕ → ℕ) where
+  pub row-over : (r : ℕ) → r ≤ rows z → sumOver (gridOf z) f r ≡ xsum (across z) (λ c. f (diskAt z r c))
+  unfolding gridOf across diskAt
+  row-over r l = row-sum (rows z) (columns z) 16 (omega arith) f r l
+
+  pub column-over : (c : ℕ) → c ≤ columns z → sumOver (gridOf z) f (16 + c) ≡ xsum (rows z + 1) (λ r. f (diskAt z r c))
+  unfolding gridOf across diskAt
+  column-over c l = column-sum (rows z) (columns z) 16 (omega arith) f c l
+
+  pub empty-over : (s : ℕ) → rows z < s → s < 16 → sumOver (gridOf z) f s ≡ 0
+  unfolding gridOf
+  empty-over s l b = empty-sum (rows z) (columns z) 16 (omega arith) f s l b
+
+-- The same of the bytes at a place.
+module _ (z : Size) (fits : sizeFits z ≡ true) (x : Stretch) (a : List ℕ) where
+  pub row-stripe : (r : ℕ) → r ≤ rows z → (p : ℕ) → stripeSum (gridOf z) x a r p ≡ xsum (across z) (λ c. byte x a (diskAt z r c) p)
+  unfolding stripeSum
+  row-stripe r l p = row-over z (size-fits z fits) (λ d. byte x a d p) r l
+
+  pub column-stripe : (c : ℕ) → c ≤ columns z → (p : ℕ) → stripeSum (gridOf z) x a (16 + c) p ≡ xsum (rows z + 1) (λ r. byte x a (diskAt z r c) p)
+  unfolding stripeSum
+  column-stripe c l p = column-over z (size-fits z fits) (λ d. byte x a d p) c l
+
+  pub empty-stripe : (s : ℕ) → rows z < s → s < 16 → (p : ℕ) → stripeSum (gridOf z) x a s p ≡ 0
+  unfolding stripeSum
+  empty-stripe s l b p = empty-over z (size-fits z fits) (λ d. byte x a d p) s l b
+
+-- A size's grid has its disks, and its stripes are the rows, the numbers from there to 15, and the columns.
+pub grid-disks : (z : Size) → gridOf z .disks ≡ disks z
+unfolding gridOf grid disks across
+grid-disks z = refl
+
+pub gridOf-two : (z : Size) → sizeFits z ≡ true → TwoStripes (gridOf z)
+unfolding gridOf
+gridOf-two z fits = let f : Fits z = size-fits z fits in grid-two (rows z) (columns z) 16 (omega arith)
+
+pub row-line : (z : Size) → Fits z → (r : ℕ) → r ≤ rows z → r < gridOf z .lines
+unfolding gridOf grid
+row-line z fits r l = omega arith
+
+pub column-line : (z : Size) (c : ℕ) → c ≤ columns z → 16 + c < gridOf z .lines
+unfolding gridOf grid
+column-line z c l = omega arith
+
+pub by-stripe : (z : Size) (P : ℕ → Type 0)
+    → ((r : ℕ) → r ≤ rows z → P r) → ((s : ℕ) → rows z < s → s < 16 → P s) → ((c : ℕ) → c ≤ columns z → P (16 + c))
+    → (s : ℕ) → s < gridOf z .lines → P s
+unfolding gridOf grid
+by-stripe z P row between column s l = go (decLe s (rows z)) (decLt s 16)
+  where
+    go : Dec (s ≤ rows z) → Dec (s < 16) → P s
+    go (yes h) k = row s h
+    go (no h) (yes k) = between s (lt-of-not-le h) k
+    go (no h) (no k) = subst P (add-sub-of-le (omega arith)) (column (s - 16) (omega arith))
+
+-- ---- disks
+
+-- A row holds its data columns and one disk more.
+pub column-inside : (z : Size) (c : ℕ) → c ≤ columns z → c < across z
+unfolding across
+column-inside z c l = omega arith
+
+-- A disk's number gives its row and its column, and these give the number.
+module _ (z : Size) where
+  pub row-of : (r c : ℕ) → c < across z → diskAt z r c / across z ≡ r
+  unfolding diskAt
+  row-of r c l = digits-div r l
+
+  pub column-of : (r c : ℕ) → c < across z → diskAt z r c % across z ≡ c
+  unfolding diskAt
+  column-of r c l = digits-mod r l
+
+  pub disk-below : (r c : ℕ) → r ≤ rows z → c ≤ columns z → diskAt z r c < disks z
+  unfolding diskAt disks across
+  disk-below r c l k = digits-lt {q = r} {m = rows z + 1} {r = c} {c = columns z + 1} (omega arith) (omega arith)
+
+  pub disk-is : (d : ℕ) → d ≡ diskAt z (d / across z) (d % across z)
+  unfolding diskAt
+  disk-is d = sym (div-add-mod' d (across z))
+
+  pub row-within : (d : ℕ) → d < disks z → d / across z ≤ rows z
+  unfolding disks across
+  row-within d l = let b : d / (columns z + 1) < rows z + 1 = div-lt-iff-lt-mul {k = columns z + 1} (omega arith) .1 l in omega arith
+
+  pub column-within : (d : ℕ) → d % across z ≤ columns z
+  unfolding across
+  column-within d = let b : d % (columns z + 1) < columns z + 1 = mod-lt d (omega arith) in omega arith
+
+  -- What holds of the disk in every row and column holds of every disk.
+  pub by-disk : (P : ℕ → Type 0) → ((r c : ℕ) → r ≤ rows z → c ≤ columns z → P (diskAt z r c)) → (d : ℕ) → d < disks z → P d
+  by-disk P all d l = subst P (sym (disk-is d)) (all (d / across z) (d % across z) (row-within d l) (column-within d))
+
+  -- Two disks are the same if and only if their rows and their columns are.
+  pub eqb-disk : (r c i j : ℕ) → c ≤ columns z → j ≤ columns z → eqb (diskAt z r c) (diskAt z i j) ≡ (eqb r i && eqb c j)
+  eqb-disk r c i j l k = go (eqb r i) (eqb c j) refl refl
+    where
+      same-row : diskAt z r c ≡ diskAt z i j → r ≡ i
+      same-row q = sym (row-of r c (column-inside z c l)) ∙ ap (λ (d : ℕ). d / across z) q ∙ row-of i j (column-inside z j k)
+
+      same-column : diskAt z r c ≡ diskAt z i j → c ≡ j
+      same-column q = sym (column-of r c (column-inside z c l)) ∙ ap (λ (d : ℕ). d % across z) q ∙ column-of i j (column-inside z j k)
+
+      go : (s t : Bool) → eqb r i ≡ s → eqb c j ≡ t → eqb (diskAt z r c) (diskAt z i j) ≡ (s && t)
+      go true true e h = eq-eqb _ _ (ap₂ (diskAt z) (eqb-true r i e) (eqb-true c j h))
+      go true false e h = ne-eqb _ _ (λ q. eqb-false c j h (same-column q))
+      go false t e h = ne-eqb _ _ (λ q. eqb-false r i e (same-row q))
+
+  -- The data disks are those of the data rows and data columns.
+  pub data-at : (r c : ℕ) → r < rows z → c < columns z → isData z (diskAt z r c) ≡ true
+  unfolding isData
+  data-at r c l k =
+      let w : c < across z = column-inside z c (le-of-lt k) in
+      and-both (ap (λ (i : ℕ). ltb i (rows z)) (row-of r c w) ∙ lt-ltb r (rows z) l)
+      (ap (λ (j : ℕ). ltb j (columns z)) (column-of r c w) ∙ lt-ltb c (columns z) k)
+
+  pub data-row : (d : ℕ) → isData z d ≡ true → d / across z < rows z
+  unfolding isData
+  data-row d e = ltb-true (d / across z) (rows z) (and-left _ (ltb (d % across z) (columns z)) e)
+
+  pub data-column : (d : ℕ) → isData z d ≡ true → d % across z < columns z
+  unfolding isData
+  data-column d e = ltb-true (d % across z) (columns z) (and-right (ltb (d / across z) (rows z)) _ e)
+
+  pub data-below : (d : ℕ) → isData z d ≡ true → d < disks z
+  data-below d e =
+      subst (λ (k : ℕ). k < disks z) (sym (disk-is d)) (disk-below (d / across z) (d % across z) (le-of-lt (data-row d e)) (le-of-lt (data-column d e)))
+
+-- ---- bytes
+
+-- Where a disk's byte stands in the array.
+pub byte-whole : (B : ℕ) (a : List ℕ) (d p : ℕ) → byte (whole B) a d p ≡ getD a (d * B + p) 0
+unfolding byte whole
+byte-whole B a d p = rw zero-add
+
+-- Where all bytes of an array are below 256, so is the byte that is read at any place, also outside the array.
+pub small-byte : (a : List ℕ) → ((i : ℕ) → i < length a → getD a i 0 < 256) → (x : Stretch) (d p : ℕ) → byte x a d p < 256
+unfolding byte
+small-byte a small x d p = go (d * x .block + (x .offset + p)) (decLt _ (length a))
+  where
+    go : (i : ℕ) → Dec (i < length a) → getD a i 0 < 256
+    go i (yes h) = small i h
+    go i (no h) = let out = List·getD-eq-default a 0 {n = i} (omega arith) in omega arith
+
+-- What holds of each byte of each disk holds of every byte of an array.
+pub by-byte : (z : Size) (B : ℕ) (P : ℕ → Type 0) → ((d p : ℕ) → d < disks z → p < B → P (d * B + p)) → (i : ℕ) → i < arrayBytes z B → P i
+unfolding arrayBytes
+by-byte z B P all i l =
+    let some : 0 < B = pos-of-ne-zero (λ q. let none : disks z * B ≡ 0 = ap (λ (k : ℕ). disks z * k) q ∙ mul-zero (disks z) in omega arith) in
+    subst P (div-add-mod' i B) (all (i / B) (i % B) (div-lt-iff-lt-mul {k = B} some .1 l) (mod-lt i some))
+
+-- An array is made of its disks' bytes, and equal if these are.
+module _ (z : Size) (B : ℕ) (f : ℕ → ℕ → ℕ) where
+  pub array-length : length (arrayOf z B f) ≡ arrayBytes z B
+  unfolding arrayOf
+  array-length = length-tabulate (arrayBytes z B) _
+
+  pub array-at : (d p : ℕ) → d < disks z → p < B → getD (arrayOf z B f) (d * B + p) 0 ≡ f d p
+  unfolding arrayOf arrayBytes
+  array-at d p l b = getD-tabulate (disks z * B) _ (d * B + p) (digits-lt l b) ∙ ap₂ f (digits-div d b) (digits-mod d b)
+
+  pub array-is : (l : List ℕ) → length l ≡ arrayBytes z B
+      → ((d p : ℕ) → d < disks z → p < B → getD l (d * B + p) 0 ≡ f d p) → l ≡ arrayOf z B f
+  unfolding arrayOf
+  array-is l e h =
+      list-is l (arrayBytes z B) _ e
+      (by-byte z B (λ i. getD l i 0 ≡ f (i / B) (i % B)) (λ d p k b. h d p k b ∙ sym (ap₂ f (digits-div d b) (digits-mod d b))))
+
+  pub array-all : (P : ℕ → Type 0) → ((d p : ℕ) → d < disks z → p < B → P (f d p))
+      → (i : ℕ) → i < length (arrayOf z B f) → P (getD (arrayOf z B f) i 0)
+  array-all P h i l =
+      by-byte z B (λ i. P (getD (arrayOf z B f) i 0)) (λ d p k b. subst P (sym (array-at d p k b)) (h d p k b)) i
+      (subst (λ (n : ℕ). i < n) array-length l)
+
+  pub byte-arrayOf : (d p : ℕ) → d < disks z → p < B → byte (whole B) (arrayOf z B f) d p ≡ f d p
+  byte-arrayOf d p l b = byte-whole B (arrayOf z B f) d p ∙ array-at d p l b

@@ -1,0 +1,48 @@
+-- The laws of refusals: a call that is not refused has passed each of its tests.
+-- Assumes nothing.
+use mathlib.Core.Path.{_≡_, refl, ap}
+use mathlib.Core.Bool.{Bool, true, false, cond}
+use mathlib.Core.List.{List, [], _∷_, _++_}
+use Prim.Native.Nat.{ℕ}
+use native.Mathlib.Omega.{arith}
+use borrow.Author.Tests.{eq-eqb, ne-eqb, eqb-true}
+use lib.Dec.{eqb}
+use Rattle.model.specs.Grid.{sizeFits, blockFits, arrayBytes}
+use Rattle.model.specs.Refusal.{Test, _unless_, refusal, arrayTests}
+use Rattle.model.specs.declared.Size.{Size}
+
+-- What a call gives where it is not refused, and where it is.
+pub given-accepted {ℓ} : {A : Type ℓ} (k : ℕ) (x y : A) → k ≡ 0 → cond (eqb k 0) x y ≡ x
+given-accepted k x y e = ap (λ (b : Bool). cond b x y) (eq-eqb k 0 e)
+
+pub given-refused {ℓ} : {A : Type ℓ} (k : ℕ) (x y : A) → (k ≡ 0 → ⊥) → cond (eqb k 0) x y ≡ y
+given-refused k x y e = ap (λ (b : Bool). cond b x y) (ne-eqb k 0 e)
+
+-- A test with a number that is not 0 has passed where nothing is refused, and so have those that follow it.
+pub passed : (k : ℕ) (t : Bool) (ts : List Test) → (k ≡ 0 → ⊥) → refusal (k unless t ∷ ts) ≡ 0 → (t ≡ true) × (refusal ts ≡ 0)
+unfolding refusal
+passed k true ts h e = (refl, e)
+passed k false ts h e = absurd (h e)
+
+-- What the tests with which seal, check and write begin have established.
+pub record ArrayFits (z : Size) (B len : ℕ) : Type 0 where
+  pub size : sizeFits z ≡ true
+  pub block : blockFits B ≡ true
+  pub long : len ≡ arrayBytes z B
+
+module _ (z : Size) (B len : ℕ) where
+  pub array-tests : (ts : List Test) → refusal (arrayTests z B len ++ ts) ≡ 0 → ArrayFits z B len × (refusal ts ≡ 0)
+  unfolding arrayTests
+  array-tests ts e =
+      let (size, e₂) = passed 1 (sizeFits z) _ (omega arith) e in
+      let (block, e₃) = passed 2 (blockFits B) _ (omega arith) e₂ in
+      let (long, e₄) = passed 3 (eqb len (arrayBytes z B)) _ (omega arith) e₃ in
+      (record { size = size; block = block; long = eqb-true len (arrayBytes z B) long }, e₄)
+
+  pub array-fits : refusal (arrayTests z B len) ≡ 0 → ArrayFits z B len
+  unfolding arrayTests
+  array-fits e = array-tests [] e .0
+
+  pub array-accepted : ArrayFits z B len → refusal (arrayTests z B len) ≡ 0
+  unfolding arrayTests refusal
+  array-accepted f = rw (f .size, f .block, eq-eqb len (arrayBytes z B) (f .long))

@@ -1,0 +1,163 @@
+-- What sealing does to each byte, and what follows from that: the lemmas behind the laws of seal.
+-- Assumes nothing.
+use mathlib.Core.Path.{_≡_, sym, _∙_, ap, ap₂, subst}
+use mathlib.Core.Bool.{Bool, true, false, cond}
+use mathlib.Core.List.{List}
+use Prim.Native.Nat.{ℕ, _/_, _%_, _≤_, _<_, suc-le-suc}
+use native.Mathlib.Nat.{le-refl, le-of-lt}
+use borrow.Author.Tests.{lt-ltb, le-ltb}
+use lib.Dec.{ltb}
+use lib.ListN.{length, getD}
+use Rattle.model.specs.Fold.{xsum}
+use Rattle.model.specs.Stripes.{whole, byte}
+use Rattle.model.specs.Grid.{rows, columns, across, diskAt, isData, arrayBytes}
+use Rattle.model.specs.Equations.{cell, rowData, columnData, Equations}
+use Rattle.model.specs.Array.{sealedByte, sealed, sealStatus, sealArray}
+use Rattle.model.specs.declared.Size.{Size}
+use Rattle.model.proofs.Fold.{below-suc, xsum-ext, xsum-swap, xsum-byte}
+use Rattle.model.proofs.Refusal.{given-accepted, ArrayFits, array-fits}
+use Rattle.model.proofs.Grid.{column-inside, row-of, column-of, disk-is, disk-below, row-within, column-within, data-at, data-row, data-column, byte-whole, small-byte, array-length, array-is, array-all, byte-arrayOf}
+
+-- A seal that is not refused has passed its tests, and makes the sealed array.
+pub seal-fits : (z : Size) (B : ℕ) (a : List ℕ) → sealStatus z B a ≡ 0 → ArrayFits z B (length a)
+unfolding sealStatus
+seal-fits z B a ok = array-fits z B (length a) ok
+
+pub seal-is : (z : Size) (B : ℕ) (a : List ℕ) → sealStatus z B a ≡ 0 → sealArray z B a ≡ sealed z B a
+unfolding sealArray
+seal-is z B a ok = given-accepted (sealStatus z B a) _ _ ok
+
+-- Array b has the bytes that sealing a gives; it has the data of a.
+abbrev pub Has : Size → ℕ → (a b : List ℕ) → Type 0
+Has z B a b = (r c : ℕ) → r ≤ rows z → c ≤ columns z → (p : ℕ) → p < B → cell z (whole B) b p r c ≡ sealedByte z B a r c p
+
+abbrev pub Same : Size → ℕ → (a b : List ℕ) → Type 0
+Same z B a b = (r c : ℕ) → r < rows z → c < columns z → (p : ℕ) → p < B → cell z (whole B) b p r c ≡ cell z (whole B) a p r c
+
+-- Where the data are the same, so are their sums.
+module _ (z : Size) (B : ℕ) (a b : List ℕ) (same : Same z B a b) where
+  same-row : (r : ℕ) → r < rows z → (p : ℕ) → p < B → rowData z (whole B) b p r ≡ rowData z (whole B) a p r
+  unfolding rowData
+  same-row r l p h = xsum-ext (columns z) (λ c k. same r c l k p h)
+
+  same-column : (c : ℕ) → c < columns z → (p : ℕ) → p < B → columnData z (whole B) b p c ≡ columnData z (whole B) a p c
+  unfolding columnData
+  same-column c k p h = xsum-ext (rows z) (λ r l. same r c l k p h)
+
+module _ (z : Size) (B : ℕ) (a : List ℕ) where
+  -- The byte that sealing gives a data disk, P of a row, Q of a column, and S.
+  byte-data : (r c p : ℕ) → r < rows z → c < columns z → sealedByte z B a r c p ≡ cell z (whole B) a p r c
+  unfolding sealedByte cell
+  byte-data r c p l k = rw (lt-ltb r (rows z) l, lt-ltb c (columns z) k)
+
+  byte-P : (r p : ℕ) → r < rows z → sealedByte z B a r (columns z) p ≡ rowData z (whole B) a p r
+  unfolding sealedByte
+  byte-P r p l = rw (lt-ltb r (rows z) l, le-ltb (columns z) (columns z) (le-refl (columns z)))
+
+  byte-Q : (c p : ℕ) → c < columns z → sealedByte z B a (rows z) c p ≡ columnData z (whole B) a p c
+  unfolding sealedByte
+  byte-Q c p k = rw (lt-ltb c (columns z) k, le-ltb (rows z) (rows z) (le-refl (rows z)))
+
+  byte-S : (p : ℕ) → sealedByte z B a (rows z) (columns z) p ≡ xsum (rows z) (rowData z (whole B) a p)
+  unfolding sealedByte
+  byte-S p = rw (le-ltb (columns z) (columns z) (le-refl (columns z)), le-ltb (rows z) (rows z) (le-refl (rows z)))
+
+  -- The sealed array has these bytes.
+  has-sealed : Has z B a (sealed z B a)
+  unfolding cell sealed
+  has-sealed r c l k p h =
+      let w : c < across z = column-inside z c k in
+      byte-arrayOf z B _ (diskAt z r c) p (disk-below z r c l k) h ∙ ap₂ (λ (i j : ℕ). sealedByte z B a i j p) (row-of z r c w) (column-of z r c w)
+
+  module _ (b : List ℕ) where
+    -- What has these bytes has the data and keeps the equations.
+    data-of-bytes : Has z B a b → Same z B a b
+    data-of-bytes has r c l k p h = has r c (le-of-lt l) (le-of-lt k) p h ∙ byte-data r c p l k
+
+    equations-of-bytes : Has z B a b → Equations z (whole B) b
+    unfolding whole rowData columnData
+    equations-of-bytes has =
+        let same : Same z B a b = data-of-bytes has in
+        let parity : (p : ℕ) → p < B → (r : ℕ) → r < rows z → cell z (whole B) b p r (columns z) ≡ rowData z (whole B) a p r =
+        λ p h r l. has r (columns z) (le-of-lt l) (le-refl (columns z)) p h ∙ byte-P r p l in
+        let corner : (p : ℕ) → p < B → cell z (whole B) b p (rows z) (columns z) ≡ xsum (rows z) (rowData z (whole B) a p) =
+        λ p h. has (rows z) (columns z) (le-refl (rows z)) (le-refl (columns z)) p h ∙ byte-S p in
+        let column : (p : ℕ) → p < B → (c : ℕ) → c < columns z → cell z (whole B) b p (rows z) c ≡ columnData z (whole B) a p c =
+        λ p h c k. has (rows z) c (le-refl (rows z)) (le-of-lt k) p h ∙ byte-Q c p k in
+        record {
+          rowParity = λ p h r l. parity p h r l ∙ sym (same-row z B a b same r l p h);
+          columnParity = λ p h c k. column p h c k ∙ sym (same-column z B a b same c k p h);
+          superparityOfRows = λ p h. corner p h ∙ sym (xsum-ext (rows z) (parity p h));
+          superparityOfColumns =
+              λ p h. corner p h ∙ xsum-swap (rows z) (columns z) (cell z (whole B) a p) ∙ sym (xsum-ext (columns z) (column p h));
+        }
+
+    -- What has the data and keeps the equations has these bytes, and is the sealed array if its length is right.
+    bytes-of-equations : Same z B a b → Equations z (whole B) b → Has z B a b
+    unfolding whole
+    bytes-of-equations same e r c l k p h =
+        let Good : ℕ → ℕ → Type 0 = λ r c. cell z (whole B) b p r c ≡ sealedByte z B a r c p in
+        let parity : (r : ℕ) → r < rows z → cell z (whole B) b p r (columns z) ≡ rowData z (whole B) a p r =
+        λ r w. e .rowParity p h r w ∙ same-row z B a b same r w p h in
+        below-suc (λ r. Good r c) (rows z)
+        (λ r w.
+        below-suc (λ c. Good r c) (columns z) (λ c v. same r c w v p h ∙ sym (byte-data r c p w v)) (parity r w ∙ sym (byte-P r p w)) c (suc-le-suc k))
+        (below-suc (λ c. Good (rows z) c) (columns z)
+        (λ c v. e .columnParity p h c v ∙ same-column z B a b same c v p h ∙ sym (byte-Q c p v))
+        (e .superparityOfRows p h ∙ xsum-ext (rows z) parity ∙ sym (byte-S p))
+        c (suc-le-suc k))
+        r (suc-le-suc l)
+
+    pub sealed-exact : length b ≡ arrayBytes z B → Same z B a b → Equations z (whole B) b → b ≡ sealed z B a
+    unfolding sealed cell
+    sealed-exact long same e =
+        array-is z B _ b long (λ d p l h.
+        sym (byte-whole B b d p) ∙ ap (λ (k : ℕ). byte (whole B) b k p) (disk-is z d)
+        ∙ bytes-of-equations same e (d / across z) (d % across z) (row-within z d l) (column-within z d) p h)
+
+  -- A sealed array has the right length, the data and the equations.
+  pub sealed-length : length (sealed z B a) ≡ arrayBytes z B
+  unfolding sealed
+  sealed-length = array-length z B _
+
+  pub sealed-same : Same z B a (sealed z B a)
+  sealed-same = data-of-bytes (sealed z B a) has-sealed
+
+  pub sealed-equations : Equations z (whole B) (sealed z B a)
+  sealed-equations = equations-of-bytes (sealed z B a) has-sealed
+
+  -- Where all bytes of an array are below 256, so are those of the sealed array.
+  module _ (small : (i : ℕ) → i < length a → getD a i 0 < 256) where
+    small-row : (p r : ℕ) → rowData z (whole B) a p r < 256
+    unfolding rowData cell
+    small-row p r = xsum-byte (columns z) (λ c l. small-byte a small (whole B) (diskAt z r c) p)
+
+    small-column : (p c : ℕ) → columnData z (whole B) a p c < 256
+    unfolding columnData cell
+    small-column p c = xsum-byte (rows z) (λ r l. small-byte a small (whole B) (diskAt z r c) p)
+
+    small-sealedByte : (r c p : ℕ) → sealedByte z B a r c p < 256
+    unfolding sealedByte
+    small-sealedByte r c p =
+        choose (ltb c (columns z)) (choose (ltb r (rows z)) (small-byte a small (whole B) (diskAt z r c) p) (small-column p c))
+        (choose (ltb r (rows z)) (small-row p r) (xsum-byte (rows z) (λ i l. small-row p i)))
+      where
+        choose : (t : Bool) {u v : ℕ} → u < 256 → v < 256 → cond t u v < 256
+        choose true h k = h
+        choose false h k = k
+
+    pub sealed-small : (i : ℕ) → i < length (sealed z B a) → getD (sealed z B a) i 0 < 256
+    unfolding sealed
+    sealed-small = array-all z B _ (λ v. v < 256) (λ d p l h. small-sealedByte (d / across z) (d % across z) p)
+
+-- The data are the same in every data row and column if and only if they are on every data disk.
+module _ (z : Size) (B : ℕ) (a b : List ℕ) where
+  pub same-of-data : ((d : ℕ) → isData z d ≡ true → (p : ℕ) → p < B → byte (whole B) b d p ≡ byte (whole B) a d p) → Same z B a b
+  unfolding cell
+  same-of-data h r c l k p w = h (diskAt z r c) (data-at z r c l k) p w
+
+  pub data-of-same : Same z B a b → (d : ℕ) → isData z d ≡ true → (p : ℕ) → p < B → byte (whole B) b d p ≡ byte (whole B) a d p
+  unfolding cell
+  data-of-same same d e p w =
+      subst (λ (k : ℕ). byte (whole B) b k p ≡ byte (whole B) a k p) (sym (disk-is z d))
+      (same (d / across z) (d % across z) (data-row z d e) (data-column z d e) p w)
