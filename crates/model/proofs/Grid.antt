@@ -4,7 +4,7 @@ use mathlib.Core.Path.{_≡_, refl, sym, _∙_, ap, ap₂, subst}
 use mathlib.Core.Bool.{Bool, true, false, _&&_, _||_}
 use mathlib.Core.List.{List}
 use Prim.Native.Nat.{ℕ, _+_, _*_, _/_, _%_, _-_, _≤_, _<_}
-use native.Mathlib.Nat.{zero-add, mul-zero, add-sub-of-le, le-of-lt, lt-of-not-le, mod-lt, div-lt-iff-lt-mul, div-add-mod', pos-of-ne-zero}
+use native.Mathlib.Nat.{mul-le-mul, zero-add, mul-zero, add-sub-of-le, le-of-lt, lt-of-not-le, mod-lt, div-lt-iff-lt-mul, div-add-mod', pos-of-ne-zero}
 use native.Mathlib.Decide.{decLe, decLt}
 use native.Mathlib.Omega.{arith}
 use borrow.Author.Tests.{eq-eqb, ne-eqb, eqb-true, eqb-false, leb-true, ltb-true, lt-ltb}
@@ -108,6 +108,24 @@ size-fits z e =
 pub block-fits : (B : ℕ) → blockFits B ≡ true → BlockFits B
 unfolding blockFits
 block-fits B e = let b : (1 ≤ B) × (B ≤ 4096) = both-bounds 1 B 4096 e in record { low = b .0; high = b .1 }
+
+pub across-positive : (z : Size) → 0 < across z
+unfolding across
+across-positive z = omega arith
+
+-- How large an array can be.
+module _ (z : Size) (fits : Fits z) where
+  pub across-bound : across z ≤ 16
+  unfolding across
+  across-bound = let h = fits .columnsHigh in omega arith
+
+  pub disks-bound : disks z ≤ 256
+  unfolding disks
+  disks-bound = let h = fits .rowsHigh in mul-le-mul {n₂ = 16} {m₂ = 16} (omega arith) across-bound
+
+  pub bytes-bound : (B : ℕ) → BlockFits B → arrayBytes z B ≤ 1048576
+  unfolding arrayBytes
+  bytes-bound B block = mul-le-mul {n₂ = 256} {m₂ = 4096} disks-bound (block .high)
 
 -- ---- the stripes of a size
 

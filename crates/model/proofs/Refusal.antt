@@ -18,6 +18,15 @@ given-accepted k x y e = ap (λ (b : Bool). cond b x y) (eq-eqb k 0 e)
 pub given-refused {ℓ} : {A : Type ℓ} (k : ℕ) (x y : A) → (k ≡ 0 → ⊥) → cond (eqb k 0) x y ≡ y
 given-refused k x y e = ap (λ (b : Bool). cond b x y) (ne-eqb k 0 e)
 
+-- The first test fails, or it is passed over.
+pub fails : (k : ℕ) (t : Bool) (ts : List Test) → t ≡ false → refusal (k unless t ∷ ts) ≡ k
+unfolding refusal
+fails k t ts e = ap (λ (b : Bool). cond b (refusal ts) k) e
+
+pub passes : (k : ℕ) (t : Bool) (ts : List Test) → t ≡ true → refusal (k unless t ∷ ts) ≡ refusal ts
+unfolding refusal
+passes k t ts e = ap (λ (b : Bool). cond b (refusal ts) k) e
+
 -- A test with a number that is not 0 has passed where nothing is refused, and so have those that follow it.
 pub passed : (k : ℕ) (t : Bool) (ts : List Test) → (k ≡ 0 → ⊥) → refusal (k unless t ∷ ts) ≡ 0 → (t ≡ true) × (refusal ts ≡ 0)
 unfolding refusal

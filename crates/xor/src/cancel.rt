@@ -1,9 +1,10 @@
 // Tests whether the sum of all stretches is zero.
 ghost use mathlib.Core.Path.{_≡_};
-ghost use Prim.Native.Nat.{_+_, _*_, _≤_, _<_};
+ghost use mathlib.Core.Bool.{not};
+ghost use Prim.Native.Nat.{ℕ, _+_, _*_, _≤_, _<_};
 ghost use lib.Dec.{eqb};
 ghost use lib.ListN.{length, getD};
-ghost use Rattle.model.specs.Fold.{every};
+ghost use Rattle.model.specs.Fold.{every, lowest};
 ghost use Rattle.xor.specs.Strided.{Within, cancelled};
 use crate::sum::sum1;
 use crate::sum::sum16;
@@ -102,4 +103,28 @@ pub fn cancel(a: &[u8], first: usize, step: usize, count: usize, len: usize) -> 
         return false;
     }
     cancel1(a, first + 128 * wide + 16 * narrow, step, count, rest % 16)
+}
+
+// The lowest of `lines` sums that is not zero somewhere, or `lines` where there is none. The stretches of sum number i
+// start at i * pitch.
+pub fn lowest_nonzero(
+    a: &[u8],
+    pitch: usize,
+    lines: usize,
+    step: usize,
+    count: usize,
+    len: usize,
+) -> usize
+    requires { ⌜ ((i : ℕ) → i < lines → Within (now a) (i * pitch) step count len) ⌝ }
+    requires { ⌜ ((i : ℕ) → i < lines → i * pitch + len ≤ length (now a)) ⌝ }
+    ensures { λ r. ⌜ r ≡ lowest lines (λ i. not (cancelled len (now (a .entry)) (i * pitch) step count)) ⌝ }
+{
+    let mut i = 0;
+    while i < lines {
+        if !cancel(a, i * pitch, step, count, len) {
+            return i;
+        }
+        i += 1;
+    }
+    lines
 }

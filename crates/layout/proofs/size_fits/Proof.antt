@@ -1,0 +1,18 @@
+-- `layout::size_fits` meets its contract: each test is one of the definition's.
+-- Assumes nothing.
+use mathlib.Core.Bool.{_&&_}
+use borrow.Author.Tests.{lt-leb, le-leb}
+use Rattle.model.specs.Grid.{sizeFits}
+use Rattle.layout.proofs.size_fits.Statement.{statement}
+use Rattle.layout.proofs.size_fits.Tie as tie
+
+returns : tie.Need-returns
+unfolding sizeFits
+returns c = simp (lt-leb _ _ (c .if1 .taken))
+
+returns-2 : tie.Need-returns-2
+unfolding sizeFits
+returns-2 c = simp (le-leb _ _ (c .if1 .left))
+
+pub size-fits-spec : {M : Type 1} → statement M
+size-fits-spec = tie.close (tie.spec returns returns-2)

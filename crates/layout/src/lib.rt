@@ -1,0 +1,124 @@
+// Numbers only: the sizes of an array, which of its disks hold data, and the tests that every call begins with.
+ghost use mathlib.Core.Path.{_≡_};
+ghost use mathlib.Core.Bool.{true};
+ghost use Prim.Native.Nat.{_≤_};
+ghost use Rattle.model.specs.Grid.{rows, columns, across, disks, diskAt, arrayBytes, isData, sizeFits, blockFits, mapFits};
+ghost use Rattle.model.specs.Refusal.{refusal, arrayTests};
+use model::Size;
+
+// Data rows.
+pub fn rows(size: Size) -> usize
+    ensures { λ r. ⌜ r ≡ rows size ⌝ }
+{
+    size.side
+}
+
+// Data columns.
+pub fn columns(size: Size) -> usize
+    ensures { λ r. ⌜ r ≡ columns size ⌝ }
+{
+    size.side
+}
+
+// The size is one that the library takes.
+pub fn size_fits(size: Size) -> bool
+    ensures { λ r. ⌜ r ≡ sizeFits size ⌝ }
+{
+    let side = size.side;
+    if side < 2 {
+        return false;
+    }
+    side <= 15
+}
+
+// The block's length is one that the library takes.
+pub fn block_fits(block: usize) -> bool
+    ensures { λ r. ⌜ r ≡ blockFits block ⌝ }
+{
+    if block < 1 {
+        return false;
+    }
+    block <= 4096
+}
+
+// Disks in a row of the grid.
+pub fn across(size: Size) -> usize
+    requires { ⌜ sizeFits size ≡ true ⌝ }
+    ensures { λ r. ⌜ r ≡ across size ⌝ }
+{
+    columns(size) + 1
+}
+
+// Disks of the grid.
+pub fn disks(size: Size) -> usize
+    requires { ⌜ sizeFits size ≡ true ⌝ }
+    ensures { λ r. ⌜ r ≡ disks size ⌝ }
+{
+    (rows(size) + 1) * across(size)
+}
+
+// Bytes of an array.
+pub fn array_bytes(size: Size, block: usize) -> usize
+    requires { ⌜ sizeFits size ≡ true ⌝ }
+    requires { ⌜ blockFits block ≡ true ⌝ }
+    ensures { λ r. ⌜ r ≡ arrayBytes size block ⌝ }
+{
+    disks(size) * block
+}
+
+// The disk in a row and a column of the grid.
+pub fn disk_at(size: Size, row: usize, column: usize) -> usize
+    requires { ⌜ sizeFits size ≡ true ⌝ }
+    requires { ⌜ row ≤ rows size ⌝ }
+    requires { ⌜ column ≤ columns size ⌝ }
+    ensures { λ r. ⌜ r ≡ diskAt size row column ⌝ }
+{
+    row * across(size) + column
+}
+
+// The disk is one that holds data.
+pub fn is_data(size: Size, disk: usize) -> bool
+    requires { ⌜ sizeFits size ≡ true ⌝ }
+    ensures { λ r. ⌜ r ≡ isData size disk ⌝ }
+{
+    let width = across(size);
+    if disk / width < rows(size) {
+        return disk % width < columns(size);
+    }
+    false
+}
+
+// The map has a byte for each disk, and each is 0 or 1.
+pub fn map_fits(size: Size, map: &[u8]) -> bool
+    requires { ⌜ sizeFits size ≡ true ⌝ }
+    ensures { λ r. ⌜ r ≡ mapFits size (now (map .entry)) ⌝ }
+{
+    if map.len() != disks(size) {
+        return false;
+    }
+    let mut d = 0;
+    while d < map.len() {
+        if 1 < map[d] {
+            return false;
+        }
+        d += 1;
+    }
+    true
+}
+
+// The tests of the size, the block's length and the array's length, which come first in every call on an array: the
+// refusal, or 0.
+pub fn refusal(size: Size, block: usize, len: usize) -> u32
+    ensures { λ r. ⌜ r ≡ refusal (arrayTests size block len) ⌝ }
+{
+    if !size_fits(size) {
+        return 1;
+    }
+    if !block_fits(block) {
+        return 2;
+    }
+    if len != array_bytes(size, block) {
+        return 3;
+    }
+    0
+}
