@@ -4,8 +4,8 @@ use mathlib.Core.Path.{_≡_, refl, sym, _∙_, ap, ap₂, subst}
 use mathlib.Core.Bool.{Bool, true, false, cond, _&&_, and-assoc, and-true, true≢false, false≢true}
 use mathlib.Core.Logic.{_⊎_, inl, inr, ⊎-elim}
 use mathlib.Core.List.{List, [], _∷_}
-use Prim.Native.Nat.{ℕ, zero, suc, _+_, _*_, _≤_, _<_, zero-le}
-use native.Mathlib.Nat.{add-zero, add-suc, zero-mul, suc-mul, eq-or-lt-of-le, le-of-suc-le-suc, lt-suc-self, le-step, not-suc-le-zero, lt-of-lt-of-le}
+use Prim.Native.Nat.{ℕ, zero, suc, _+_, _*_, _≤_, _<_, zero-le, suc-le-suc}
+use native.Mathlib.Nat.{add-zero, add-suc, zero-mul, suc-mul, eq-or-lt-of-le, le-of-suc-le-suc, lt-suc-self, le-step, not-suc-le-zero, lt-of-lt-of-le, zero-lt-suc}
 use native.Mathlib.Numerals.{add-one}
 use native.Mathlib.Omega.{arith}
 use borrow.Author.Tests.{eq-eqb, ne-eqb, ltb-true, ltb-false}
@@ -166,6 +166,12 @@ lowest-is (suc n) t = go (t 0) refl (lowest-is n (λ i. t (suc i)))
           none = elim [ zero ↦ (λ h. e) | suc i ↦ (λ h. r .none i (le-of-suc-le-suc h)) ];
           found = λ h. r .found (le-of-suc-le-suc h);
         }
+
+pub lowest-ext : (n : ℕ) {t u : ℕ → Bool} → ((i : ℕ) → i < n → t i ≡ u i) → lowest n t ≡ lowest n u
+unfolding lowest
+lowest-ext zero h = refl
+lowest-ext (suc n) h =
+    ap₂ (λ (b : Bool) (k : ℕ). cond b 0 (suc k)) (h 0 (zero-lt-suc n)) (lowest-ext n (λ i l. h (suc i) (suc-le-suc l)))
 
 pub lowest-unique : (n : ℕ) (t : ℕ → Bool) (j k : ℕ) → Lowest n t j → Lowest n t k → j ≡ k
 lowest-unique n t j k p q =

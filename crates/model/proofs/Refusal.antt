@@ -27,6 +27,13 @@ pub passes : (k : ℕ) (t : Bool) (ts : List Test) → t ≡ true → refusal (k
 unfolding refusal
 passes k t ts e = ap (λ (b : Bool). cond b (refusal ts) k) e
 
+-- A refusal by the first tests stands, whatever tests follow.
+pub refused-first : (ts us : List Test) → (refusal ts ≡ 0 → ⊥) → refusal (ts ++ us) ≡ refusal ts
+unfolding refusal
+refused-first [] us h = absurd (h refl)
+refused-first (k unless true ∷ ts) us h = refused-first ts us h
+refused-first (k unless false ∷ ts) us h = refl
+
 -- A test with a number that is not 0 has passed where nothing is refused, and so have those that follow it.
 pub passed : (k : ℕ) (t : Bool) (ts : List Test) → (k ≡ 0 → ⊥) → refusal (k unless t ∷ ts) ≡ 0 → (t ≡ true) × (refusal ts ≡ 0)
 unfolding refusal
@@ -52,6 +59,11 @@ module _ (z : Size) (B len : ℕ) where
   unfolding arrayTests
   array-fits e = array-tests [] e .0
 
+  -- Where they are passed, the tests that follow decide.
+  pub array-passed : ArrayFits z B len → (ts : List Test) → refusal (arrayTests z B len ++ ts) ≡ refusal ts
+  unfolding arrayTests refusal
+  array-passed f ts = rw (f .size, f .block, eq-eqb len (arrayBytes z B) (f .long))
+
   pub array-accepted : ArrayFits z B len → refusal (arrayTests z B len) ≡ 0
   unfolding arrayTests refusal
-  array-accepted f = rw (f .size, f .block, eq-eqb len (arrayBytes z B) (f .long))
+  array-accepted f = array-passed f []

@@ -14,14 +14,14 @@ use Rattle.model.specs.Fold.{_⊕_, xsum, gate}
 use Rattle.model.specs.Stripes.{Layout, whole, byte, sumOver, stripeSum}
 use Rattle.model.specs.Grid.{rows, columns, across, gridOf, disks, diskAt, isData, arrayBytes}
 use Rattle.model.specs.Equations.{cell, Equations}
-use Rattle.model.specs.Refusal.{_unless_}
+use Rattle.model.specs.Refusal.{_unless_, refusal, arrayTests}
 use Rattle.model.specs.Array.{writeTests, guards, writtenByte, written, replaced, writeStatus, writeArray, sealed, sealStatus}
 use Rattle.model.specs.declared.Size.{Size}
 use Rattle.model.proofs.Xor.{⊕-self, ⊕-zero, ⊕-cancel}
 use Rattle.model.proofs.Fold.{xsum-ext, xsum-⊕, xsum-only, gate-⊕}
 use Rattle.model.proofs.Grid.{Fits, size-fits, row-over, column-over, empty-over, grid-disks, by-stripe, disk-is, disk-below, eqb-disk, data-row, data-column, array-length, byte-arrayOf}
 use Rattle.model.proofs.Equations.{equations-iff-sums}
-use Rattle.model.proofs.Refusal.{given-accepted, passed, ArrayFits, array-tests, array-accepted}
+use Rattle.model.proofs.Refusal.{given-accepted, passed, passes, fails, refused-first, ArrayFits, array-tests, array-passed, array-accepted}
 use Rattle.model.proofs.Seal.{Same, sealed-exact}
 
 -- A write that is not refused has passed its tests, and makes the written array.
@@ -41,6 +41,25 @@ write-fits z B a d new e =
 pub write-is : (z : Size) (B : ℕ) (a : List ℕ) (d : ℕ) (new : List ℕ) → writeStatus z B a d new ≡ 0 → writeArray z B a d new ≡ written z B a d new
 unfolding writeArray
 write-is z B a d new ok = given-accepted (writeStatus z B a d new) _ _ ok
+
+-- The status by the test that fails first.
+module _ (z : Size) (B : ℕ) (a : List ℕ) (d : ℕ) (new : List ℕ) where
+  pub status-first : (refusal (arrayTests z B (length a)) ≡ 0 → ⊥) → writeStatus z B a d new ≡ refusal (arrayTests z B (length a))
+  unfolding writeStatus writeTests
+  status-first h = refused-first (arrayTests z B (length a)) _ h
+
+  module _ (fits : ArrayFits z B (length a)) where
+    pub status-disk : isData z d ≡ false → writeStatus z B a d new ≡ 8
+    unfolding writeStatus writeTests
+    status-disk h = array-passed z B (length a) fits _ ∙ fails 8 _ _ h
+
+    pub status-length : isData z d ≡ true → (length new ≡ B → ⊥) → writeStatus z B a d new ≡ 9
+    unfolding writeStatus writeTests
+    status-length h k = array-passed z B (length a) fits _ ∙ passes 8 _ _ h ∙ fails 9 _ _ (ne-eqb (length new) B k)
+
+    pub status-none : isData z d ≡ true → length new ≡ B → writeStatus z B a d new ≡ 0
+    unfolding writeStatus writeTests refusal
+    status-none h k = array-passed z B (length a) fits _ ∙ simp (h, eq-eqb (length new) B k)
 
 -- Sums over a stripe: of equal functions, and of an exclusive or.
 pub sumOver-ext : (L : Layout) {f g : ℕ → ℕ} → ((d : ℕ) → d < L .disks → f d ≡ g d) → (s : ℕ) → sumOver L f s ≡ sumOver L g s
@@ -108,7 +127,7 @@ module _ (z : Size) (d : ℕ) (isdata : isData z d ≡ true) where
       ∙ two-cancel (rows z) (d / across z) (λ t. gate (t && (eqb c (d % across z) || eqb c (columns z))) v) (data-row z d isdata) refl)
 
   -- A data disk is none of P, Q and S.
-  guards-no-data : (r c : ℕ) → r < rows z → c < columns z → guards z d (diskAt z r c) ≡ false
+  pub guards-no-data : (r c : ℕ) → r < rows z → c < columns z → guards z d (diskAt z r c) ≡ false
   guards-no-data r c l k =
       guards-at r c (le-of-lt k)
       ∙ (rw (ne-eqb c (columns z) (omega arith), ne-eqb r (rows z) (omega arith)) (ap (λ (t : Bool). t || false) (and-false (eqb r (d / across z)))))

@@ -98,3 +98,7 @@ lookOffset z B a m d = cond (canLook z B a m d) (d * B) 0
 
 unfoldable pub lookLength : Size → ℕ → List ℕ → List ℕ → ℕ → ℕ
 lookLength z B a m d = cond (canLook z B a m d) B 0
+
+-- The same place for a caller that gets a number: what stood there before where there is no part.
+unfoldable pub lookPlace : Size → ℕ → List ℕ → List ℕ → (d before : ℕ) → ℕ
+lookPlace z B a m d before = cond (canLook z B a m d) (d * B) before

@@ -19,6 +19,10 @@ grid r c base =
       through = λ d. (d / (c + 1)) ∷ (base + d % (c + 1)) ∷ [];
     }
 
+-- The size with n data disks along a side.
+unfoldable pub square : ℕ → Size
+square n = record { side = n }
+
 -- Data rows and data columns of a size.
 unfoldable pub rows : Size → ℕ
 rows z = z .side

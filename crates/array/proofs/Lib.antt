@@ -1,0 +1,5 @@
+pub mod Blocks
+pub mod Rows
+pub mod Lines
+pub mod Part
+pub mod Turns

@@ -1,0 +1,104 @@
+-- `array::look` meets its contract: each early return is at a test that fails, and the last hands back the block.
+-- Assumes nothing.
+use mathlib.Core.Path.{sym, _∙_}
+use native.Mathlib.Omega.{arith}
+use borrow.Author.Needs.{needs}
+use borrow.Author.Tests.{not-true, not-false}
+use Rattle.model.proofs.Refusal.{array-fits}
+use Rattle.array.proofs.Blocks.{block-within}
+use Rattle.array.proofs.Part.{map-length, look-refused, look-no-map, look-no-disk, look-erased, look-block}
+use Rattle.array.proofs.look.Statement.{statement}
+use Rattle.array.proofs.look.Tie as tie
+
+refusal-requires : tie.Need-refusal-requires
+refusal-requires c κs = search needs
+
+slice-aggregate-result : tie.Need-slice-aggregate-result
+slice-aggregate-result c = search needs
+
+returns : tie.Need-returns
+returns c = look-refused _ _ _ _ _ (λ e. c .before .if1 .taken (c .before .before .refusal .ensures ∙ e)) _
+
+map-fits-requires : tie.Need-map-fits-requires
+map-fits-requires c κs = array-fits _ _ _ (sym (c .before .refusal .ensures) ∙ c .if1 .left) .size
+
+slice-aggregate-result-2 : tie.Need-slice-aggregate-result-2
+slice-aggregate-result-2 c = search needs
+
+returns-2 : tie.Need-returns-2
+returns-2 c = look-no-map _ _ _ _ _ (sym (c .before .before .map-fits .ensures) ∙ not-true _ (c .before .if2 .taken)) _
+
+disks-requires : tie.Need-disks-requires
+disks-requires c κs = array-fits _ _ _ (sym (c .before .before .before .refusal .ensures) ∙ c .before .before .if1 .left) .size
+
+slice-aggregate-result-3 : tie.Need-slice-aggregate-result-3
+slice-aggregate-result-3 c = search needs
+
+returns-3 : tie.Need-returns-3
+returns-3 c = let e = c .before .before .disks .ensures in look-no-disk _ _ _ _ _ (omega arith) _
+
+shared-slice-read-if4 : tie.Need-shared-slice-read-if4
+shared-slice-read-if4 c =
+    let e = c .before .before .disks .ensures in
+    let l = map-length _ _ (sym (c .before .before .before .before .map-fits .ensures) ∙ not-false _ (c .before .before .before .if2 .left)) in
+    omega arith
+
+slice-aggregate-result-4 : tie.Need-slice-aggregate-result-4
+slice-aggregate-result-4 c = search needs
+
+returns-4 : tie.Need-returns-4
+returns-4 c = look-erased _ _ _ _ _ (c .before .if4 .taken) _
+
+part-result-end : tie.Need-part-result-end
+part-result-end c =
+    let s = c .before .before .before .before .before .before .before in
+    let e = c .before .before .before .disks .ensures in
+    let fits = array-fits _ _ _ (sym (s .refusal .ensures) ∙ c .before .before .before .before .before .before .if1 .left) in
+    let h = block-within _ _ _ (fits .long) (s .before .before .before .args .disk) (omega arith) in
+    omega arith
+
+mul-at : tie.Need-mul-at
+mul-at c = omega (arith, part-result-end c)
+
+add-result : tie.Need-add-result
+add-result c = omega (arith, part-result-end c)
+
+sub-result : tie.Need-sub-result
+sub-result c = search needs
+
+part-result-start : tie.Need-part-result-start
+part-result-start c = search needs
+
+returns-5 : tie.Need-returns-5
+returns-5 c =
+    let s = c .before .before .before in
+    let e = s .before .disks .ensures in
+    look-block _ _ _ _ _
+    (sym (s .before .before .before .before .before .refusal .ensures) ∙ s .before .before .before .before .if1 .left)
+    (sym (s .before .before .before .map-fits .ensures) ∙ not-false _ (s .before .before .if2 .left))
+    (omega arith)
+    (c .before .if4 .left)
+    _
+
+pub look-spec : {M : Type 1} → statement M
+look-spec =
+    tie.close
+    (tie.spec
+    refusal-requires
+    slice-aggregate-result
+    returns
+    map-fits-requires
+    slice-aggregate-result-2
+    returns-2
+    disks-requires
+    slice-aggregate-result-3
+    returns-3
+    shared-slice-read-if4
+    slice-aggregate-result-4
+    returns-4
+    mul-at
+    add-result
+    sub-result
+    part-result-start
+    part-result-end
+    returns-5)
