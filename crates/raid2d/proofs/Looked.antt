@@ -1,0 +1,66 @@
+-- The part that look hands back, as a length and an offset.
+-- Assumes nothing.
+use mathlib.Core.Path.{_≡_, refl, sym, _∙_, ap}
+use mathlib.Core.Bool.{Bool, true, false, cond, _&&_}
+use mathlib.Core.Logic.{_⊎_, inl, inr, ⊎-elim}
+use mathlib.Core.List.{List}
+use Prim.Native.Nat.{ℕ, _+_, _*_, _≤_, _<_}
+use native.Mathlib.Omega.{arith}
+use borrow.Author.Tests.{eqb-true, ltb-true}
+use lib.Dec.{eqb, ltb}
+use lib.ListN.{length, getD, take, drop, length-take, length-drop}
+use Rattle.model.specs.Grid.{disks, mapFits}
+use Rattle.model.specs.Refusal.{refusal, arrayTests}
+use Rattle.model.specs.Array.{canLook, lookLength, lookOffset, lookPlace}
+use Rattle.model.specs.declared.Size.{Size}
+use Rattle.model.proofs.Fold.{and-left, and-right}
+use Rattle.model.proofs.Grid.{block-fits}
+use Rattle.model.proofs.Refusal.{array-fits}
+use Rattle.array.proofs.Blocks.{block-within}
+
+module _ (z : Size) (B : ℕ) (a m : List ℕ) (d : ℕ) where
+  -- Either there is no part, or it is a block of one byte or more that lies within the array.
+  pub record Found : Type 0 where
+    pub length-is : lookLength z B a m d ≡ B
+    pub offset-is : lookOffset z B a m d ≡ d * B
+    pub place-is : (before : ℕ) → lookPlace z B a m d before ≡ d * B
+    pub some : 1 ≤ B
+    pub within : d * B + B ≤ length a
+
+  pub record Nothing : Type 0 where
+    pub length-is : lookLength z B a m d ≡ 0
+    pub place-is : (before : ℕ) → lookPlace z B a m d before ≡ before
+
+  look-by : Found ⊎ Nothing
+  unfolding lookLength lookOffset lookPlace canLook
+  look-by = go (canLook z B a m d) refl
+    where
+      go : (b : Bool) → canLook z B a m d ≡ b → Found ⊎ Nothing
+      go true e =
+          let ok = eqb-true (refusal (arrayTests z B (length a))) 0 (and-left _ _ e) in
+          let fits = array-fits z B (length a) ok in
+          let below = ltb-true d (disks z) (and-left _ _ (and-right (mapFits z m) _ (and-right (eqb (refusal (arrayTests z B (length a))) 0) _ e))) in
+          inl
+          (record {
+            length-is = ap (λ (b : Bool). cond b B 0) e;
+            offset-is = ap (λ (b : Bool). cond b (d * B) 0) e;
+            place-is = λ before. ap (λ (b : Bool). cond b (d * B) before) e;
+            some = block-fits B (fits .block) .low;
+            within = block-within z B (length a) (fits .long) d below;
+          })
+      go false e = inr (record { length-is = ap (λ (b : Bool). cond b B 0) e; place-is = λ before. ap (λ (b : Bool). cond b (d * B) before) e })
+
+  pub part-length : length (take (lookLength z B a m d) (drop (lookOffset z B a m d) a)) ≡ lookLength z B a m d
+  part-length = ⊎-elim
+      (λ f.
+      let n = f .length-is in
+      let o = f .offset-is in
+      let w = f .within in
+      simp (length-take, length-drop) (omega arith))
+      (λ n. let e = n .length-is in simp length-take (omega arith)) look-by
+
+  pub look-none : 0 ≡ lookLength z B a m d → (before : ℕ) → before ≡ lookPlace z B a m d before
+  look-none e before = ⊎-elim (λ f. let h = f .length-is in let s = f .some in omega arith) (λ n. sym (n .place-is before)) look-by
+
+  pub look-some : (0 ≡ lookLength z B a m d → ⊥) → Found
+  look-some h = ⊎-elim (λ f. f) (λ n. absurd (h (sym (n .length-is)))) look-by
