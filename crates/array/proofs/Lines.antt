@@ -57,7 +57,7 @@ xsum-all n g = xsum-ext n (λ k h. ap (λ (b : Bool). gate (not b) (g k)) (ne-eq
 -- A stripe whose disks stand s apart from disk t on is clear if their stretches cancel.
 cancelled-clear : (L : Layout) (B : ℕ) (a : List ℕ) (line t s count : ℕ)
     → ((p : ℕ) → p < B → stripeSum L (whole B) a line p ≡ xsum count (λ k. byte (whole B) a (t + k * s) p))
-    → cancelled B a (t * B) (s * B) count ≡ clear L (whole B) a line
+    → cancelled B a (t * B) (s * B) count count ≡ clear L (whole B) a line
 unfolding cancelled clear whole
 cancelled-clear L B a line t s count sum =
     every-ext B (λ p b. ap (λ (x : ℕ). eqb x 0) (strided-disks B a t s count count p ∙ xsum-all count _ ∙ sym (sum p b)))
@@ -69,20 +69,20 @@ module _ (z : Size) (B : ℕ) (a : List ℕ) (fits : sizeFits z ≡ true) where
 
   -- The code's numbers of disks across and down.
   module _ (w down : ℕ) (across-is : w ≡ across z) (rows-are : down ≡ rows z) where
-    pub row-lowest : lowest (down + 1) (λ r. not (cancelled B a (r * (w * B)) B w)) ≡ lowest (rows z + 1) unclear
+    pub row-lowest : lowest (down + 1) (λ r. not (cancelled B a (r * (w * B)) B w w)) ≡ lowest (rows z + 1) unclear
     unfolding diskAt
     row-lowest =
         rw (across-is, rows-are)
         (lowest-ext (rows z + 1)
         (λ r h.
         ap not
-        (ap₂ (λ (at step : ℕ). cancelled B a at step (across z)) (sym (mul-assoc r (across z) B)) (sym (one-mul B))
+        (ap₂ (λ (at step : ℕ). cancelled B a at step (across z) (across z)) (sym (mul-assoc r (across z) B)) (sym (one-mul B))
         ∙ cancelled-clear (gridOf z) B a r (r * across z) 1 (across z)
         (λ p b.
         row-stripe z fits (whole B) a r (omega arith) p
         ∙ xsum-ext (across z) (λ k l. ap (λ (d : ℕ). byte (whole B) a d p) (omega arith))))))
 
-    pub column-lowest : lowest w (λ c. not (cancelled B a (c * B) (w * B) (down + 1))) ≡ lowest (across z) (λ c. unclear (16 + c))
+    pub column-lowest : lowest w (λ c. not (cancelled B a (c * B) (w * B) (down + 1) (down + 1))) ≡ lowest (across z) (λ c. unclear (16 + c))
     unfolding diskAt across
     column-lowest =
         rw (across-is, rows-are)

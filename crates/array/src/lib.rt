@@ -35,11 +35,27 @@ pub fn check(size: Size, block: usize, array: &[u8]) -> Checked
     }
     let down = layout::rows(size) + 1;
     let across = layout::across(size);
-    let row = xor::cancel::lowest_nonzero(array, across * block, down, block, across, block);
+    let row = xor::cancel::lowest_nonzero(
+        array,
+        across * block,
+        down,
+        block,
+        across,
+        across,
+        block,
+    );
     if row < down {
         return Checked::Unsealed(row);
     }
-    let column = xor::cancel::lowest_nonzero(array, block, across, across * block, down, block);
+    let column = xor::cancel::lowest_nonzero(
+        array,
+        block,
+        across,
+        across * block,
+        down,
+        down,
+        block,
+    );
     if column < across {
         return Checked::Unsealed(16 + column);
     }

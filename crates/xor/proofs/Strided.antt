@@ -161,49 +161,49 @@ pub zero-next : (v : List ℕ) (i any : ℕ) → eqb any 0 ≡ every i (zeroAt v
 unfolding every
 zero-next v i any e = rw add-one (or-zero any (getD v i 0) ∙ ap (λ (t : Bool). t && zeroAt v i) e)
 
-pub cancelled-add : (m n : ℕ) (a : List ℕ) (first step count : ℕ)
-    → cancelled (m + n) a first step count ≡ (cancelled m a first step count && cancelled n a (first + m) step count)
+pub cancelled-add : (m n : ℕ) (a : List ℕ) (first step count skip : ℕ)
+    → cancelled (m + n) a first step count skip ≡ (cancelled m a first step count skip && cancelled n a (first + m) step count skip)
 unfolding cancelled
-cancelled-add m n a first step count =
+cancelled-add m n a first step count skip =
     every-add m n _
-    ∙ ap (λ (t : Bool). cancelled m a first step count && t)
-    (every-ext n (λ i b. ap (λ (k : ℕ). eqb (strided a k step count count) 0) (sym (add-assoc first m i))))
+    ∙ ap (λ (t : Bool). cancelled m a first step count skip && t)
+    (every-ext n (λ i b. ap (λ (k : ℕ). eqb (strided a k step count skip) 0) (sym (add-assoc first m i))))
 
 -- The sums of w places are all zero.
-pub cancelled-sums : (w : ℕ) (a : List ℕ) (first step count : ℕ)
-    → every w (λ i. eqb (getD (sums w a first step count count) i 0) 0) ≡ cancelled w a first step count
+pub cancelled-sums : (w : ℕ) (a : List ℕ) (first step count skip : ℕ)
+    → every w (λ i. eqb (getD (sums w a first step count skip) i 0) 0) ≡ cancelled w a first step count skip
 unfolding cancelled sums
-cancelled-sums w a first step count = every-ext w (λ i b. ap (λ (x : ℕ). eqb x 0) (getD-tabulate w _ i b))
+cancelled-sums w a first step count skip = every-ext w (λ i b. ap (λ (x : ℕ). eqb x 0) (getD-tabulate w _ i b))
 
-module _ (a : List ℕ) (first step count : ℕ) where
-  pub cancelled-none : cancelled 0 a first step count ≡ true
+module _ (a : List ℕ) (first step count skip : ℕ) where
+  pub cancelled-none : cancelled 0 a first step count skip ≡ true
   unfolding cancelled every
   cancelled-none = refl
 
   -- Where the first n places pass, the test of n + w is that of the w behind them.
-  pub cancelled-after : (n w at : ℕ) → at ≡ first + n → cancelled n a first step count ≡ true
-      → cancelled (n + w) a first step count ≡ cancelled w a at step count
+  pub cancelled-after : (n w at : ℕ) → at ≡ first + n → cancelled n a first step count skip ≡ true
+      → cancelled (n + w) a first step count skip ≡ cancelled w a at step count skip
   cancelled-after n w at p e =
-      cancelled-add n w a first step count ∙ ap₂ (λ (t : Bool) (k : ℕ). t && cancelled w a k step count) e (sym p)
+      cancelled-add n w a first step count skip ∙ ap₂ (λ (t : Bool) (k : ℕ). t && cancelled w a k step count skip) e (sym p)
 
   -- Where w places behind n fail, so does every test that takes them in.
-  pub cancelled-fails : (n w len at : ℕ) → at ≡ first + n → n + w ≤ len → cancelled w a at step count ≡ false
-      → false ≡ cancelled len a first step count
+  pub cancelled-fails : (n w len at : ℕ) → at ≡ first + n → n + w ≤ len → cancelled w a at step count skip ≡ false
+      → false ≡ cancelled len a first step count skip
   cancelled-fails n w len at p h e =
-      let fails : cancelled (n + w) a first step count ≡ false =
-      cancelled-add n w a first step count
-      ∙ ap (λ (k : ℕ). cancelled n a first step count && cancelled w a k step count) (sym p)
-      ∙ ap (λ (t : Bool). cancelled n a first step count && t) e
-      ∙ and-false (cancelled n a first step count) in
+      let fails : cancelled (n + w) a first step count skip ≡ false =
+      cancelled-add n w a first step count skip
+      ∙ ap (λ (k : ℕ). cancelled n a first step count skip && cancelled w a k step count skip) (sym p)
+      ∙ ap (λ (t : Bool). cancelled n a first step count skip && t) e
+      ∙ and-false (cancelled n a first step count skip) in
       sym
-      (ap (λ (k : ℕ). cancelled k a first step count) (sym (add-sub-of-le h)) ∙ cancelled-add (n + w) (len - (n + w)) a first step count
-      ∙ ap (λ (t : Bool). t && cancelled (len - (n + w)) a (first + (n + w)) step count) fails)
+      (ap (λ (k : ℕ). cancelled k a first step count skip) (sym (add-sub-of-le h)) ∙ cancelled-add (n + w) (len - (n + w)) a first step count skip
+      ∙ ap (λ (t : Bool). t && cancelled (len - (n + w)) a (first + (n + w)) step count skip) fails)
 
   -- The test of w sums that were taken.
-  pub cancelled-by : (w : ℕ) (v : List ℕ) (t : Bool) → v ≡ sums w a first step count count → t ≡ every w (zeroAt v)
-      → t ≡ cancelled w a first step count
-  cancelled-by w v t e p = p ∙ ap (λ (l : List ℕ). every w (zeroAt l)) e ∙ cancelled-sums w a first step count
+  pub cancelled-by : (w : ℕ) (v : List ℕ) (t : Bool) → v ≡ sums w a first step count skip → t ≡ every w (zeroAt v)
+      → t ≡ cancelled w a first step count skip
+  cancelled-by w v t e p = p ∙ ap (λ (l : List ℕ). every w (zeroAt l)) e ∙ cancelled-sums w a first step count skip
 
-  pub cancelled-one : (v : ℕ) → v ≡ strided a first step count count → eqb v 0 ≡ cancelled 1 a first step count
+  pub cancelled-one : (v : ℕ) → v ≡ strided a first step count skip → eqb v 0 ≡ cancelled 1 a first step count skip
   unfolding cancelled every
-  cancelled-one v e = ap (λ (x : ℕ). eqb x 0) (e ∙ ap (λ (k : ℕ). strided a k step count count) (sym (add-zero first)))
+  cancelled-one v e = ap (λ (x : ℕ). eqb x 0) (e ∙ ap (λ (k : ℕ). strided a k step count skip) (sym (add-zero first)))

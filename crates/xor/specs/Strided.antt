@@ -37,6 +37,6 @@ stored l at n f = tabulate (length l) (λ i. cond (leb at i && ltb i (at + n)) (
 unfoldable pub filled : ℕ → List ℕ → (first step count skip : ℕ) → List ℕ
 filled n a first step count skip = stored a (first + skip * step) n (λ i. strided a (first + i) step count skip)
 
--- The sum of all the stretches is zero at each of n places.
-unfoldable pub cancelled : ℕ → List ℕ → (first step count : ℕ) → Bool
-cancelled n a first step count = every n (λ i. eqb (strided a (first + i) step count count) 0)
+-- The sum of the stretches but number `skip` is zero at each of n places.
+unfoldable pub cancelled : ℕ → List ℕ → (first step count skip : ℕ) → Bool
+cancelled n a first step count skip = every n (λ i. eqb (strided a (first + i) step count skip) 0)

@@ -1,4 +1,5 @@
-// Tests whether the sum of all stretches is zero.
+// Tests whether the sum of stretches is zero. A `skip` of `count` leaves out none of them: it stays a parameter, since the
+// compiler makes poor code of the sums where it is a constant.
 ghost use mathlib.Core.Path.{_≡_};
 ghost use mathlib.Core.Bool.{not};
 ghost use Prim.Native.Nat.{ℕ, _+_, _*_, _≤_, _<_};
@@ -24,14 +25,14 @@ fn zero128(v: [u8; 128]) -> bool
 }
 
 // 128 bytes for each of `chunks`.
-fn cancel128(a: &[u8], first: usize, step: usize, count: usize, chunks: usize) -> bool
+fn cancel128(a: &[u8], first: usize, step: usize, count: usize, skip: usize, chunks: usize) -> bool
     requires { ⌜ Within (now a) first step count (128 * chunks) ⌝ }
     requires { ⌜ first + 128 * chunks ≤ length (now a) ⌝ }
-    ensures { λ r. ⌜ r ≡ cancelled (128 * chunks) (now (a .entry)) first step count ⌝ }
+    ensures { λ r. ⌜ r ≡ cancelled (128 * chunks) (now (a .entry)) first step count skip ⌝ }
 {
     let mut i = 0;
     while i < chunks {
-        let v = sum128(a, first + 128 * i, step, count, count);
+        let v = sum128(a, first + 128 * i, step, count, skip);
         if !zero128(v) {
             return false;
         }
@@ -54,14 +55,14 @@ fn zero16(v: [u8; 16]) -> bool
 }
 
 // 16 bytes for each of `chunks`.
-fn cancel16(a: &[u8], first: usize, step: usize, count: usize, chunks: usize) -> bool
+fn cancel16(a: &[u8], first: usize, step: usize, count: usize, skip: usize, chunks: usize) -> bool
     requires { ⌜ Within (now a) first step count (16 * chunks) ⌝ }
     requires { ⌜ first + 16 * chunks ≤ length (now a) ⌝ }
-    ensures { λ r. ⌜ r ≡ cancelled (16 * chunks) (now (a .entry)) first step count ⌝ }
+    ensures { λ r. ⌜ r ≡ cancelled (16 * chunks) (now (a .entry)) first step count skip ⌝ }
 {
     let mut i = 0;
     while i < chunks {
-        let v = sum16(a, first + 16 * i, step, count, count);
+        let v = sum16(a, first + 16 * i, step, count, skip);
         if !zero16(v) {
             return false;
         }
@@ -71,14 +72,14 @@ fn cancel16(a: &[u8], first: usize, step: usize, count: usize, chunks: usize) ->
 }
 
 // One byte at a time.
-fn cancel1(a: &[u8], first: usize, step: usize, count: usize, len: usize) -> bool
+fn cancel1(a: &[u8], first: usize, step: usize, count: usize, skip: usize, len: usize) -> bool
     requires { ⌜ Within (now a) first step count len ⌝ }
     requires { ⌜ first + len ≤ length (now a) ⌝ }
-    ensures { λ r. ⌜ r ≡ cancelled len (now (a .entry)) first step count ⌝ }
+    ensures { λ r. ⌜ r ≡ cancelled len (now (a .entry)) first step count skip ⌝ }
 {
     let mut i = 0;
     while i < len {
-        let v = sum1(a, first + i, step, count, count);
+        let v = sum1(a, first + i, step, count, skip);
         if v != 0 {
             return false;
         }
@@ -87,22 +88,30 @@ fn cancel1(a: &[u8], first: usize, step: usize, count: usize, len: usize) -> boo
     true
 }
 
-// The sum of `count` stretches of `len` bytes that stand `step` apart from `first` on is zero at each place.
-pub fn cancel(a: &[u8], first: usize, step: usize, count: usize, len: usize) -> bool
+// Of `count` stretches of `len` bytes that stand `step` apart from `first` on, the sum of all but number `skip` is zero at
+// each place.
+pub fn cancel(a: &[u8], first: usize, step: usize, count: usize, skip: usize, len: usize) -> bool
     requires { ⌜ Within (now a) first step count len ⌝ }
     requires { ⌜ first + len ≤ length (now a) ⌝ }
-    ensures { λ r. ⌜ r ≡ cancelled len (now (a .entry)) first step count ⌝ }
+    ensures { λ r. ⌜ r ≡ cancelled len (now (a .entry)) first step count skip ⌝ }
 {
     let wide = len / 128;
     let rest = len % 128;
     let narrow = rest / 16;
-    if !cancel128(a, first, step, count, wide) {
+    if !cancel128(a, first, step, count, skip, wide) {
         return false;
     }
-    if !cancel16(a, first + 128 * wide, step, count, narrow) {
+    if !cancel16(a, first + 128 * wide, step, count, skip, narrow) {
         return false;
     }
-    cancel1(a, first + 128 * wide + 16 * narrow, step, count, rest % 16)
+    cancel1(
+        a,
+        first + 128 * wide + 16 * narrow,
+        step,
+        count,
+        skip,
+        rest % 16,
+    )
 }
 
 // The lowest of `lines` sums that is not zero somewhere, or `lines` where there is none. The stretches of sum number i
@@ -113,15 +122,16 @@ pub fn lowest_nonzero(
     lines: usize,
     step: usize,
     count: usize,
+    skip: usize,
     len: usize,
 ) -> usize
     requires { ⌜ ((i : ℕ) → i < lines → Within (now a) (i * pitch) step count len) ⌝ }
     requires { ⌜ ((i : ℕ) → i < lines → i * pitch + len ≤ length (now a)) ⌝ }
-    ensures { λ r. ⌜ r ≡ lowest lines (λ i. not (cancelled len (now (a .entry)) (i * pitch) step count)) ⌝ }
+    ensures { λ r. ⌜ r ≡ lowest lines (λ i. not (cancelled len (now (a .entry)) (i * pitch) step count skip)) ⌝ }
 {
     let mut i = 0;
     while i < lines {
-        if !cancel(a, i * pitch, step, count, len) {
+        if !cancel(a, i * pitch, step, count, skip, len) {
             return i;
         }
         i += 1;

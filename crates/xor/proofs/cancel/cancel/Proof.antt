@@ -16,7 +16,7 @@ cancel128-requires c κs = (λ k h. omega (arith, c .before .pre .0 k h), omega 
 returns : tie.Need-returns
 returns c =
     let a = c .before .before .before .args in
-    cancelled-fails (a .a .now) (a .first) (a .step) (a .count) 0 (128 * (a .len / 128)) (a .len) (a .first) (omega arith) (omega arith)
+    cancelled-fails (a .a .now) (a .first) (a .step) (a .count) (a .skip) 0 (128 * (a .len / 128)) (a .len) (a .first) (omega arith) (omega arith)
     (sym (c .before .cancel128 .ensures) ∙ not-true _ (c .if1 .taken))
 
 mul-cancel16 : tie.Need-mul-cancel16
@@ -31,7 +31,7 @@ cancel16-requires c κs = (λ k h. omega (arith, c .before .before .before .pre 
 returns-2 : tie.Need-returns-2
 returns-2 c =
     let a = c .before .before .before .before .before .args in
-    cancelled-fails (a .a .now) (a .first) (a .step) (a .count) (128 * (a .len / 128)) (16 * (a .len % 128 / 16)) (a .len) _ refl (omega arith)
+    cancelled-fails (a .a .now) (a .first) (a .step) (a .count) (a .skip) (128 * (a .len / 128)) (16 * (a .len % 128 / 16)) (a .len) _ refl (omega arith)
     (sym (c .before .cancel16 .ensures) ∙ not-true _ (c .if2 .taken))
 
 mul-cancel1 : tie.Need-mul-cancel1
@@ -55,12 +55,12 @@ returns-3 c =
     let wide = sym (c .before .before .before .before .cancel128 .ensures) ∙ not-false _ (c .before .before .before .if1 .left) in
     let narrow = sym (c .before .before .cancel16 .ensures) ∙ not-false _ (c .before .if2 .left) in
     let both =
-    cancelled-after (a .a .now) (a .first) (a .step) (a .count) (128 * (a .len / 128)) (16 * (a .len % 128 / 16)) _ refl wide ∙ narrow in
+    cancelled-after (a .a .now) (a .first) (a .step) (a .count) (a .skip) (128 * (a .len / 128)) (16 * (a .len % 128 / 16)) _ refl wide ∙ narrow in
     c .cancel1 .ensures
     ∙ sym
-    (cancelled-after (a .a .now) (a .first) (a .step) (a .count) (128 * (a .len / 128) + 16 * (a .len % 128 / 16)) (a .len % 128 % 16) _
+    (cancelled-after (a .a .now) (a .first) (a .step) (a .count) (a .skip) (128 * (a .len / 128) + 16 * (a .len % 128 / 16)) (a .len % 128 % 16) _
     (omega arith) both)
-    ∙ ap (λ (n : ℕ). cancelled n (a .a .now) (a .first) (a .step) (a .count)) (omega arith)
+    ∙ ap (λ (n : ℕ). cancelled n (a .a .now) (a .first) (a .step) (a .count) (a .skip)) (omega arith)
 
 pub cancel-spec : {M : Type 1} → statement M
 cancel-spec =

@@ -12,13 +12,13 @@ use Rattle.xor.proofs.cancel.cancel1.Statement.{statement}
 use Rattle.xor.proofs.cancel.cancel1.Tie as tie
 
 abbrev Inv-loop : tie.InvT-loop
-Inv-loop a first step count len i₀ i = (i ≤ len) × (cancelled (i) a first step count ≡ true)
+Inv-loop a first step count skip len i₀ i = (i ≤ len) × (cancelled (i) a first step count skip ≡ true)
 
 abbrev μ-loop : tie.MeasureT-loop
-μ-loop a first step count len i₀ i = len - i
+μ-loop a first step count skip len i₀ i = len - i
 
 loop-holds : tie.Need-loop-holds Inv-loop μ-loop
-loop-holds c = (search needs, cancelled-none _ _ _ _)
+loop-holds c = (search needs, cancelled-none _ _ _ _ _)
 
 add-sum1 : tie.Need-add-sum1 Inv-loop μ-loop
 add-sum1 c = search needs
@@ -31,8 +31,8 @@ returns c =
     let a = c .before .before .before .before .before .args in
     let l = c .before .before .before .loop in
     let v = c .before .sum1 in
-    let t = cancelled-one (a .a .now) (a .first + l .i) (a .step) (a .count) (v .result) (v .ensures) in
-    cancelled-fails (a .a .now) (a .first) (a .step) (a .count) (l .i) 1 _ _ refl (omega arith) (sym t ∙ ne-eqb (v .result) 0 (c .if1 .taken))
+    let t = cancelled-one (a .a .now) (a .first + l .i) (a .step) (a .count) (a .skip) (v .result) (v .ensures) in
+    cancelled-fails (a .a .now) (a .first) (a .step) (a .count) (a .skip) (l .i) 1 _ _ refl (omega arith) (sym t ∙ ne-eqb (v .result) 0 (c .if1 .taken))
 
 add-i : tie.Need-add-i Inv-loop μ-loop
 add-i c = search needs
@@ -45,10 +45,10 @@ loop-again c =
     let a = c .before .before .before .before .before .args in
     let l = c .before .before .before .loop in
     let v = c .before .sum1 in
-    let t = cancelled-one (a .a .now) (a .first + l .i) (a .step) (a .count) (v .result) (v .ensures) in (
+    let t = cancelled-one (a .a .now) (a .first + l .i) (a .step) (a .count) (a .skip) (v .result) (v .ensures) in (
       search needs,
-      ap (λ (n : ℕ). cancelled n (a .a .now) (a .first) (a .step) (a .count)) (omega arith)
-          ∙ cancelled-after (a .a .now) (a .first) (a .step) (a .count) (l .i) 1 _ refl (l .inv .1)
+      ap (λ (n : ℕ). cancelled n (a .a .now) (a .first) (a .step) (a .count) (a .skip)) (omega arith)
+          ∙ cancelled-after (a .a .now) (a .first) (a .step) (a .count) (a .skip) (l .i) 1 _ refl (l .inv .1)
           ∙ sym t ∙ eq-eqb (v .result) 0 (c .if1 .left),
     )
 
@@ -56,7 +56,7 @@ returns-2 : tie.Need-returns-2 Inv-loop μ-loop
 returns-2 c =
     let a = c .before .before .before .args in
     let l = c .before .loop in
-    sym (l .inv .1) ∙ ap (λ (n : ℕ). cancelled (n) (a .a .now) (a .first) (a .step) (a .count)) (omega arith)
+    sym (l .inv .1) ∙ ap (λ (n : ℕ). cancelled (n) (a .a .now) (a .first) (a .step) (a .count) (a .skip)) (omega arith)
 
 pub cancel1-spec : {M : Type 1} → statement M
 cancel1-spec =

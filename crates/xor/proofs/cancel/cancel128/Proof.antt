@@ -12,13 +12,13 @@ use Rattle.xor.proofs.cancel.cancel128.Statement.{statement}
 use Rattle.xor.proofs.cancel.cancel128.Tie as tie
 
 abbrev Inv-loop : tie.InvT-loop
-Inv-loop a first step count chunks i₀ i = (i ≤ chunks) × (cancelled (128 * i) a first step count ≡ true)
+Inv-loop a first step count skip chunks i₀ i = (i ≤ chunks) × (cancelled (128 * i) a first step count skip ≡ true)
 
 abbrev μ-loop : tie.MeasureT-loop
-μ-loop a first step count chunks i₀ i = chunks - i
+μ-loop a first step count skip chunks i₀ i = chunks - i
 
 loop-holds : tie.Need-loop-holds Inv-loop μ-loop
-loop-holds c = (search needs, cancelled-none _ _ _ _)
+loop-holds c = (search needs, cancelled-none _ _ _ _ _)
 
 mul-sum128 : tie.Need-mul-sum128 Inv-loop μ-loop
 mul-sum128 c = search needs
@@ -38,8 +38,8 @@ returns c =
     let l = c .before .before .before .before .loop in
     let v = c .before .before .sum128 in
     let z = c .before .zero128 in
-    let t = cancelled-by (a .a .now) (a .first + 128 * l .i) (a .step) (a .count) 128 (v .result) (z .result) (v .ensures) (z .ensures) in
-    cancelled-fails (a .a .now) (a .first) (a .step) (a .count) (128 * l .i) 128 _ _ refl (omega arith) (sym t ∙ not-true _ (c .if1 .taken))
+    let t = cancelled-by (a .a .now) (a .first + 128 * l .i) (a .step) (a .count) (a .skip) 128 (v .result) (z .result) (v .ensures) (z .ensures) in
+    cancelled-fails (a .a .now) (a .first) (a .step) (a .count) (a .skip) (128 * l .i) 128 _ _ refl (omega arith) (sym t ∙ not-true _ (c .if1 .taken))
 
 add-i : tie.Need-add-i Inv-loop μ-loop
 add-i c = search needs
@@ -53,10 +53,10 @@ loop-again c =
     let l = c .before .before .before .before .loop in
     let v = c .before .before .sum128 in
     let z = c .before .zero128 in
-    let t = cancelled-by (a .a .now) (a .first + 128 * l .i) (a .step) (a .count) 128 (v .result) (z .result) (v .ensures) (z .ensures) in (
+    let t = cancelled-by (a .a .now) (a .first + 128 * l .i) (a .step) (a .count) (a .skip) 128 (v .result) (z .result) (v .ensures) (z .ensures) in (
       search needs,
-      ap (λ (n : ℕ). cancelled n (a .a .now) (a .first) (a .step) (a .count)) (omega arith)
-          ∙ cancelled-after (a .a .now) (a .first) (a .step) (a .count) (128 * l .i) 128 _ refl (l .inv .1)
+      ap (λ (n : ℕ). cancelled n (a .a .now) (a .first) (a .step) (a .count) (a .skip)) (omega arith)
+          ∙ cancelled-after (a .a .now) (a .first) (a .step) (a .count) (a .skip) (128 * l .i) 128 _ refl (l .inv .1)
           ∙ sym t ∙ not-false _ (c .if1 .left),
     )
 
@@ -64,7 +64,7 @@ returns-2 : tie.Need-returns-2 Inv-loop μ-loop
 returns-2 c =
     let a = c .before .before .before .args in
     let l = c .before .loop in
-    sym (l .inv .1) ∙ ap (λ (n : ℕ). cancelled (128 * n) (a .a .now) (a .first) (a .step) (a .count)) (omega arith)
+    sym (l .inv .1) ∙ ap (λ (n : ℕ). cancelled (128 * n) (a .a .now) (a .first) (a .step) (a .count) (a .skip)) (omega arith)
 
 pub cancel128-spec : {M : Type 1} → statement M
 cancel128-spec =

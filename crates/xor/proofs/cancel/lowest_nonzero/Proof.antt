@@ -14,10 +14,10 @@ use Rattle.xor.proofs.cancel.lowest_nonzero.Statement.{statement}
 use Rattle.xor.proofs.cancel.lowest_nonzero.Tie as tie
 
 abbrev Inv-loop : tie.InvT-loop
-Inv-loop a pitch lines step count len i₀ i = (i ≤ lines) × ((k : ℕ) → k < i → cancelled len a (k * pitch) step count ≡ true)
+Inv-loop a pitch lines step count skip len i₀ i = (i ≤ lines) × ((k : ℕ) → k < i → cancelled len a (k * pitch) step count skip ≡ true)
 
 abbrev μ-loop : tie.MeasureT-loop
-μ-loop a pitch lines step count len i₀ i = lines - i
+μ-loop a pitch lines step count skip len i₀ i = lines - i
 
 loop-holds : tie.Need-loop-holds Inv-loop μ-loop
 loop-holds c = (search needs, λ k h. absurd (not-suc-le-zero h))
