@@ -7,6 +7,7 @@ ghost use Rattle.model.specs.Array.{sealStatus, sealArray, checked, writeStatus
 
 mod parity;
 mod store;
+mod stripes;
 
 use model::Checked;
 use model::Size;
@@ -25,38 +26,20 @@ pub fn seal(size: Size, block: usize, array: &mut [u8]) -> u32
     0
 }
 
-// Tests the sum of every stripe.
+// Tests the sum of every stripe, rows first.
 pub fn check(size: Size, block: usize, array: &[u8]) -> Checked
     ensures { λ r. ⌜ r ≡ checked size block (now (array .entry)) ⌝ }
 {
-    let status = layout::refusal(size, block, array.len());
-    if status != 0 {
-        return Checked::Refused(status);
+    let refusal = layout::refusal(size, block, array.len());
+    if refusal != 0 {
+        return Checked::Refused(refusal);
     }
-    let down = layout::rows(size) + 1;
-    let across = layout::across(size);
-    let row = xor::cancel::lowest_nonzero(
-        array,
-        across * block,
-        down,
-        block,
-        across,
-        across,
-        block,
-    );
-    if row < down {
+    let row = stripes::lowest_row(size, block, array);
+    if row <= layout::rows(size) {
         return Checked::Unsealed(row);
     }
-    let column = xor::cancel::lowest_nonzero(
-        array,
-        block,
-        across,
-        across * block,
-        down,
-        down,
-        block,
-    );
-    if column < across {
+    let column = stripes::lowest_column(size, block, array);
+    if column <= layout::columns(size) {
         return Checked::Unsealed(16 + column);
     }
     Checked::Sealed
@@ -67,9 +50,9 @@ pub fn write(size: Size, block: usize, array: &mut [u8], disk: usize, data: &[u8
     ensures status { λ r. ⌜ r ≡ writeStatus size block (now (array .entry)) disk (now («data» .entry)) ⌝ }
     ensures array { λ r. ⌜ now (array .exit) ≡ writeArray size block (now (array .entry)) disk (now («data» .entry)) ⌝ }
 {
-    let status = layout::refusal(size, block, array.len());
-    if status != 0 {
-        return status;
+    let refused = layout::refusal(size, block, array.len());
+    if refused != 0 {
+        return refused;
     }
     if !layout::is_data(size, disk) {
         return 8;
