@@ -1,10 +1,10 @@
 -- From bytes to disks: what storing and summing stretches does to the blocks of an array.
 -- Assumes nothing.
 use mathlib.Core.Path.{_≡_, refl, sym, _∙_, ap, ap₂}
-use mathlib.Core.Bool.{Bool, true, false, cond, not, _&&_, and-false}
+use mathlib.Core.Bool.{Bool, cond, not, _&&_, and-false}
 use mathlib.Core.Logic.{⊎-elim}
 use mathlib.Core.List.{List}
-use Prim.Native.Nat.{ℕ, zero, suc, _+_, _*_, _-_, _≤_, _<_}
+use Prim.Native.Nat.{ℕ, _+_, _*_, _-_, _≤_, _<_}
 use native.Mathlib.Nat.{add-mul, mul-assoc, one-mul, mul-le-mul-right, add-sub-of-le, eq-or-lt-of-le}
 use native.Mathlib.Numerals.{add-one}
 use native.Mathlib.Omega.{arith}
@@ -19,7 +19,7 @@ use Rattle.model.specs.declared.Size.{Size}
 use Rattle.model.proofs.Xor.{⊕-zero}
 use Rattle.model.proofs.Fold.{xsum-ext, lt-or-le}
 use Rattle.model.proofs.Grid.{byte-whole, array-is, array-length, array-at, by-disk, disk-below}
-use Rattle.xor.specs.Strided.{strided, stored, filled, cancelled}
+use Rattle.xor.specs.Strided.{strided, stored, filled}
 use Rattle.xor.proofs.Stored.{length-stored, getD-stored, getD-before, getD-after}
 
 -- Two arrays with the same bytes on every disk are the same.

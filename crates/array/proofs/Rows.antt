@@ -1,25 +1,25 @@
 -- The two halves of a seal: the row parities row by row, then the last row as the sum of the others.
 -- Assumes nothing.
 use mathlib.Core.Path.{_≡_, refl, sym, _∙_, ap, ap₂}
-use mathlib.Core.Bool.{Bool, true, false, cond, not, _&&_, and-false}
+use mathlib.Core.Bool.{Bool, true, false, cond, _&&_, and-false}
 use mathlib.Core.Logic.{⊎-elim}
 use mathlib.Core.List.{List}
-use Prim.Native.Nat.{ℕ, suc, _+_, _*_, _-_, _/_, _%_, _≤_, _<_}
+use Prim.Native.Nat.{ℕ, suc, _+_, _*_, _/_, _%_, _≤_, _<_}
 use native.Mathlib.Nat.{le-refl, le-of-lt, eq-or-lt-of-le, one-mul, zero-mul, suc-mul, add-mul, mul-assoc, mul-le-mul-right}
 use native.Mathlib.Omega.{arith}
-use borrow.Author.Tests.{eq-eqb, ne-eqb, eqb-true, le-leb, lt-leb, lt-ltb, le-ltb}
+use borrow.Author.Tests.{eq-eqb, ne-eqb, le-leb, lt-leb, lt-ltb, le-ltb}
 use lib.Arith.{digits-lt}
-use lib.Dec.{eqb, leb, ltb}
-use lib.ListN.{length, getD}
-use Rattle.model.specs.Fold.{xsum, gate}
+use lib.Dec.{eqb, ltb}
+use lib.ListN.{length}
+use Rattle.model.specs.Fold.{xsum}
 use Rattle.model.specs.Stripes.{whole, byte}
-use Rattle.model.specs.Grid.{rows, columns, across, disks, diskAt, arrayBytes, arrayOf}
+use Rattle.model.specs.Grid.{rows, columns, across, disks, diskAt, arrayBytes}
 use Rattle.model.specs.Equations.{cell, rowData, columnData}
 use Rattle.model.specs.Refusal.{refusal, arrayTests}
-use Rattle.model.specs.Array.{sealStatus, sealed, sealedByte}
+use Rattle.model.specs.Array.{sealStatus, encoded, encodedByte}
 use Rattle.model.specs.declared.Size.{Size}
 use Rattle.model.proofs.Fold.{xsum-ext, lt-or-le}
-use Rattle.model.proofs.Grid.{Fits, disks-bound, array-length, byte-arrayOf, by-disk, row-of, column-of, disk-below, column-inside, eqb-disk}
+use Rattle.model.proofs.Grid.{Fits, disks-bound, array-length, byte-arrayOf, row-of, column-of, disk-below, column-inside, eqb-disk}
 use Rattle.xor.specs.Strided.{filled, Spaced}
 use Rattle.array.specs.Parity.{rowSealed, rowsSealed, lastRowSealed}
 use Rattle.array.proofs.Blocks.{blocks-within, array-ext, cells-ext, array-self, others, xsum-but-last, filled-block, filled-blocks}
@@ -168,8 +168,8 @@ last-filled z B a e =
     (lt-or-le r (rows z)))
 
 -- The one half after the other is a seal.
-pub halves-seal : (z : Size) (B : ℕ) (a : List ℕ) → lastRowSealed z B (rowsSealed z B a (rows z)) ≡ sealed z B a
-unfolding lastRowSealed sealed sealedByte columnData cell
+pub halves-seal : (z : Size) (B : ℕ) (a : List ℕ) → lastRowSealed z B (rowsSealed z B a (rows z)) ≡ encoded z B a
+unfolding lastRowSealed encoded encodedByte columnData cell
 halves-seal z B a =
     cells-ext z B _ _
     (λ r c p hr hc b.
@@ -192,4 +192,4 @@ halves-seal z B a =
     (λ m. simp (eq-eqb r (rows z) (omega arith), le-ltb c (columns z) l, le-ltb r (rows z) m) (xsum-ext (rows z) parity))
     (lt-or-le r (rows z)))
     (lt-or-le c (columns z))
-    ∙ sym (at-cell z (λ i j. sealedByte z B a i j p) r c hc))
+    ∙ sym (at-cell z (λ i j. encodedByte z B a i j p) r c hc))

@@ -15,11 +15,11 @@ use lib.Seq.{getD-set-same, getD-set-other}
 use Rattle.model.specs.Fold.{_⊕_}
 use Rattle.model.specs.Stripes.{whole, byte}
 use Rattle.model.specs.Grid.{rows, columns, across, disks, diskAt, isData, arrayBytes, arrayOf}
-use Rattle.model.specs.Array.{guards, writtenByte, written}
+use Rattle.model.specs.Array.{isParityOf, writtenByte, written}
 use Rattle.model.specs.declared.Size.{Size}
 use Rattle.model.proofs.Fold.{by-cases}
 use Rattle.model.proofs.Grid.{disk-is, disk-below, data-row, data-column, data-below, byte-whole, array-length, array-at, array-is}
-use Rattle.model.proofs.Write.{WriteFits, guards-no-data}
+use Rattle.model.proofs.Write.{WriteFits, parity-no-data}
 use Rattle.array.proofs.Blocks.{array-ext, block-within}
 
 -- ---- the loop in the code's own terms
@@ -99,9 +99,9 @@ module _ (z : Size) (d : ℕ) (isdata : isData z d ≡ true) where
   S-below = disk-below z (rows z) (columns z) (le-refl (rows z)) (le-refl (columns z))
 
   -- The disk itself is none of them.
-  guards-self : guards z d d ≡ false
-  guards-self =
-      ap (guards z d) (disk-is z d) ∙ guards-no-data z d isdata (d / across z) (d % across z) (data-row z d isdata) (data-column z d isdata)
+  parity-self : isParityOf z d d ≡ false
+  parity-self =
+      ap (isParityOf z d) (disk-is z d) ∙ parity-no-data z d isdata (d / across z) (d % across z) (data-row z d isdata) (data-column z d isdata)
 
 -- ---- one turn
 -- What four stores leave, of which the first is at no other's place and the others store v wherever they hit.
@@ -153,12 +153,12 @@ module _ (z : Size) (B : ℕ) (a : List ℕ) (d : ℕ) (new : List ℕ) where
 
   module _ (isdata : isData z d ≡ true) where
     at-place : (i e : ℕ) → afterStores i e true (partlyByte i e i) ≡ partlyByte (suc i) e i
-    unfolding afterStores partlyByte writtenByte guards added
+    unfolding afterStores partlyByte writtenByte isParityOf added
     at-place i e =
         let hit : (x : ℕ) → eqb e x ≡ true → added i x ≡ added i e = λ x h. ap (added i) (sym (eqb-true e x h)) in
         simp (and-true, le-ltb i i (le-refl i), lt-ltb i (suc i) (le-refl (suc i)))
         (last-stored (eqb e d) (eqb e (P z d)) (eqb e (Q z d)) (eqb e (S z)) _ _ _ _ _ _
-        (λ h. ap (guards z d) (eqb-true e d h) ∙ guards-self z d isdata) (hit (P z d)) (hit (Q z d)) (hit (S z)))
+        (λ h. ap (isParityOf z d) (eqb-true e d h) ∙ parity-self z d isdata) (hit (P z d)) (hit (Q z d)) (hit (S z)))
 
     turn-byte : (i e p : ℕ) → afterStores i e (eqb p i) (partlyByte i e p) ≡ partlyByte (suc i) e p
     unfolding afterStores partlyByte

@@ -4,7 +4,7 @@ ghost use mathlib.Core.Bool.{not};
 ghost use Prim.Native.Nat.{_+_};
 ghost use lib.ListN.{length};
 ghost use Rattle.model.specs.Fold.{lowest};
-ghost use Rattle.model.specs.Stripes.{whole, clear};
+ghost use Rattle.model.specs.Stripes.{whole, sumsToZero};
 ghost use Rattle.model.specs.Grid.{rows, across, gridOf};
 ghost use Rattle.model.specs.Refusal.{refusal, arrayTests};
 use model::Size;
@@ -12,7 +12,7 @@ use model::Size;
 // The lowest such row, or the number of rows.
 pub fn lowest_row(size: Size, block: usize, array: &[u8]) -> usize
     requires { ⌜ refusal (arrayTests size block (length (now array))) ≡ 0 ⌝ }
-    ensures { λ r. ⌜ r ≡ lowest (rows size + 1) (λ s. not (clear (gridOf size) (whole block) (now (array .entry)) s)) ⌝ }
+    ensures { λ r. ⌜ r ≡ lowest (rows size + 1) (λ s. not (sumsToZero (gridOf size) (whole block) (now (array .entry)) s)) ⌝ }
 {
     let lines = layout::rows(size) + 1;
     let across = layout::across(size);
@@ -23,7 +23,7 @@ pub fn lowest_row(size: Size, block: usize, array: &[u8]) -> usize
 // The lowest such column, counted from 0, or the number of columns.
 pub fn lowest_column(size: Size, block: usize, array: &[u8]) -> usize
     requires { ⌜ refusal (arrayTests size block (length (now array))) ≡ 0 ⌝ }
-    ensures { λ r. ⌜ r ≡ lowest (across size) (λ c. not (clear (gridOf size) (whole block) (now (array .entry)) (16 + c))) ⌝ }
+    ensures { λ r. ⌜ r ≡ lowest (across size) (λ c. not (sumsToZero (gridOf size) (whole block) (now (array .entry)) (16 + c))) ⌝ }
 {
     let down = layout::rows(size) + 1;
     let across = layout::across(size);

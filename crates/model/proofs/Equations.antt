@@ -36,7 +36,7 @@ module _ (z : Size) (fits : sizeFits z ≡ true) (x : Stretch) (a : List ℕ) wh
   column-equation c l p = last-is-sum (rows z) _ (column-stripe z fits x a c l p)
 
   -- The equations make every sum zero, and where every sum is zero the equations hold.
-  sums-of-equations : Equations z x a → (s : ℕ) → s < gridOf z .lines → (p : ℕ) → p < x .width → stripeSum (gridOf z) x a s p ≡ 0
+  sums-of-equations : Equations z x a → (s : ℕ) → s < gridOf z .stripeBound → (p : ℕ) → p < x .width → stripeSum (gridOf z) x a s p ≡ 0
   unfolding rowData columnData
   sums-of-equations e =
       by-stripe z (λ s. (p : ℕ) → p < x .width → stripeSum (gridOf z) x a s p ≡ 0)
@@ -48,7 +48,7 @@ module _ (z : Size) (fits : sizeFits z ≡ true) (x : Stretch) (a : List ℕ) wh
       column-equation c l p .1
       (below-suc (λ j. cell z x a p (rows z) j ≡ columnData z x a p j) (columns z) (e .columnParity p b) (e .superparityOfRows p b) c (suc-le-suc l)))
 
-  equations-of-sums : ((s : ℕ) → s < gridOf z .lines → (p : ℕ) → p < x .width → stripeSum (gridOf z) x a s p ≡ 0) → Equations z x a
+  equations-of-sums : ((s : ℕ) → s < gridOf z .stripeBound → (p : ℕ) → p < x .width → stripeSum (gridOf z) x a s p ≡ 0) → Equations z x a
   unfolding rowData columnData
   equations-of-sums h =
       let row : (r : ℕ) → r ≤ rows z → (p : ℕ) → p < x .width → cell z x a p r (columns z) ≡ rowData z x a p r =
@@ -62,5 +62,5 @@ module _ (z : Size) (fits : sizeFits z ≡ true) (x : Stretch) (a : List ℕ) wh
         superparityOfColumns = λ p b. row (rows z) (le-refl (rows z)) p b;
       }
 
-  pub equations-iff-sums : Equations z x a ↔ ((s : ℕ) → s < gridOf z .lines → (p : ℕ) → p < x .width → stripeSum (gridOf z) x a s p ≡ 0)
+  pub equations-iff-sums : Equations z x a ↔ ((s : ℕ) → s < gridOf z .stripeBound → (p : ℕ) → p < x .width → stripeSum (gridOf z) x a s p ≡ 0)
   equations-iff-sums = (sums-of-equations, equations-of-sums)

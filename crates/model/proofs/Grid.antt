@@ -166,17 +166,17 @@ pub gridOf-two : (z : Size) → sizeFits z ≡ true → TwoStripes (gridOf z)
 unfolding gridOf
 gridOf-two z fits = let f : Fits z = size-fits z fits in grid-two (rows z) (columns z) 16 (omega arith)
 
-pub row-line : (z : Size) → Fits z → (r : ℕ) → r ≤ rows z → r < gridOf z .lines
+pub row-line : (z : Size) → Fits z → (r : ℕ) → r ≤ rows z → r < gridOf z .stripeBound
 unfolding gridOf grid
 row-line z fits r l = omega arith
 
-pub column-line : (z : Size) (c : ℕ) → c ≤ columns z → 16 + c < gridOf z .lines
+pub column-line : (z : Size) (c : ℕ) → c ≤ columns z → 16 + c < gridOf z .stripeBound
 unfolding gridOf grid
 column-line z c l = omega arith
 
 pub by-stripe : (z : Size) (P : ℕ → Type 0)
     → ((r : ℕ) → r ≤ rows z → P r) → ((s : ℕ) → rows z < s → s < 16 → P s) → ((c : ℕ) → c ≤ columns z → P (16 + c))
-    → (s : ℕ) → s < gridOf z .lines → P s
+    → (s : ℕ) → s < gridOf z .stripeBound → P s
 unfolding gridOf grid
 by-stripe z P row between column s l = go (decLe s (rows z)) (decLt s 16)
   where

@@ -6,5 +6,6 @@ pub mod Refusal
 pub mod Seal
 pub mod Check
 pub mod Write
+pub mod Accept
 pub mod Demand2
 pub mod Cases

@@ -12,7 +12,7 @@ use Rattle.model.specs.Fold.{xsum}
 use Rattle.model.specs.Stripes.{whole, byte}
 use Rattle.model.specs.Grid.{rows, columns, across, diskAt, isData, arrayBytes}
 use Rattle.model.specs.Equations.{cell, rowData, columnData, Equations}
-use Rattle.model.specs.Array.{sealedByte, sealed, sealStatus, sealArray}
+use Rattle.model.specs.Array.{encodedByte, encoded, sealStatus, sealArray}
 use Rattle.model.specs.declared.Size.{Size}
 use Rattle.model.proofs.Fold.{below-suc, xsum-ext, xsum-swap, xsum-byte}
 use Rattle.model.proofs.Refusal.{given-accepted, ArrayFits, array-fits}
@@ -23,13 +23,13 @@ pub seal-fits : (z : Size) (B : ℕ) (a : List ℕ) → sealStatus z B a ≡ 0 �
 unfolding sealStatus
 seal-fits z B a ok = array-fits z B (length a) ok
 
-pub seal-is : (z : Size) (B : ℕ) (a : List ℕ) → sealStatus z B a ≡ 0 → sealArray z B a ≡ sealed z B a
+pub seal-is : (z : Size) (B : ℕ) (a : List ℕ) → sealStatus z B a ≡ 0 → sealArray z B a ≡ encoded z B a
 unfolding sealArray
 seal-is z B a ok = given-accepted (sealStatus z B a) _ _ ok
 
 -- Array b has the bytes that sealing a gives; it has the data of a.
 abbrev pub Has : Size → ℕ → (a b : List ℕ) → Type 0
-Has z B a b = (r c : ℕ) → r ≤ rows z → c ≤ columns z → (p : ℕ) → p < B → cell z (whole B) b p r c ≡ sealedByte z B a r c p
+Has z B a b = (r c : ℕ) → r ≤ rows z → c ≤ columns z → (p : ℕ) → p < B → cell z (whole B) b p r c ≡ encodedByte z B a r c p
 
 abbrev pub Same : Size → ℕ → (a b : List ℕ) → Type 0
 Same z B a b = (r c : ℕ) → r < rows z → c < columns z → (p : ℕ) → p < B → cell z (whole B) b p r c ≡ cell z (whole B) a p r c
@@ -46,28 +46,28 @@ module _ (z : Size) (B : ℕ) (a b : List ℕ) (same : Same z B a b) where
 
 module _ (z : Size) (B : ℕ) (a : List ℕ) where
   -- The byte that sealing gives a data disk, P of a row, Q of a column, and S.
-  byte-data : (r c p : ℕ) → r < rows z → c < columns z → sealedByte z B a r c p ≡ cell z (whole B) a p r c
-  unfolding sealedByte cell
+  byte-data : (r c p : ℕ) → r < rows z → c < columns z → encodedByte z B a r c p ≡ cell z (whole B) a p r c
+  unfolding encodedByte cell
   byte-data r c p l k = rw (lt-ltb r (rows z) l, lt-ltb c (columns z) k)
 
-  byte-P : (r p : ℕ) → r < rows z → sealedByte z B a r (columns z) p ≡ rowData z (whole B) a p r
-  unfolding sealedByte
+  byte-P : (r p : ℕ) → r < rows z → encodedByte z B a r (columns z) p ≡ rowData z (whole B) a p r
+  unfolding encodedByte
   byte-P r p l = rw (lt-ltb r (rows z) l, le-ltb (columns z) (columns z) (le-refl (columns z)))
 
-  byte-Q : (c p : ℕ) → c < columns z → sealedByte z B a (rows z) c p ≡ columnData z (whole B) a p c
-  unfolding sealedByte
+  byte-Q : (c p : ℕ) → c < columns z → encodedByte z B a (rows z) c p ≡ columnData z (whole B) a p c
+  unfolding encodedByte
   byte-Q c p k = rw (lt-ltb c (columns z) k, le-ltb (rows z) (rows z) (le-refl (rows z)))
 
-  byte-S : (p : ℕ) → sealedByte z B a (rows z) (columns z) p ≡ xsum (rows z) (rowData z (whole B) a p)
-  unfolding sealedByte
+  byte-S : (p : ℕ) → encodedByte z B a (rows z) (columns z) p ≡ xsum (rows z) (rowData z (whole B) a p)
+  unfolding encodedByte
   byte-S p = rw (le-ltb (columns z) (columns z) (le-refl (columns z)), le-ltb (rows z) (rows z) (le-refl (rows z)))
 
   -- The sealed array has these bytes.
-  has-sealed : Has z B a (sealed z B a)
-  unfolding cell sealed
+  has-sealed : Has z B a (encoded z B a)
+  unfolding cell encoded
   has-sealed r c l k p h =
       let w : c < across z = column-inside z c k in
-      byte-arrayOf z B _ (diskAt z r c) p (disk-below z r c l k) h ∙ ap₂ (λ (i j : ℕ). sealedByte z B a i j p) (row-of z r c w) (column-of z r c w)
+      byte-arrayOf z B _ (diskAt z r c) p (disk-below z r c l k) h ∙ ap₂ (λ (i j : ℕ). encodedByte z B a i j p) (row-of z r c w) (column-of z r c w)
 
   module _ (b : List ℕ) where
     -- What has these bytes has the data and keeps the equations.
@@ -96,7 +96,7 @@ module _ (z : Size) (B : ℕ) (a : List ℕ) where
     bytes-of-equations : Same z B a b → Equations z (whole B) b → Has z B a b
     unfolding whole
     bytes-of-equations same e r c l k p h =
-        let Good : ℕ → ℕ → Type 0 = λ r c. cell z (whole B) b p r c ≡ sealedByte z B a r c p in
+        let Good : ℕ → ℕ → Type 0 = λ r c. cell z (whole B) b p r c ≡ encodedByte z B a r c p in
         let parity : (r : ℕ) → r < rows z → cell z (whole B) b p r (columns z) ≡ rowData z (whole B) a p r =
         λ r w. e .rowParity p h r w ∙ same-row z B a b same r w p h in
         below-suc (λ r. Good r c) (rows z)
@@ -108,23 +108,23 @@ module _ (z : Size) (B : ℕ) (a : List ℕ) where
         c (suc-le-suc k))
         r (suc-le-suc l)
 
-    pub sealed-exact : length b ≡ arrayBytes z B → Same z B a b → Equations z (whole B) b → b ≡ sealed z B a
-    unfolding sealed cell
-    sealed-exact long same e =
+    pub encoded-exact : length b ≡ arrayBytes z B → Same z B a b → Equations z (whole B) b → b ≡ encoded z B a
+    unfolding encoded cell
+    encoded-exact long same e =
         array-is z B _ b long (λ d p l h.
         sym (byte-whole B b d p) ∙ ap (λ (k : ℕ). byte (whole B) b k p) (disk-is z d)
         ∙ bytes-of-equations same e (d / across z) (d % across z) (row-within z d l) (column-within z d) p h)
 
   -- A sealed array has the right length, the data and the equations.
-  pub sealed-length : length (sealed z B a) ≡ arrayBytes z B
-  unfolding sealed
-  sealed-length = array-length z B _
+  pub encoded-length : length (encoded z B a) ≡ arrayBytes z B
+  unfolding encoded
+  encoded-length = array-length z B _
 
-  pub sealed-same : Same z B a (sealed z B a)
-  sealed-same = data-of-bytes (sealed z B a) has-sealed
+  pub encoded-same : Same z B a (encoded z B a)
+  encoded-same = data-of-bytes (encoded z B a) has-sealed
 
-  pub sealed-equations : Equations z (whole B) (sealed z B a)
-  sealed-equations = equations-of-bytes (sealed z B a) has-sealed
+  pub encoded-equations : Equations z (whole B) (encoded z B a)
+  encoded-equations = equations-of-bytes (encoded z B a) has-sealed
 
   -- Where all bytes of an array are below 256, so are those of the sealed array.
   module _ (small : (i : ℕ) → i < length a → getD a i 0 < 256) where
@@ -136,8 +136,8 @@ module _ (z : Size) (B : ℕ) (a : List ℕ) where
     unfolding columnData cell
     small-column p c = xsum-byte (rows z) (λ r l. small-byte a small (whole B) (diskAt z r c) p)
 
-    small-sealedByte : (r c p : ℕ) → sealedByte z B a r c p < 256
-    unfolding sealedByte
+    small-sealedByte : (r c p : ℕ) → encodedByte z B a r c p < 256
+    unfolding encodedByte
     small-sealedByte r c p =
         choose (ltb c (columns z)) (choose (ltb r (rows z)) (small-byte a small (whole B) (diskAt z r c) p) (small-column p c))
         (choose (ltb r (rows z)) (small-row p r) (xsum-byte (rows z) (λ i l. small-row p i)))
@@ -146,9 +146,9 @@ module _ (z : Size) (B : ℕ) (a : List ℕ) where
         choose true h k = h
         choose false h k = k
 
-    pub sealed-small : (i : ℕ) → i < length (sealed z B a) → getD (sealed z B a) i 0 < 256
-    unfolding sealed
-    sealed-small = array-all z B _ (λ v. v < 256) (λ d p l h. small-sealedByte (d / across z) (d % across z) p)
+    pub encoded-small : (i : ℕ) → i < length (encoded z B a) → getD (encoded z B a) i 0 < 256
+    unfolding encoded
+    encoded-small = array-all z B _ (λ v. v < 256) (λ d p l h. small-sealedByte (d / across z) (d % across z) p)
 
 -- The data are the same in every data row and column if and only if they are on every data disk.
 module _ (z : Size) (B : ℕ) (a b : List ℕ) where

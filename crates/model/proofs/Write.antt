@@ -15,14 +15,14 @@ use Rattle.model.specs.Stripes.{Layout, whole, byte, sumOver, stripeSum}
 use Rattle.model.specs.Grid.{rows, columns, across, gridOf, disks, diskAt, isData, arrayBytes}
 use Rattle.model.specs.Equations.{cell, Equations}
 use Rattle.model.specs.Refusal.{_unless_, refusal, arrayTests}
-use Rattle.model.specs.Array.{writeTests, guards, writtenByte, written, replaced, writeStatus, writeArray, sealed, sealStatus}
+use Rattle.model.specs.Array.{writeTests, isParityOf, writtenByte, written, replaced, writeStatus, writeArray, encoded, sealStatus}
 use Rattle.model.specs.declared.Size.{Size}
 use Rattle.model.proofs.Xor.{⊕-self, ⊕-zero, ⊕-cancel}
 use Rattle.model.proofs.Fold.{xsum-ext, xsum-⊕, xsum-only, gate-⊕}
-use Rattle.model.proofs.Grid.{Fits, size-fits, row-over, column-over, empty-over, grid-disks, by-stripe, disk-is, disk-below, eqb-disk, data-row, data-column, array-length, byte-arrayOf}
+use Rattle.model.proofs.Grid.{Fits, size-fits, row-over, column-over, empty-over, grid-disks, by-stripe, disk-is, disk-below, eqb-disk, data-row, data-column, data-below, array-length, byte-arrayOf}
 use Rattle.model.proofs.Equations.{equations-iff-sums}
 use Rattle.model.proofs.Refusal.{given-accepted, passed, passes, fails, refused-first, ArrayFits, array-tests, array-passed, array-accepted}
-use Rattle.model.proofs.Seal.{Same, sealed-exact}
+use Rattle.model.proofs.Seal.{Same, encoded-exact}
 
 -- A write that is not refused has passed its tests, and makes the written array.
 pub record WriteFits (z : Size) (B len d dataLen : ℕ) : Type 0 where
@@ -92,13 +92,13 @@ distribute false false x y = refl
 
 -- The four disks that writing data disk d changes: they stand in d's row or the last, and in d's column or the last.
 changed : Size → (d e : ℕ) → Bool
-changed z d e = eqb e d || guards z d e
+changed z d e = eqb e d || isParityOf z d e
 
 module _ (z : Size) (d : ℕ) (isdata : isData z d ≡ true) where
-  guards-at : (r c : ℕ) → c ≤ columns z
-      → guards z d (diskAt z r c) ≡ ((eqb r (d / across z) && eqb c (columns z)) || ((eqb r (rows z) && eqb c (d % across z)) || (eqb r (rows z) && eqb c (columns z))))
-  unfolding guards
-  guards-at r c k =
+  parity-at : (r c : ℕ) → c ≤ columns z
+      → isParityOf z d (diskAt z r c) ≡ ((eqb r (d / across z) && eqb c (columns z)) || ((eqb r (rows z) && eqb c (d % across z)) || (eqb r (rows z) && eqb c (columns z))))
+  unfolding isParityOf
+  parity-at r c k =
       let j : d % across z ≤ columns z = le-of-lt (data-column z d isdata) in
       let last : columns z ≤ columns z = le-refl (columns z) in
       rw (eqb-disk z r c (d / across z) (columns z) k last, eqb-disk z r c (rows z) (d % across z) k j, eqb-disk z r c (rows z) (columns z) k last)
@@ -109,11 +109,11 @@ module _ (z : Size) (d : ℕ) (isdata : isData z d ≡ true) where
   changed-at r c k =
       ap₂ (λ (s t : Bool). s || t)
       (ap (λ (e : ℕ). eqb (diskAt z r c) e) (disk-is z d) ∙ eqb-disk z r c _ _ k (le-of-lt (data-column z d isdata)))
-      (guards-at r c k)
+      (parity-at r c k)
       ∙ distribute (eqb r (d / across z)) (eqb r (rows z)) (eqb c (d % across z)) (eqb c (columns z))
 
   -- On each stripe what they change cancels.
-  cancels : Fits z → (v s : ℕ) → s < gridOf z .lines → sumOver (gridOf z) (λ e. gate (changed z d e) v) s ≡ 0
+  cancels : Fits z → (v s : ℕ) → s < gridOf z .stripeBound → sumOver (gridOf z) (λ e. gate (changed z d e) v) s ≡ 0
   unfolding gate across
   cancels fits v =
       by-stripe z (λ s. sumOver (gridOf z) (λ e. gate (changed z d e) v) s ≡ 0)
@@ -127,16 +127,16 @@ module _ (z : Size) (d : ℕ) (isdata : isData z d ≡ true) where
       ∙ two-cancel (rows z) (d / across z) (λ t. gate (t && (eqb c (d % across z) || eqb c (columns z))) v) (data-row z d isdata) refl)
 
   -- A data disk is none of P, Q and S.
-  pub guards-no-data : (r c : ℕ) → r < rows z → c < columns z → guards z d (diskAt z r c) ≡ false
-  guards-no-data r c l k =
-      guards-at r c (le-of-lt k)
+  pub parity-no-data : (r c : ℕ) → r < rows z → c < columns z → isParityOf z d (diskAt z r c) ≡ false
+  parity-no-data r c l k =
+      parity-at r c (le-of-lt k)
       ∙ (rw (ne-eqb c (columns z) (omega arith), ne-eqb r (rows z) (omega arith)) (ap (λ (t : Bool). t || false) (and-false (eqb r (d / across z)))))
 
 module _ (z : Size) (B : ℕ) (a : List ℕ) (d : ℕ) (new : List ℕ) where
   -- Writing adds the difference of the blocks on the four disks.
   writtenByte-is : (e p : ℕ) → writtenByte z B a d new e p ≡ byte (whole B) a e p ⊕ gate (changed z d e) (byte (whole B) a d p ⊕ getD new p 0)
   unfolding writtenByte changed gate
-  writtenByte-is e p = go (eqb e d) (guards z d e) refl
+  writtenByte-is e p = go (eqb e d) (isParityOf z d e) refl
     where
       go : (s t : Bool) → eqb e d ≡ s
           → cond s (getD new p 0) (cond t (byte (whole B) a e p ⊕ (byte (whole B) a d p ⊕ getD new p 0)) (byte (whole B) a e p))
@@ -153,7 +153,7 @@ module _ (z : Size) (B : ℕ) (a : List ℕ) (d : ℕ) (new : List ℕ) where
   written-length = array-length z B _
 
   -- Every stripe's sum is kept.
-  pub written-sum : WriteFits z B (length a) d (length new) → (s : ℕ) → s < gridOf z .lines → (p : ℕ) → p < B
+  pub written-sum : WriteFits z B (length a) d (length new) → (s : ℕ) → s < gridOf z .stripeBound → (p : ℕ) → p < B
       → stripeSum (gridOf z) (whole B) (written z B a d new) s p ≡ stripeSum (gridOf z) (whole B) a s p
   unfolding stripeSum written
   written-sum fits s l p h =
@@ -167,13 +167,23 @@ module _ (z : Size) (B : ℕ) (a : List ℕ) (d : ℕ) (new : List ℕ) where
   unfolding cell replaced written writtenByte
   written-same isdata r c l k p h =
       let below : diskAt z r c < disks z = disk-below z r c (le-of-lt l) (le-of-lt k) in
-      byte-arrayOf z B _ (diskAt z r c) p below h ∙ (rw (guards-no-data z d isdata r c l k)) ∙ sym (byte-arrayOf z B _ (diskAt z r c) p below h)
+      byte-arrayOf z B _ (diskAt z r c) p below h ∙ (rw (parity-no-data z d isdata r c l k)) ∙ sym (byte-arrayOf z B _ (diskAt z r c) p below h)
 
-  pub written-sealed : WriteFits z B (length a) d (length new) → Equations z (whole B) a → written z B a d new ≡ sealed z B (replaced z B a d new)
+  -- The disk holds the new block, and a disk that is none of its parities keeps its block.
+  pub written-block : WriteFits z B (length a) d (length new) → (p : ℕ) → p < B → byte (whole B) (written z B a d new) d p ≡ getD new p 0
+  unfolding written writtenByte
+  written-block fits p h = byte-arrayOf z B _ d p (data-below z d (fits .disk)) h ∙ simp (eq-eqb d d refl)
+
+  pub written-others : (e : ℕ) → e < disks z → (e ≡ d → ⊥) → isParityOf z d e ≡ false → (p : ℕ) → p < B
+      → byte (whole B) (written z B a d new) e p ≡ byte (whole B) a e p
+  unfolding written writtenByte
+  written-others e l other none p h = byte-arrayOf z B _ e p l h ∙ simp (ne-eqb e d other, none)
+
+  pub written-sealed : WriteFits z B (length a) d (length new) → Equations z (whole B) a → written z B a d new ≡ encoded z B (replaced z B a d new)
   unfolding whole
   written-sealed fits e =
       let size = fits .array .size in
-      sealed-exact z B (replaced z B a d new) (written z B a d new) written-length (written-same (fits .disk))
+      encoded-exact z B (replaced z B a d new) (written z B a d new) written-length (written-same (fits .disk))
       (equations-iff-sums z size (whole B) (written z B a d new) .1 (λ s l p h.
       written-sum fits s l p h ∙ equations-iff-sums z size (whole B) a .0 e s l p h))
 

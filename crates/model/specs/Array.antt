@@ -2,11 +2,11 @@
 -- Assumes nothing.
 use mathlib.Core.Bool.{Bool, cond, not, _&&_, _||_}
 use mathlib.Core.List.{List, [], _∷_, _++_}
-use Prim.Native.Nat.{ℕ, _+_, _*_, _/_, _%_}
+use Prim.Native.Nat.{ℕ, _*_, _/_, _%_}
 use lib.Dec.{eqb, ltb}
 use lib.ListN.{length, getD}
 use Rattle.model.specs.Fold.{_⊕_, xsum, lowest}
-use Rattle.model.specs.Stripes.{Layout, whole, byte, clear}
+use Rattle.model.specs.Stripes.{whole, byte, sumsToZero}
 use Rattle.model.specs.Grid.{rows, columns, across, gridOf, disks, diskAt, isData, arrayOf, mapFits}
 use Rattle.model.specs.Equations.{rowData, columnData}
 use Rattle.model.specs.Refusal.{Test, _unless_, refusal, arrayTests}
@@ -16,35 +16,37 @@ use Rattle.model.specs.declared.Checked.the-variants.{Sealed, Unsealed, 
 
 -- ---- Seal
 
--- The byte that sealing gives the disk in row r and column c: data keeps its byte, P, Q and S are filled.
-unfoldable pub sealedByte : Size → ℕ → List ℕ → (r c p : ℕ) → ℕ
-sealedByte z B a r c p =
+-- The byte that sealing gives the disk in row r and column c: data keeps its byte, P, Q and S are filled. The array of these
+-- bytes is the data encoded.
+unfoldable pub encodedByte : Size → ℕ → List ℕ → (r c p : ℕ) → ℕ
+encodedByte z B a r c p =
     cond (ltb c (columns z))
     (cond (ltb r (rows z)) (byte (whole B) a (diskAt z r c) p) (columnData z (whole B) a p c))
     (cond (ltb r (rows z)) (rowData z (whole B) a p r) (xsum (rows z) (rowData z (whole B) a p)))
 
-unfoldable pub sealed : Size → ℕ → List ℕ → List ℕ
-sealed z B a = arrayOf z B (λ d p. sealedByte z B a (d / across z) (d % across z) p)
+unfoldable pub encoded : Size → ℕ → List ℕ → List ℕ
+encoded z B a = arrayOf z B (λ d p. encodedByte z B a (d / across z) (d % across z) p)
 
 unfoldable pub sealStatus : Size → ℕ → List ℕ → ℕ
 sealStatus z B a = refusal (arrayTests z B (length a))
 
 unfoldable pub sealArray : Size → ℕ → List ℕ → List ℕ
-sealArray z B a = cond (eqb (sealStatus z B a) 0) (sealed z B a) a
+sealArray z B a = cond (eqb (sealStatus z B a) 0) (encoded z B a) a
 
 -- ---- Check
 
 -- The lowest stripe whose sum is not zero at some place, or the bound on stripe numbers where there is none.
 unfoldable pub lowestUnsealed : Size → ℕ → List ℕ → ℕ
-lowestUnsealed z B a = lowest (gridOf z .lines) (λ s. not (clear (gridOf z) (whole B) a s))
+lowestUnsealed z B a = lowest (gridOf z .stripeBound) (λ s. not (sumsToZero (gridOf z) (whole B) a s))
 
 unfoldable pub checked : Size → ℕ → List ℕ → Checked
 checked z B a =
     cond (eqb (refusal (arrayTests z B (length a))) 0)
-    (cond (ltb (lowestUnsealed z B a) (gridOf z .lines)) (Unsealed (lowestUnsealed z B a)) Sealed)
+    (cond (ltb (lowestUnsealed z B a) (gridOf z .stripeBound)) (Unsealed (lowestUnsealed z B a)) Sealed)
     (Refused (refusal (arrayTests z B (length a))))
 
--- The number of an answer: 0 sealed, a refusal's own, and 64 for a stripe whose sum is not zero.
+-- The number of an answer: 0 sealed, a refusal's own, and 64 for a stripe whose sum is not zero. Paper 01 gives that answer
+-- no number; 64 is the C interface's, past the refusals of all editions.
 unfoldable pub checkStatus : Checked → ℕ
 checkStatus Sealed = 0
 checkStatus (Unsealed s) = 64
@@ -62,15 +64,15 @@ unfoldable pub writeTests : Size → (B len d dataLen : ℕ) → List Test
 writeTests z B len d dataLen = arrayTests z B len ++ (8 unless isData z d ∷ 9 unless eqb dataLen B ∷ [])
 
 -- Disk e is P, Q or S of data disk d.
-unfoldable pub guards : Size → (d e : ℕ) → Bool
-guards z d e =
+unfoldable pub isParityOf : Size → (d e : ℕ) → Bool
+isParityOf z d e =
     eqb e (diskAt z (d / across z) (columns z)) || (eqb e (diskAt z (rows z) (d % across z)) || eqb e (diskAt z (rows z) (columns z)))
 
 -- The new block is stored, and P, Q and S change by the difference.
 unfoldable pub writtenByte : Size → ℕ → List ℕ → ℕ → List ℕ → (e p : ℕ) → ℕ
 writtenByte z B a d new e p =
     cond (eqb e d) (getD new p 0)
-    (cond (guards z d e) (byte (whole B) a e p ⊕ (byte (whole B) a d p ⊕ getD new p 0)) (byte (whole B) a e p))
+    (cond (isParityOf z d e) (byte (whole B) a e p ⊕ (byte (whole B) a d p ⊕ getD new p 0)) (byte (whole B) a e p))
 
 unfoldable pub written : Size → ℕ → List ℕ → ℕ → List ℕ → List ℕ
 written z B a d new = arrayOf z B (writtenByte z B a d new)

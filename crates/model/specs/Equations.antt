@@ -1,5 +1,5 @@
--- The parity equations of the public description (source 001), as it prints them: P is the sum of its row's data, Q of its
--- column's data, and S = P₁ ⊕ P₂ ⊕ .. = Q₁ ⊕ Q₂ ⊕ ..
+-- The parity equations of the public description (source 001): P and Q are the parities of the horizontal and the vertical
+-- RAID level 4 stripes, so the sum of their row's and their column's data, and S = P₁ ⊕ P₂ ⊕ .. = Q₁ ⊕ Q₂ ⊕ .., as it prints.
 -- Assumes nothing.
 use mathlib.Core.Path.{_≡_}
 use mathlib.Core.List.{List}
@@ -13,7 +13,7 @@ use Rattle.model.specs.declared.Size.{Size}
 unfoldable pub cell : Size → Stretch → List ℕ → ℕ → ℕ → ℕ → ℕ
 cell z x a p r c = byte x a (diskAt z r c) p
 
--- Sums of the data of a row, of the data of a column.
+-- The sum of a row without its last disk, and of a column without its last disk: of their data.
 unfoldable pub rowData : Size → Stretch → List ℕ → ℕ → ℕ → ℕ
 rowData z x a p r = xsum (columns z) (λ c. cell z x a p r c)
 

@@ -1,11 +1,11 @@
 -- Sums, tests and lists over the numbers below a bound: what the other definitions are written with.
 -- Assumes nothing.
-use mathlib.Core.Bool.{Bool, true, false, cond, not, _&&_}
+use mathlib.Core.Bool.{Bool, true, false, cond, _&&_}
 use mathlib.Core.List.{List, [], _∷_}
 use Prim.Native.Nat.{ℕ, zero, suc}
 use lib.Bits.{bitXor}
 
--- The exclusive or of two bytes.
+-- The exclusive or, bit by bit.
 infixl 65 _⊕_
 unfoldable pub _⊕_ : ℕ → ℕ → ℕ
 a ⊕ b = bitXor a b

@@ -15,7 +15,7 @@ unfoldable pub grid : (r c base : ℕ) → Layout
 grid r c base =
     record {
       disks = (r + 1) * (c + 1);
-      lines = base + (c + 1);
+      stripeBound = base + (c + 1);
       through = λ d. (d / (c + 1)) ∷ (base + d % (c + 1)) ∷ [];
     }
 

@@ -10,10 +10,11 @@ use lib.ListN.{length, getD}
 use Rattle.model.specs.Fold.{xsum, gate, every}
 
 -- Disks (paper 01: cards) and stripes (paper 01: lines), both numbered from 0. `through d` lists the stripes of disk d,
--- lowest first. A number below `lines` that no disk lists is an empty stripe.
+-- lowest first. Stripe numbers lie below `stripeBound`; one
+-- that no disk lists is an empty stripe.
 pub record Layout : Type 0 where
   pub disks : ℕ
-  pub lines : ℕ
+  pub stripeBound : ℕ
   pub through : ℕ → List ℕ
 
 -- Every disk lies on just two stripes.
@@ -22,7 +23,7 @@ pub record TwoStripes (L : Layout) : Type 0 where
   pub high : ℕ → ℕ
   pub two : (d : ℕ) → d < L .disks → L .through d ≡ low d ∷ high d ∷ []
   pub order : (d : ℕ) → d < L .disks → low d < high d
-  pub bound : (d : ℕ) → d < L .disks → high d < L .lines
+  pub bound : (d : ℕ) → d < L .disks → high d < L .stripeBound
 
 unfoldable pub among : ℕ → List ℕ → Bool
 among s [] = false
@@ -32,7 +33,8 @@ among s (t ∷ ts) = eqb s t || among s ts
 unfoldable pub on : Layout → ℕ → ℕ → Bool
 on L d s = among s (L .through d)
 
--- A stretch of the block: `width` bytes from `offset` on, in blocks of `block` bytes.
+-- A stretch of the block: `width` bytes from `offset` on, in blocks of `block` bytes. It lies within the block where
+-- offset + width is at most block.
 pub record Stretch : Type 0 where
   pub block : ℕ
   pub offset : ℕ
@@ -55,11 +57,11 @@ unfoldable pub stripeSum : Layout → Stretch → List ℕ → ℕ → ℕ → �
 stripeSum L x a s p = sumOver L (λ d. byte x a d p) s
 
 -- The sum of stripe s is zero at every place: a test.
-unfoldable pub clear : Layout → Stretch → List ℕ → ℕ → Bool
-clear L x a s = every (x .width) (λ p. eqb (stripeSum L x a s p) 0)
+unfoldable pub sumsToZero : Layout → Stretch → List ℕ → ℕ → Bool
+sumsToZero L x a s = every (x .width) (λ p. eqb (stripeSum L x a s p) 0)
 
--- Paper 01: an array of the right length is sealed if every stripe's sum is zero at every place.
+-- Paper 01's sealed array: bytes, of the right length, with every stripe's sum zero at every place.
 pub record Codeword (L : Layout) (x : Stretch) (a : List ℕ) : Type 0 where
   pub sized : length a ≡ L .disks * x .block
   pub bytes : (i : ℕ) → i < length a → getD a i 0 < 256
-  pub sums : (s : ℕ) → s < L .lines → (p : ℕ) → p < x .width → stripeSum L x a s p ≡ 0
+  pub sums : (s : ℕ) → s < L .stripeBound → (p : ℕ) → p < x .width → stripeSum L x a s p ≡ 0

@@ -4,7 +4,7 @@ use mathlib.Core.Path.{_≡_, refl, sym, _∙_, ap, ap₂}
 use mathlib.Core.Bool.{Bool, true, false, not, _&&_, and-false}
 use mathlib.Core.Logic.{⊎-elim}
 use mathlib.Core.List.{List}
-use Prim.Native.Nat.{ℕ, zero, suc, _+_, _*_, _-_, _≤_, _<_}
+use Prim.Native.Nat.{ℕ, suc, _+_, _*_, _-_, _≤_, _<_}
 use native.Mathlib.Nat.{add-assoc, add-zero, zero-add, add-sub-of-le, mul-le-mul-right, suc-mul, eq-or-lt-of-le}
 use native.Mathlib.Numerals.{add-one}
 use native.Mathlib.Omega.{arith}
@@ -12,12 +12,11 @@ use borrow.Author.Tests.{eq-eqb, ne-eqb, eqb-true, eqb-false}
 use lib.Dec.{eqb}
 use lib.Bits.{bitXor, bitOr, bitAnd, or-add-and, and-le-l, and-le-r}
 use lib.ListN.{length, getD, set, replicate, length-replicate, getD-replicate}
-use lib.Seq.{ext-getD}
-use Rattle.model.specs.Fold.{_⊕_, xsum, gate, every, tabulate}
+use Rattle.model.specs.Fold.{_⊕_, xsum, gate, every}
 use Rattle.model.proofs.Xor.{⊕-zero}
-use Rattle.model.proofs.Fold.{xsum-ext, every-add, every-ext, length-tabulate, getD-tabulate, list-is, tabulate-ext, lt-or-le}
+use Rattle.model.proofs.Fold.{xsum-ext, every-add, every-ext, getD-tabulate, list-is, tabulate-ext, lt-or-le}
 use Rattle.xor.specs.Strided.{strided, sums, mixed, stored, filled, cancelled, Spaced}
-use Rattle.xor.proofs.Stored.{stored-is, stored-more, stored-next, stored-all, stored-ext, stored-none, length-stored, getD-before, getD-after}
+use Rattle.xor.proofs.Stored.{stored-more, stored-next, stored-all, stored-ext, stored-none, length-stored, getD-before, getD-after}
 
 -- ---- one more byte
 module _ (a : List ℕ) (first step skip k : ℕ) where

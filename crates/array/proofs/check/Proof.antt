@@ -1,6 +1,6 @@
 -- `array::check` meets its contract: the lowest row, or else the lowest column, is the lowest stripe.
 -- Assumes nothing.
-use mathlib.Core.Path.{_≡_, _∙_, sym, ap}
+use mathlib.Core.Path.{_∙_, sym, ap}
 use native.Mathlib.Omega.{arith}
 use borrow.Author.Needs.{needs}
 use lib.ListN.{length}

@@ -1,7 +1,6 @@
 -- `array::seal` meets its contract: a refusal keeps the array, and the two halves make a seal.
 -- Assumes nothing.
-use mathlib.Core.Path.{_≡_, _∙_, sym, ap}
-use mathlib.Core.List.{List}
+use mathlib.Core.Path.{_∙_, sym, ap}
 use borrow.Author.Needs.{needs}
 use Rattle.model.specs.Array.{sealStatus}
 use Rattle.model.proofs.Seal.{seal-is}

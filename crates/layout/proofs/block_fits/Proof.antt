@@ -1,6 +1,5 @@
 -- `layout::block_fits` meets its contract: each test is one of the definition's.
 -- Assumes nothing.
-use mathlib.Core.Bool.{_&&_}
 use borrow.Author.Tests.{lt-leb, le-leb}
 use Rattle.model.specs.Grid.{blockFits}
 use Rattle.layout.proofs.block_fits.Statement.{statement}

@@ -1,9 +1,8 @@
 -- `layout::disk_at` meets its contract.
 -- Assumes nothing.
-use mathlib.Core.Path.{_≡_, _∙_, ap}
+use mathlib.Core.Path.{ap}
 use Prim.Native.Nat.{ℕ, _+_, _*_}
 use native.Mathlib.Omega.{arith}
-use borrow.Author.Needs.{needs}
 use Rattle.model.specs.Grid.{diskAt}
 use Rattle.model.proofs.Grid.{size-fits, disks-bound, disk-below}
 use Rattle.layout.proofs.disk_at.Statement.{statement}

@@ -1,9 +1,8 @@
 -- `layout::refusal` meets its contract: each return is the first test that fails.
 -- Assumes nothing.
-use mathlib.Core.Path.{_≡_, _∙_, sym, ap}
-use native.Mathlib.Omega.{arith}
+use mathlib.Core.Path.{_∙_, sym}
 use borrow.Author.Needs.{needs}
-use borrow.Author.Tests.{not-true, not-false, eq-eqb, ne-eqb}
+use borrow.Author.Tests.{not-true, not-false, ne-eqb}
 use Rattle.model.specs.Refusal.{refusal, arrayTests}
 use Rattle.model.proofs.Refusal.{fails, passes, array-accepted}
 use Rattle.layout.proofs.refusal.Statement.{statement}

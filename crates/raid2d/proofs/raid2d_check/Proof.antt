@@ -1,6 +1,6 @@
 -- `raid2d::raid2d_check` meets its contract: each case of the answer has its number.
 -- Assumes nothing.
-use mathlib.Core.Path.{_≡_, _∙_, sym, ap}
+use mathlib.Core.Path.{_∙_, sym, ap}
 use borrow.Author.Needs.{needs}
 use Rattle.model.specs.Grid.{square}
 use Rattle.model.specs.Array.{checkStatus, checkStripe}

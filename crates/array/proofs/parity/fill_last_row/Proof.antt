@@ -1,13 +1,13 @@
 -- `array::parity::fill_last_row` meets its contract: what fill makes of the last row.
 -- Assumes nothing.
-use mathlib.Core.Path.{_≡_, _∙_, sym, ap, ap₂}
+use mathlib.Core.Path.{_∙_, ap₂}
 use Prim.Native.Nat.{ℕ, _+_, _*_}
 use native.Mathlib.Omega.{arith}
 use borrow.Author.Needs.{needs}
 use Rattle.model.proofs.Grid.{size-fits}
 use Rattle.model.proofs.Seal.{seal-fits}
 use Rattle.xor.specs.Strided.{filled}
-use Rattle.array.proofs.Rows.{last-spaced, last-filled, row-bytes}
+use Rattle.array.proofs.Rows.{last-spaced, last-filled}
 use Rattle.array.proofs.parity.fill_last_row.Statement.{statement}
 use Rattle.array.proofs.parity.fill_last_row.Tie as tie
 

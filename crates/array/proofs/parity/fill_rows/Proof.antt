@@ -2,12 +2,11 @@
 -- Assumes nothing.
 use mathlib.Core.Path.{_≡_, _∙_, sym, ap}
 use mathlib.Core.List.{List}
-use Prim.Native.Nat.{ℕ, _≤_, _-_, _+_}
+use Prim.Native.Nat.{ℕ, _≤_, _-_}
 use native.Mathlib.Omega.{arith}
 use borrow.Author.Needs.{needs}
 use lib.ListN.{length}
 use Rattle.model.specs.Grid.{rows}
-use Rattle.model.proofs.Grid.{size-fits}
 use Rattle.model.proofs.Seal.{seal-fits}
 use Rattle.array.specs.Parity.{rowSealed, rowsSealed}
 use Rattle.array.proofs.Rows.{rows-none, rows-next, rows-length, same-status}

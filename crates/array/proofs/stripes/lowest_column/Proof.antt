@@ -1,6 +1,6 @@
 -- `array::stripes::lowest_column` meets its contract: the sums of the columns are what is tested.
 -- Assumes nothing.
-use mathlib.Core.Path.{_≡_, _∙_}
+use mathlib.Core.Path.{_∙_}
 use Prim.Native.Nat.{_*_}
 use native.Mathlib.Nat.{zero-mul}
 use native.Mathlib.Omega.{arith}

@@ -1,13 +1,13 @@
 -- `xor::cancel::cancel1` meets its contract: the sums so far are all zero.
 -- Assumes nothing.
 use mathlib.Core.Path.{_≡_, _∙_, sym, ap, refl}
-use mathlib.Core.Bool.{Bool, true, false, _&&_, and-false}
-use Prim.Native.Nat.{ℕ, _≤_, _-_, _+_, _*_}
+use mathlib.Core.Bool.{true}
+use Prim.Native.Nat.{ℕ, _≤_, _-_, _+_}
 use native.Mathlib.Omega.{arith}
 use borrow.Author.Needs.{needs}
 use borrow.Author.Tests.{eq-eqb, ne-eqb}
 use Rattle.xor.specs.Strided.{cancelled}
-use Rattle.xor.proofs.Strided.{cancelled-none, cancelled-after, cancelled-fails, cancelled-by, cancelled-one}
+use Rattle.xor.proofs.Strided.{cancelled-none, cancelled-after, cancelled-fails, cancelled-one}
 use Rattle.xor.proofs.cancel.cancel1.Statement.{statement}
 use Rattle.xor.proofs.cancel.cancel1.Tie as tie
 

@@ -1,6 +1,6 @@
 -- `xor::cancel::lowest_nonzero` meets its contract: every sum so far is zero.
 -- Assumes nothing.
-use mathlib.Core.Path.{_≡_, _∙_, sym, ap, refl, subst}
+use mathlib.Core.Path.{_≡_, _∙_, sym, ap}
 use mathlib.Core.Bool.{true, not}
 use Prim.Native.Nat.{ℕ, _≤_, _<_, _-_, _*_}
 use native.Mathlib.Nat.{le-refl, not-suc-le-self, not-suc-le-zero}

@@ -1,7 +1,6 @@
 -- `xor::cancel::zero128` meets its contract: the bytes so far are all zero exactly if nothing was gathered.
 -- Assumes nothing.
 use mathlib.Core.Path.{_≡_, _∙_, refl, ap}
-use mathlib.Core.Bool.{Bool}
 use Prim.Native.Nat.{ℕ, _≤_, _-_}
 use native.Mathlib.Omega.{arith}
 use borrow.Author.Needs.{needs}

@@ -1,12 +1,11 @@
 -- `xor::fill::fill` meets its contract: the three stretches that are filled lie one behind the other.
 -- Assumes nothing.
-use mathlib.Core.Path.{_≡_, _∙_, sym, ap, refl, subst}
-use Prim.Native.Nat.{ℕ, _≤_, _-_, _+_, _*_, _/_, _%_}
+use mathlib.Core.Path.{_∙_, ap, refl}
+use Prim.Native.Nat.{ℕ, _+_, _*_, _/_, _%_}
 use native.Mathlib.Omega.{arith}
 use borrow.Author.Needs.{needs}
-use lib.ListN.{length}
-use Rattle.xor.specs.Strided.{filled, Spaced}
-use Rattle.xor.proofs.Strided.{length-filled, filled-then, spaced-later}
+use Rattle.xor.specs.Strided.{filled}
+use Rattle.xor.proofs.Strided.{filled-then, spaced-later}
 use Rattle.xor.proofs.fill.fill.Statement.{statement}
 use Rattle.xor.proofs.fill.fill.Tie as tie
 

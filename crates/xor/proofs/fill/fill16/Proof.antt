@@ -1,11 +1,10 @@
 -- `xor::fill::fill16` meets its contract: after each turn so many places more hold the sum.
 -- Assumes nothing.
-use mathlib.Core.Path.{_≡_, _∙_, sym, ap, refl}
-use mathlib.Core.List.{List}
+use mathlib.Core.Path.{_≡_, _∙_, ap, refl}
 use Prim.Native.Nat.{ℕ, _≤_, _-_, _+_, _*_}
 use native.Mathlib.Omega.{arith}
 use borrow.Author.Needs.{needs}
-use lib.ListN.{length, getD}
+use lib.ListN.{length}
 use Rattle.xor.specs.Strided.{filled}
 use Rattle.xor.proofs.Strided.{filled-none, length-filled, fill-next, sums-at}
 use Rattle.xor.proofs.fill.fill16.Statement.{statement}
