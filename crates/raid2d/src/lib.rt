@@ -1,4 +1,5 @@
-// The C interface: thin exports over the calls, on numbers and byte buffers. include/raid2d.h declares them.
+// The C interface: thin exports over the calls, on numbers, byte buffers and places for one number. include/raid2d.h declares
+// them.
 ghost use mathlib.Core.Path.{_≡_};
 ghost use Rattle.model.specs.Grid.{square};
 ghost use Rattle.model.specs.Array.{sealStatus, sealArray, checked, checkStatus, checkStripe, writeStatus, writeArray};

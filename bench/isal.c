@@ -1,0 +1,50 @@
+/* The peer that calls Intel's ISA-L. It wants aligned buffers, so it takes part where blocks are multiples of 32. */
+#include "peer.h"
+
+#include ISAL_HEADER
+
+typedef int xor_function(int vectors, int length, void **array);
+
+/* Applies a function of ISA-L to n + 1 stretches that stand `step` bytes apart; the last is the sum of the others. */
+static int over(xor_function *function, size_t n, const uint8_t *first, size_t step, size_t length)
+{
+    void *stretches[SIDE_MAX];
+    for (size_t k = 0; k <= n; k++)
+        stretches[k] = (void *)(first + k * step);
+    return function((int)(n + 1), (int)length, stretches);
+}
+
+static uint32_t seal_by(xor_function *function, size_t n, size_t block, uint8_t *array)
+{
+    size_t row = (n + 1) * block;
+    for (size_t r = 0; r < n; r++)
+        over(function, n, array + r * row, block, block);
+    over(function, n, array, row, row);
+    return 0;
+}
+
+uint32_t isal_seal(size_t n, size_t block, uint8_t *array, size_t array_len)
+{
+    (void)array_len;
+    return seal_by(xor_gen, n, block, array);
+}
+
+uint32_t isal_sse_seal(size_t n, size_t block, uint8_t *array, size_t array_len)
+{
+    (void)array_len;
+    return seal_by(xor_gen_sse, n, block, array);
+}
+
+uint32_t isal_check(size_t n, size_t block, const uint8_t *array, size_t array_len, size_t *stripe)
+{
+    size_t row = (n + 1) * block, r = 0, c = 0;
+    (void)array_len;
+    while (r <= n && over(xor_check, n, array + r * row, block, block) == 0)
+        r++;
+    if (r > n && over(xor_check, n, array, row, row) == 0)
+        return SEALED;
+    while (r > n && over(xor_check, n, array + c * block, row, block) == 0)
+        c++;
+    *stripe = r <= n ? r : FIRST_COLUMN + c;
+    return NOT_SEALED;
+}

@@ -1,0 +1,56 @@
+/* Compares, times and prints: one line for each call, size and peer. */
+#include "calls.h"
+#include "compare.h"
+#include "guards.h"
+#include "timing.h"
+
+#include <stdio.h>
+
+static void print_head(void)
+{
+    puts("time(library) / time(peer): above 1 the peer is faster.");
+    printf("Medians of %d samples, peers in turn in one process. Buffers are warm and not cleared.\n", SAMPLES);
+    puts("Peers test no argument. Check is timed on a sealed array.");
+    if (calls[SEAL].has(&peers[ISAL]))
+        puts("ISA-L: xor_gen and xor_check as it chooses them for this machine, where B is a multiple of 32.");
+    else
+        puts("ISA-L is not installed here: its rows are left out.");
+    puts("");
+}
+
+/* Times one call at one size and prints its lines. */
+static void measure(const struct call *call, struct input *input, double ratios[PEERS])
+{
+    double medians[PEERS];
+    time_peers(call, input, medians);
+    for (size_t p = LIBRARY + 1; p < PEERS; p++) {
+        ratios[p] = medians[p] > 0 ? medians[LIBRARY] / medians[p] : 0;
+        if (medians[p] > 0)
+            printf("%-6s n %2zu B %4zu  %-28s %6.2f\n", call->name, input->n, input->block, peers[p].name, ratios[p]);
+    }
+    fflush(stdout);
+}
+
+int main(void)
+{
+    static ratio_table ratios;
+    struct input input;
+    if (!peers_agree()) {
+        puts("Nothing is timed.");
+        return 1;
+    }
+    puts("All peers give the library's results.");
+    print_head();
+    input_open(&input);
+    for (size_t c = 0; c < CALLS; c++) {
+        for (size_t s = 0; s < calls[c].size_count; s++) {
+            input_resize(&input, calls[c].sizes[s]);
+            calls[c].prepare(&input, 0);
+            measure(&calls[c], &input, ratios[c][s]);
+        }
+    }
+    input_close(&input);
+    puts("");
+    warn(ratios);
+    return 0;
+}

@@ -1,0 +1,105 @@
+//! The Rust peer: slices and iterators, as one writes them in Rust, compiled for release.
+
+use std::slice::{from_raw_parts, from_raw_parts_mut};
+
+const FIRST_COLUMN: usize = 16;
+const NOT_SEALED: u32 = 64;
+/// Check sums this many bytes at a time.
+const STRETCH: usize = 256;
+
+fn xor_into(sum: &mut [u8], bytes: &[u8]) {
+    for (sum, byte) in sum.iter_mut().zip(bytes) {
+        *sum ^= byte;
+    }
+}
+
+/// Sets `sum` to the sum of the blocks, each as long as `sum`.
+fn sum_blocks(sum: &mut [u8], blocks: &[u8]) {
+    sum.fill(0);
+    for block in blocks.chunks_exact(sum.len()) {
+        xor_into(sum, block);
+    }
+}
+
+/// # Safety
+/// The array is valid for its length, which is that of n and block.
+#[no_mangle]
+pub unsafe extern "C" fn rust_seal(n: usize, block: usize, array: *mut u8, array_len: usize) -> u32 {
+    let array = from_raw_parts_mut(array, array_len);
+    let row_len = (n + 1) * block;
+    let (data_rows, last_row) = array.split_at_mut(n * row_len);
+    for row in data_rows.chunks_exact_mut(row_len) {
+        let (data, parity) = row.split_at_mut(n * block);
+        sum_blocks(parity, data);
+    }
+    sum_blocks(last_row, data_rows);
+    0
+}
+
+/// Whether the sum of a stripe, whose blocks begin `step` bytes apart, is zero at every place.
+fn is_zero(array: &[u8], first: usize, step: usize, count: usize, block: usize) -> bool {
+    (0..block).step_by(STRETCH).all(|at| {
+        let width = STRETCH.min(block - at);
+        let mut space = [0; STRETCH];
+        let sum = &mut space[..width];
+        for k in 0..count {
+            xor_into(sum, &array[first + k * step + at..][..width]);
+        }
+        sum.iter().fold(0, |any, byte| any | byte) == 0
+    })
+}
+
+/// # Safety
+/// The array is valid for its length, which is that of n and block; the stripe is valid.
+#[no_mangle]
+pub unsafe extern "C" fn rust_check(
+    n: usize,
+    block: usize,
+    array: *const u8,
+    array_len: usize,
+    stripe: *mut usize,
+) -> u32 {
+    let array = from_raw_parts(array, array_len);
+    let row_len = (n + 1) * block;
+    let row = (0..=n).find(|r| !is_zero(array, r * row_len, block, n + 1, block));
+    let column = || (0..=n).find(|c| !is_zero(array, c * block, row_len, n + 1, block)).map(|c| FIRST_COLUMN + c);
+    match row.or_else(column) {
+        Some(lowest) => {
+            *stripe = lowest;
+            NOT_SEALED
+        }
+        None => 0,
+    }
+}
+
+/// # Safety
+/// The array and the data are valid for their lengths, which are those of n and block; the disk is a data disk.
+#[no_mangle]
+pub unsafe extern "C" fn rust_write(
+    n: usize,
+    block: usize,
+    array: *mut u8,
+    array_len: usize,
+    disk: usize,
+    data: *const u8,
+    data_len: usize,
+) -> u32 {
+    let array = from_raw_parts_mut(array, array_len);
+    let data = from_raw_parts(data, data_len);
+    let (row, column) = (disk / (n + 1), disk % (n + 1));
+    let (before, superparity) = array.split_at_mut((n * (n + 1) + n) * block);
+    let (before, last_row) = before.split_at_mut(n * (n + 1) * block);
+    let (before, from_parity) = before.split_at_mut((row * (n + 1) + n) * block);
+    let old = &mut before[disk * block..][..block];
+    let row_parity = &mut from_parity[..block];
+    let column_parity = &mut last_row[column * block..][..block];
+    let parities = row_parity.iter_mut().zip(column_parity).zip(superparity);
+    for ((old, new), ((p, q), s)) in old.iter_mut().zip(data).zip(parities) {
+        let difference = *old ^ new;
+        *old = *new;
+        *p ^= difference;
+        *q ^= difference;
+        *s ^= difference;
+    }
+    0
+}

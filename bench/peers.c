@@ -1,0 +1,21 @@
+/* The table of peers. The library stands first; each ratio is its time over the peer's. */
+#include "peer.h"
+#include "raid2d.h"
+
+seal_call tuned_seal, native_seal, rust_seal, isal_seal, isal_sse_seal, read_seal, copy_seal;
+check_call plain_check, tuned_check, native_check, rust_check, isal_check, read_check, copy_check;
+write_call plain_write, tuned_write, native_write, rust_write, read_write, copy_write;
+
+const struct peer peers[PEERS] = {
+    [LIBRARY] = {"library", 1, 0, raid2d_seal, raid2d_check, raid2d_write},
+    [PLAIN] = {"gcc -O3 plain loops", 1, 0, plain_seal, plain_check, plain_write},
+    [TUNED] = {"gcc -O3 tuned", 1, 0, tuned_seal, tuned_check, tuned_write},
+    [NATIVE] = {"gcc -O3 -march=native tuned", 1, 0, native_seal, native_check, native_write},
+    [RUST] = {"Rust release", 1, 0, rust_seal, rust_check, rust_write},
+#ifdef ISAL_HEADER
+    [ISAL] = {"ISA-L", 32, 0, isal_seal, isal_check, NULL},
+    [ISAL_SSE] = {"ISA-L xor_gen_sse", 32, 0, isal_sse_seal, NULL, NULL},
+#endif
+    [READ] = {"one SSE2 read (bound)", 1, 1, read_seal, read_check, read_write},
+    [COPY] = {"one memcpy (bound)", 1, 1, copy_seal, copy_check, copy_write},
+};

@@ -1,0 +1,74 @@
+/* The peer that a C programmer writes first: byte loops over whole blocks, summed in place. */
+#include "peer.h"
+
+#include <string.h>
+
+static void xor_into(uint8_t *sum, const uint8_t *bytes, size_t length)
+{
+    for (size_t i = 0; i < length; i++)
+        sum[i] ^= bytes[i];
+}
+
+/* Sets `sum` to the sum of `count` blocks that stand `step` bytes apart. */
+static void sum_blocks(uint8_t *sum, const uint8_t *first, size_t step, size_t count, size_t block)
+{
+    memset(sum, 0, block);
+    for (size_t k = 0; k < count; k++)
+        xor_into(sum, first + k * step, block);
+}
+
+uint32_t plain_seal(size_t n, size_t block, uint8_t *array, size_t array_len)
+{
+    size_t row = (n + 1) * block;
+    (void)array_len;
+    for (size_t r = 0; r < n; r++)
+        sum_blocks(array + r * row + n * block, array + r * row, block, n, block);
+    for (size_t c = 0; c <= n; c++)
+        sum_blocks(array + n * row + c * block, array + c * block, row, n, block);
+    return 0;
+}
+
+/* Whether the sum of a stripe is zero at every place. */
+static int is_zero(const uint8_t *first, size_t step, size_t count, size_t block)
+{
+    uint8_t sum[BLOCK_MAX];
+    sum_blocks(sum, first, step, count, block);
+    for (size_t i = 0; i < block; i++)
+        if (sum[i] != 0)
+            return 0;
+    return 1;
+}
+
+uint32_t plain_check(size_t n, size_t block, const uint8_t *array, size_t array_len, size_t *stripe)
+{
+    size_t row = (n + 1) * block;
+    (void)array_len;
+    for (size_t s = 0; s <= n; s++) {
+        if (!is_zero(array + s * row, block, n + 1, block)) {
+            *stripe = s;
+            return NOT_SEALED;
+        }
+    }
+    for (size_t s = 0; s <= n; s++) {
+        if (!is_zero(array + s * block, row, n + 1, block)) {
+            *stripe = FIRST_COLUMN + s;
+            return NOT_SEALED;
+        }
+    }
+    return SEALED;
+}
+
+uint32_t plain_write(size_t n, size_t block, uint8_t *array, size_t array_len, size_t disk, const uint8_t *data,
+                     size_t data_len)
+{
+    size_t r = disk / (n + 1), c = disk % (n + 1);
+    uint8_t difference[BLOCK_MAX];
+    (void)array_len;
+    memcpy(difference, data, data_len);
+    xor_into(difference, array + disk * block, block);
+    xor_into(array + disk * block, difference, block);
+    xor_into(array + (r * (n + 1) + n) * block, difference, block);
+    xor_into(array + (n * (n + 1) + c) * block, difference, block);
+    xor_into(array + (n * (n + 1) + n) * block, difference, block);
+    return 0;
+}

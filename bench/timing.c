@@ -1,0 +1,59 @@
+#define _POSIX_C_SOURCE 200112L
+
+#include "timing.h"
+
+#include <stdlib.h>
+#include <time.h>
+
+/* A sample of the library lasts at least so many nanoseconds: tiny sizes are repeated inside it. */
+static const double SAMPLE_TIME = 50e3;
+
+static double now(void)
+{
+    struct timespec time;
+    clock_gettime(CLOCK_MONOTONIC, &time);
+    return 1e9 * (double)time.tv_sec + (double)time.tv_nsec;
+}
+
+/* One sample. The first call is not timed: it brings back what other peers have driven out of the cache. */
+static double sample(const struct call *call, const struct peer *peer, struct input *input, size_t repeats)
+{
+    double start;
+    call->run(peer, input);
+    start = now();
+    for (size_t i = 0; i < repeats; i++)
+        call->run(peer, input);
+    return now() - start;
+}
+
+static size_t repeats_for(const struct call *call, struct input *input)
+{
+    size_t repeats = 1;
+    while (sample(call, &peers[LIBRARY], input, repeats) < SAMPLE_TIME)
+        repeats *= 2;
+    return repeats;
+}
+
+static int by_value(const void *a, const void *b)
+{
+    double x = *(const double *)a, y = *(const double *)b;
+    return (x > y) - (x < y);
+}
+
+void time_peers(const struct call *call, struct input *input, double medians[PEERS])
+{
+    static double samples[PEERS][SAMPLES];
+    struct size size = {input->n, input->block};
+    size_t repeats = repeats_for(call, input);
+    for (size_t i = 0; i < SAMPLES; i++)
+        for (size_t p = 0; p < PEERS; p++)
+            if (takes_part(&peers[p], call, size))
+                samples[p][i] = sample(call, &peers[p], input, repeats);
+    for (size_t p = 0; p < PEERS; p++) {
+        medians[p] = 0;
+        if (!takes_part(&peers[p], call, size))
+            continue;
+        qsort(samples[p], SAMPLES, sizeof samples[p][0], by_value);
+        medians[p] = samples[p][SAMPLES / 2];
+    }
+}

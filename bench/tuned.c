@@ -1,0 +1,112 @@
+/*
+ * The peer that a C programmer writes for speed: sums are kept in a local array of 256 bytes, which the compiler
+ * knows to overlap nothing, and row n is summed from whole rows. It is compiled twice, as `tuned` and as `native`.
+ */
+#include "peer.h"
+
+#include <string.h>
+
+#define JOIN(peer, call) peer##_##call
+#define NAME(peer, call) JOIN(peer, call)
+
+enum { STRETCH = 256 };
+
+/* Sets `sum`, a local array of the caller, to the sum of `count` stretches that stand `step` bytes apart. */
+static inline void sum_stretches(uint8_t sum[STRETCH], const uint8_t *first, size_t step, size_t count, size_t width)
+{
+    memcpy(sum, first, width);
+    for (size_t k = 1; k < count; k++)
+        for (size_t i = 0; i < width; i++)
+            sum[i] ^= first[k * step + i];
+}
+
+/* Sums the next stretch, by a loop of constant length where `left` allows a whole one, and gives its width. */
+static inline size_t next_stretch(uint8_t sum[STRETCH], const uint8_t *first, size_t step, size_t count, size_t left)
+{
+    if (left >= STRETCH) {
+        sum_stretches(sum, first, step, count, STRETCH);
+        return STRETCH;
+    }
+    sum_stretches(sum, first, step, count, left);
+    return left;
+}
+
+static void put_sum(uint8_t *to, const uint8_t *first, size_t step, size_t count, size_t length)
+{
+    uint8_t sum[STRETCH];
+    for (size_t at = 0, width; at < length; at += width) {
+        width = next_stretch(sum, first + at, step, count, length - at);
+        memcpy(to + at, sum, width);
+    }
+}
+
+static int is_zero(const uint8_t *first, size_t step, size_t count, size_t length)
+{
+    uint8_t sum[STRETCH];
+    for (size_t at = 0, width; at < length; at += width) {
+        uint8_t any = 0;
+        width = next_stretch(sum, first + at, step, count, length - at);
+        for (size_t i = 0; i < width; i++)
+            any |= sum[i];
+        if (any != 0)
+            return 0;
+    }
+    return 1;
+}
+
+uint32_t NAME(PEER, seal)(size_t n, size_t block, uint8_t *array, size_t array_len)
+{
+    size_t row = (n + 1) * block;
+    (void)array_len;
+    for (size_t r = 0; r < n; r++)
+        put_sum(array + r * row + n * block, array + r * row, block, n, block);
+    put_sum(array + n * row, array, row, n, row);
+    return 0;
+}
+
+/* The lowest of n + 1 stripes whose sum is not zero, or n + 1. They begin `apart` bytes from each other. */
+static size_t lowest(size_t n, size_t block, const uint8_t *array, size_t apart, size_t step)
+{
+    size_t s = 0;
+    while (s <= n && is_zero(array + s * apart, step, n + 1, block))
+        s++;
+    return s;
+}
+
+uint32_t NAME(PEER, check)(size_t n, size_t block, const uint8_t *array, size_t array_len, size_t *stripe)
+{
+    size_t row = (n + 1) * block;
+    size_t found = lowest(n, block, array, row, block);
+    (void)array_len;
+    if (found <= n) {
+        *stripe = found;
+        return NOT_SEALED;
+    }
+    if (is_zero(array, row, n + 1, row))
+        return SEALED;
+    *stripe = FIRST_COLUMN + lowest(n, block, array, block, row);
+    return NOT_SEALED;
+}
+
+/* The five blocks overlap nowhere, which restrict tells the compiler. */
+static void store(uint8_t *restrict old, uint8_t *restrict row_parity, uint8_t *restrict column_parity,
+                  uint8_t *restrict superparity, const uint8_t *restrict data, size_t block)
+{
+    for (size_t i = 0; i < block; i++) {
+        uint8_t difference = old[i] ^ data[i];
+        old[i] = data[i];
+        row_parity[i] ^= difference;
+        column_parity[i] ^= difference;
+        superparity[i] ^= difference;
+    }
+}
+
+uint32_t NAME(PEER, write)(size_t n, size_t block, uint8_t *array, size_t array_len, size_t disk, const uint8_t *data,
+                           size_t data_len)
+{
+    size_t side = n + 1, r = disk / side, c = disk % side;
+    (void)array_len, (void)data_len;
+    store(array + disk * block, array + (r * side + n) * block, array + (n * side + c) * block,
+          array + (n * side + n) * block, data, block);
+    return 0;
+}

@@ -1,0 +1,144 @@
+/*
+ * An example host for raid2d: nine doors of a building, one name to a disk.
+ *
+ * It seals an array, finds a damaged byte, writes a block and looks at disks.
+ * Build and run it with `make example`; examples/host.expected has what it
+ * prints.
+ */
+#include <stdio.h>
+#include <string.h>
+
+#include "raid2d.h"
+
+/* 3 x 3 data disks with blocks of 8 bytes; with parities, 4 x 4 disks. */
+enum { SIDE = 3, BLOCK = 8, ACROSS = SIDE + 1 };
+
+/* All memory is the host's own: the library allocates nothing. A map of
+   zeros says that all disks are present. */
+static uint8_t array[RAID2D_ARRAY_BYTES(SIDE, BLOCK)];
+static uint8_t map[RAID2D_DISKS(SIDE)];
+
+/* Names of 8 letters, each with the zero that ends a string in C. */
+static const char names[SIDE][SIDE][BLOCK + 1] = {
+    { "entrance", "mailroom", "workshop" },
+    { "basement", "stairway", "corridor" },
+    { "elevator", "darkroom", "showroom" }
+};
+
+/* Where a disk's block begins in the array. */
+static uint8_t *block_of(size_t disk)
+{
+    return array + disk * BLOCK;
+}
+
+static void store_names(void)
+{
+    size_t row, column;
+
+    for (row = 0; row < SIDE; row++)
+        for (column = 0; column < SIDE; column++)
+            memcpy(block_of(row * ACROSS + column), names[row][column], BLOCK);
+}
+
+/* Data as text, parities as hexadecimal digits: a sum of letters is none. */
+static void print_disk(size_t row, size_t column)
+{
+    const uint8_t *block = block_of(row * ACROSS + column);
+    size_t i;
+
+    printf("  ");
+    if (row < SIDE && column < SIDE)
+        printf("%-*.*s", 2 * BLOCK, BLOCK, (const char *)block);
+    else
+        for (i = 0; i < BLOCK; i++)
+            printf("%02x", (unsigned)block[i]);
+}
+
+static void print_array(void)
+{
+    size_t row, column;
+
+    printf("\n          column 0          column 1          column 2"
+           "          column 3");
+    for (row = 0; row <= SIDE; row++) {
+        printf("\n  row %zu ", row);
+        for (column = 0; column <= SIDE; column++)
+            print_disk(row, column);
+    }
+    printf("\n\n");
+}
+
+static void seal_array(void)
+{
+    uint32_t status = raid2d_seal(SIDE, BLOCK, array, sizeof array);
+
+    printf("seal: %s\n", raid2d_strerror(status));
+}
+
+/* Stripes 0 to 15 are rows, those from 16 on are columns. */
+static void check_array(void)
+{
+    size_t stripe = 0;
+    uint32_t status = raid2d_check(SIDE, BLOCK, array, sizeof array, &stripe);
+
+    if (status == RAID2D_OK)
+        printf("check: the array is sealed\n");
+    else if (status != RAID2D_NOT_SEALED)
+        printf("check: refused, %s\n", raid2d_strerror(status));
+    else if (stripe < 16)
+        printf("check: not sealed, see stripe %zu (row %zu)\n", stripe, stripe);
+    else
+        printf("check: not sealed, see stripe %zu (column %zu)\n", stripe,
+               stripe - 16);
+}
+
+static void write_block(size_t disk, const char *name)
+{
+    uint32_t status = raid2d_write(SIDE, BLOCK, array, sizeof array, disk,
+                                   (const uint8_t *)name, strlen(name));
+
+    printf("write %s to disk %zu: %s\n", name, disk, raid2d_strerror(status));
+}
+
+static void look_at(size_t disk)
+{
+    size_t offset = 0;
+    size_t length = raid2d_look(SIDE, BLOCK, array, sizeof array, map,
+                                sizeof map, disk, &offset);
+
+    if (length == 0)
+        printf("look at disk %zu: empty\n", disk);
+    else
+        printf("look at disk %zu: %zu bytes at offset %zu, \"%.*s\"\n", disk,
+               length, offset, (int)length, (const char *)(array + offset));
+}
+
+int main(void)
+{
+    store_names();
+    seal_array();
+    print_array();
+    check_array();
+
+    printf("\ndamage: the first byte of disk 5 (stairway)\n");
+    block_of(5)[0] ^= 1;
+    check_array();
+    printf("undo\n");
+    block_of(5)[0] ^= 1;
+    check_array();
+
+    printf("\n");
+    write_block(2, "ballroom");
+    print_array();
+    check_array();
+    write_block(3, "ballroom"); /* disk 3 is a row parity */
+    write_block(2, "hall");     /* not 8 bytes */
+
+    printf("\n");
+    look_at(2);
+    printf("disk 2 fails\n");
+    map[2] = 1;
+    look_at(2);
+    look_at(4);
+    return 0;
+}

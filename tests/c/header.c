@@ -1,0 +1,65 @@
+/*
+ * What the header itself gives: limits, sizes, statuses and their words. The
+ * file is C and C++, so that the header can be compiled as both.
+ */
+#include <string.h>
+
+#include "raid2d.h"
+#include "raid2d.h" /* a second time: the guard keeps it out */
+#include "suite.h"
+
+/* The largest array, as a static one. */
+static uint8_t largest[RAID2D_ARRAY_BYTES(RAID2D_SIDE_MAX, RAID2D_BLOCK_MAX)];
+
+static const uint32_t statuses[] = { 0, 1, 2, 3, 8, 9, 64 };
+
+#define STATUSES (sizeof statuses / sizeof statuses[0])
+
+static void limits_and_sizes(void)
+{
+    expect(RAID2D_SIDE_MIN == 2 && RAID2D_SIDE_MAX == 15, "range of n");
+    expect(RAID2D_BLOCK_MIN == 1 && RAID2D_BLOCK_MAX == 4096, "range of block");
+    expect(sizeof largest == 1048576 && largest[0] == 0,
+           "bytes of the largest array");
+    expect(RAID2D_DISKS(2) == 9 && RAID2D_DISKS(15) == 256, "disks");
+    expect(RAID2D_DISKS(1 + 1) == 9, "disks, from an expression");
+    expect(RAID2D_ARRAY_BYTES(1 + 1, 1 + 2) == 27, "bytes, from expressions");
+}
+
+static void numbers_of_statuses(void)
+{
+    expect(RAID2D_OK == 0, "number of success");
+    expect(RAID2D_ERR_SIDE == 1, "number of a wrong n");
+    expect(RAID2D_ERR_BLOCK == 2, "number of a wrong block");
+    expect(RAID2D_ERR_ARRAY_LENGTH == 3, "number of a wrong array length");
+    expect(RAID2D_ERR_DISK == 8, "number of a wrong disk");
+    expect(RAID2D_ERR_DATA_LENGTH == 9, "number of a wrong data length");
+    expect(RAID2D_NOT_SEALED == 64, "number of an array that is not sealed");
+}
+
+/* Each status has words of its own; all other numbers share theirs. */
+static void words_of_statuses(void)
+{
+    static const uint32_t others[] = { 4, 10, 63, 65, 256, 0xffffffffu };
+    const char *unknown = raid2d_strerror(others[0]);
+    size_t i, j;
+
+    for (i = 0; i < STATUSES; i++) {
+        const char *words = raid2d_strerror(statuses[i]);
+
+        expect(strcmp(words, unknown) != 0, "words of status %u", statuses[i]);
+        for (j = 0; j < i; j++)
+            expect(strcmp(words, raid2d_strerror(statuses[j])) != 0,
+                   "words of statuses %u and %u", statuses[j], statuses[i]);
+    }
+    for (i = 0; i < sizeof others / sizeof others[0]; i++)
+        expect(strcmp(raid2d_strerror(others[i]), unknown) == 0,
+               "words of unknown status %u", others[i]);
+}
+
+void test_header(void)
+{
+    limits_and_sizes();
+    numbers_of_statuses();
+    words_of_statuses();
+}

@@ -1,0 +1,309 @@
+/*
+ * Refusals: every wrong argument alone, and every pair of them, from calls
+ * that are otherwise right. Of a pair the one that comes first in the order's
+ * list is returned. Nothing that is lent may change.
+ */
+#include "raid2d.h"
+#include "suite.h"
+
+#if SIZE_MAX < UINT64_MAX
+#error "numbers above 2^32 are passed here: size_t must have 64 bits"
+#endif
+
+#define TWO_TO(k) ((size_t)1 << (k))
+
+/* Buffers longer than this are not lent. */
+#define LENDABLE TWO_TO(18)
+
+/* What can be wrong with a call. */
+enum argument {
+    SIDE, BLOCK, ARRAY_LENGTH,
+    PARITY_DISK, DATA_LENGTH,              /* write only */
+    MAP_LENGTH, MAP_BYTE, NO_DISK, ERASED, /* look only */
+    ARGUMENTS
+};
+
+/* A value for each, and the size of the array that the call starts from. */
+struct arguments {
+    size_t of[ARGUMENTS];
+    size_t n, block;
+};
+
+/* The values that one argument is tried with: a right one, then wrong ones. */
+struct values {
+    size_t count;
+    size_t value[16];
+};
+
+/* The tests of a call in the order's sequence, and what it returns where one
+   fails. Accepted is what it returns where none fails: arbitrary bytes are
+   not sealed. For look that is the block's length. */
+struct tests {
+    enum function function;
+    size_t accepted;
+    size_t count;
+    struct {
+        enum argument argument;
+        size_t status;
+    } test[7];
+};
+
+static const struct tests tests[] = {
+    { SEAL, 0, 3, { { SIDE, 1 }, { BLOCK, 2 }, { ARRAY_LENGTH, 3 } } },
+    { CHECK, 64, 3, { { SIDE, 1 }, { BLOCK, 2 }, { ARRAY_LENGTH, 3 } } },
+    { WRITE, 0, 5, { { SIDE, 1 }, { BLOCK, 2 }, { ARRAY_LENGTH, 3 },
+                     { PARITY_DISK, 8 }, { DATA_LENGTH, 9 } } },
+    { LOOK, 0, 7, { { SIDE, 0 }, { BLOCK, 0 }, { ARRAY_LENGTH, 0 },
+                    { MAP_LENGTH, 0 }, { MAP_BYTE, 0 }, { NO_DISK, 0 },
+                    { ERASED, 0 } } }
+};
+
+static void add(struct values *v, size_t value)
+{
+    v->value[v->count++] = value;
+}
+
+/* The right n, and wrong ones. From 256 on they would be right, or would give
+   an array of the right length, if they were shortened or could wrap. */
+static struct values sides(size_t n)
+{
+    const struct values v = { 14, {
+        n, 0, 1, 16, 17, 255,
+        n + 256, n + 65536, n + TWO_TO(32), n + TWO_TO(63),
+        TWO_TO(32) - 1,   /* (n+1)^2 wraps to 0 */
+        SIZE_MAX - n - 1, /* (n+1)^2 wraps to the right number */
+        SIZE_MAX - 1, SIZE_MAX
+    } };
+
+    return v;
+}
+
+static struct values blocks(size_t block)
+{
+    const struct values v = { 9, {
+        block, 0, 4097, block + 65536, block + TWO_TO(32),
+        block + TWO_TO(56), /* 256 blocks wrap to the right length */
+        block + TWO_TO(63), TWO_TO(63), SIZE_MAX
+    } };
+
+    return v;
+}
+
+/* The right length and those wrong ones that can be lent. */
+static struct values lengths(size_t right)
+{
+    const size_t wrong[] = {
+        0, right - 1, right + 1, 2 * right, right + 256, right + 65536
+    };
+    struct values v = { 1, { right } };
+    size_t i;
+
+    for (i = 0; i < sizeof wrong / sizeof wrong[0]; i++)
+        if (wrong[i] != right && wrong[i] <= LENDABLE)
+            add(&v, wrong[i]);
+    return v;
+}
+
+/* The first and the last of each kind of parity disk, then numbers that are
+   outside of the grid. */
+static struct values parity_disks(size_t n)
+{
+    const struct values v = { 12, {
+        0, n, n * (n + 1) - 1, n * (n + 1), (n + 1) * (n + 1) - 2,
+        (n + 1) * (n + 1) - 1, (n + 1) * (n + 1), 256, 65536,
+        TWO_TO(32), TWO_TO(63), SIZE_MAX
+    } };
+
+    return v;
+}
+
+static struct values no_disks(size_t n)
+{
+    const struct values v = { 7, {
+        0, (n + 1) * (n + 1), 256, 65536, TWO_TO(32), TWO_TO(63), SIZE_MAX
+    } };
+
+    return v;
+}
+
+/* Wrong bytes of a map as 256 * disk + byte: on the disk looked at, and on
+   the last disk. */
+static struct values map_bytes(size_t map_len)
+{
+    struct values v = { 1, { 0 } };
+
+    if (map_len > 0) {
+        add(&v, 2);
+        add(&v, 256 * (map_len - 1) + 2);
+        add(&v, 256 * (map_len - 1) + 128);
+        add(&v, 256 * (map_len - 1) + 255);
+    }
+    return v;
+}
+
+/* The length that fits n and block, as numbers that wrap give it; where so
+   much can't be lent, the one that fits the size the call started from. */
+static size_t fitting(const struct arguments *a, size_t block, size_t base)
+{
+    size_t across = a->of[SIDE] + 1;
+    size_t length = across * across * block;
+
+    return length <= LENDABLE ? length : (a->n + 1) * (a->n + 1) * base;
+}
+
+static struct values values_of(enum argument argument,
+                               const struct arguments *a)
+{
+    const struct values erased = { 2, { 0, 1 } };
+
+    switch (argument) {
+    case SIDE:
+        return sides(a->n);
+    case BLOCK:
+        return blocks(a->block);
+    case ARRAY_LENGTH:
+        return lengths(fitting(a, a->of[BLOCK], a->block));
+    case PARITY_DISK:
+        return parity_disks(a->n);
+    case DATA_LENGTH:
+        return lengths(a->of[BLOCK] <= LENDABLE ? a->of[BLOCK] : a->block);
+    case MAP_LENGTH:
+        return lengths(fitting(a, 1, 1));
+    case MAP_BYTE:
+        return map_bytes(a->of[MAP_LENGTH]);
+    case NO_DISK:
+        return no_disks(a->n);
+    default:
+        return erased;
+    }
+}
+
+static struct call call_with(enum function function, const struct arguments *a)
+{
+    struct call c = new_call(function, a->of[SIDE], a->of[BLOCK],
+                             a->of[ARRAY_LENGTH], a->of[MAP_LENGTH],
+                             a->of[DATA_LENGTH]);
+
+    c.disk = function == WRITE ? a->of[PARITY_DISK] : a->of[NO_DISK];
+    if (a->of[ERASED] && c.disk < c.map.len)
+        c.map.bytes[c.disk] = 1;
+    if (a->of[MAP_BYTE])
+        c.map.bytes[a->of[MAP_BYTE] / 256] = (uint8_t)(a->of[MAP_BYTE] % 256);
+    expect_as_now(&c);
+    return c;
+}
+
+/* The call with these arguments is accepted, or refused with this status. */
+static void try_call(const struct tests *t, const struct arguments *a,
+                     size_t wrong, size_t status)
+{
+    struct call c = call_with(t->function, a);
+    size_t accepted = t->function == LOOK ? a->block : t->accepted;
+
+    if (wrong > 0)
+        expect_run(&c, status, OUT_BEFORE, "refusal");
+    else
+        expect(run(&c) == accepted, "call %d with nothing wrong",
+               (int)t->function);
+    end_call(&c);
+}
+
+/* Tries the call with each value of its arguments from number i on, so that
+   at most two are wrong. The status is that of the first that is. */
+static void try_from(const struct tests *t, size_t i, struct arguments a,
+                     size_t wrong, size_t status)
+{
+    struct values v;
+    size_t k;
+
+    if (i == t->count) {
+        try_call(t, &a, wrong, status);
+        return;
+    }
+    v = values_of(t->test[i].argument, &a);
+    a.of[t->test[i].argument] = v.value[0];
+    try_from(t, i + 1, a, wrong, status);
+    for (k = 1; k < v.count && wrong < 2; k++) {
+        a.of[t->test[i].argument] = v.value[k];
+        try_from(t, i + 1, a, wrong + 1,
+                 wrong == 0 ? t->test[i].status : status);
+    }
+}
+
+static void one_and_two_wrong(size_t n, size_t block)
+{
+    struct arguments start = { { 0 }, 0, 0 };
+    size_t i;
+
+    start.n = n;
+    start.block = block;
+    for (i = 0; i < sizeof tests / sizeof tests[0]; i++)
+        try_from(&tests[i], 0, start, 0, 0);
+}
+
+/* The four calls with the same sizes. All refuse with the status, but look,
+   which returns 0. */
+static void all_refuse(size_t n, size_t block, size_t array_len,
+                       size_t status, const char *what)
+{
+    const enum function functions[] = { SEAL, CHECK, WRITE, LOOK };
+    size_t i;
+
+    for (i = 0; i < 4; i++) {
+        struct call c = new_call(functions[i], n, block, array_len, 9, 1);
+
+        expect_run(&c, functions[i] == LOOK ? 0 : status, OUT_BEFORE, what);
+        end_call(&c);
+    }
+}
+
+/* Sizes whose (n+1)^2 * block, taken modulo 2^64, is the length passed. */
+static void lengths_that_wrap(void)
+{
+    /* 9 times this is 1 modulo 2^64. */
+    const size_t ninth = (size_t)UINT64_C(0x8e38e38e38e38e39);
+
+    all_refuse(SIZE_MAX, 1, 0, 1, "n+1 is 0");
+    all_refuse(SIZE_MAX, 4096, 0, 1, "n+1 is 0");
+    all_refuse(SIZE_MAX - 1, 7, 7, 1, "n+1 is -1");
+    all_refuse(SIZE_MAX - 3, 1, 9, 1, "n+1 is -3");
+    all_refuse(TWO_TO(63) + 2, 1, 9, 1, "n+1 is 3 + 2^63");
+    all_refuse(TWO_TO(32) - 1, 4096, 0, 1, "n+1 is 2^32");
+    all_refuse(15, TWO_TO(56), 0, 2, "256 blocks of 2^56");
+    all_refuse(15, TWO_TO(56) + 1, 256, 2, "256 blocks of 2^56 + 1");
+    all_refuse(7, TWO_TO(58) + 3, 192, 2, "64 blocks of 2^58 + 3");
+    all_refuse(2, ninth, 1, 2, "9 blocks of a ninth");
+    all_refuse(2, 10 * ninth, 10, 2, "9 blocks of ten ninths");
+    all_refuse(258, 1, 9, 1, "n shortened to 8 bits");
+    all_refuse(TWO_TO(32) + 2, 1, 9, 1, "n shortened to 32 bits");
+    all_refuse(2, TWO_TO(32) + 1, 9, 2, "block shortened to 32 bits");
+}
+
+/* A length of 0 is refused like any other, with NULL and without. */
+static void empty_buffers(void)
+{
+    const enum function functions[] = { SEAL, CHECK, WRITE, LOOK };
+    size_t i, null;
+
+    for (i = 0; i < 4; i++)
+        for (null = 0; null < 2; null++) {
+            struct call c = new_call(functions[i], 2, 1, 0, 0, 0);
+
+            if (!null) {
+                c.array.bytes = c.array.memory + 1;
+                c.map.bytes = c.map.memory + 1;
+                c.data.bytes = c.data.memory + 1;
+            }
+            expect_run(&c, functions[i] == LOOK ? 0 : 3, OUT_BEFORE, "empty");
+            end_call(&c);
+        }
+}
+
+void test_refusals(void)
+{
+    one_and_two_wrong(2, 1);
+    one_and_two_wrong(3, 17);
+    one_and_two_wrong(15, 2);
+    lengths_that_wrap();
+    empty_buffers();
+}

@@ -1,0 +1,72 @@
+/*
+ * What the C tests share: counting, memory with guards around it, and a call
+ * with all that it is lent.
+ */
+#ifndef SUITE_H
+#define SUITE_H
+
+#include <stddef.h>
+#include <stdint.h>
+
+/* Counts one check. Where it does not hold, the rest says what was checked. */
+void expect(int holds, const char *format, ...);
+
+/*
+ * Memory lent to the library, with a guard before it and one after it. The
+ * same with what is expected after the call stands in a second memory.
+ */
+struct lent {
+    uint8_t *bytes;    /* what is passed: NULL where len is 0 */
+    uint8_t *expected; /* what bytes should hold after the call */
+    size_t len;
+    uint8_t *memory, *expected_memory;
+};
+
+enum function { SEAL, CHECK, WRITE, LOOK };
+
+/* A call: its numbers, what it is lent, and its out-parameter with a guard
+   on either side. Calls pass over what they have no parameter for. */
+struct call {
+    enum function function;
+    size_t n, block, disk;
+    struct lent array, map, data;
+    size_t out[3];
+};
+
+/* What an out-parameter holds before each call: no stripe and no offset, and
+   no byte of it zero. */
+#define OUT_BEFORE (SIZE_MAX / 255 * 0x5a)
+
+/* A call lent buffers of these lengths. The array and the data are filled
+   with arbitrary bytes, the same in every run; the map says that all disks
+   are present. */
+struct call new_call(enum function function, size_t n, size_t block,
+                     size_t array_len, size_t map_len, size_t data_len);
+
+/* The same, with the lengths that n and block ask for. */
+struct call fitting_call(enum function function, size_t n, size_t block);
+
+/* Fills a buffer with arbitrary bytes, the same in every run. */
+void fill(uint8_t *bytes, size_t len);
+
+/* An arbitrary number below the bound, the same in every run. */
+size_t below(size_t bound);
+
+/* From here on, each buffer is expected to keep the bytes that it has now. */
+void expect_as_now(struct call *call);
+
+/* Makes the call and returns its result. */
+size_t run(struct call *call);
+
+/* Makes the call and counts one check: its result is this, its out-parameter
+   is then that, and all bytes and guards are as expected. */
+void expect_run(struct call *call, size_t result, size_t out, const char *what);
+
+void end_call(struct call *call);
+
+/* The parts of the suite, one to a file. */
+void test_header(void);
+void test_refusals(void);
+void test_answers(void);
+
+#endif

@@ -1,0 +1,51 @@
+//! Lengths that would look right if they were narrowed to 32 bits. The buffer is lent without guards or a copy: no call
+//! may touch it, so its pages never cost memory. Only answers are compared here.
+
+use crate::guard::Out;
+use crate::outcome::Outcome;
+use crate::{ffi, Run};
+
+/// n = 2 and block = 1: nine disks, nine bytes.
+const RIGHT: usize = 9;
+const ARRAY: [u8; RIGHT] = [7; RIGHT];
+
+/// Zeros that the system lends without touching them, none where it will not.
+fn zeros(length: usize) -> Option<Vec<u8>> {
+    // Asked first, because the next line would end the program. Without black_box the question is optimised away.
+    let mut asked = Vec::<u8>::new();
+    asked.try_reserve_exact(length).ok()?;
+    drop(std::hint::black_box(asked));
+    Some(vec![0; length])
+}
+
+fn refused(run: &mut Run, call: &str, status: usize, found: usize, out: Out) {
+    let answer = || Ok(Outcome::reading(found, out.value()?));
+    run.tally.compare(|| format!("{call} of 2^32 bytes too many"), &Outcome::reading(status, None), answer);
+}
+
+pub fn run(run: &mut Run) {
+    let Some(mut huge) = zeros((1 << 32) + RIGHT) else {
+        println!("buffers above 2^32 bytes: left out, the system lends none");
+        return;
+    };
+    let (at, len) = (huge.as_mut_ptr(), huge.len());
+    let mut array = ARRAY;
+    let array = array.as_mut_ptr();
+    let (mut stripe, mut offset, mut map_offset) = (Out::new(), Out::new(), Out::new());
+    // Every pointer is valid for its length, as the wrappers of ffi see to elsewhere.
+    unsafe {
+        let status = ffi::raid2d_seal(2, 1, at, len);
+        refused(run, "seal, array", 3, status as usize, Out::new());
+        let status = ffi::raid2d_check(2, 1, at, len, stripe.pointer());
+        refused(run, "check, array", 3, status as usize, stripe);
+        let status = ffi::raid2d_write(2, 1, at, len, 0, [9].as_ptr(), 1);
+        refused(run, "write, array", 3, status as usize, Out::new());
+        let status = ffi::raid2d_write(2, 1, array, RIGHT, 0, at, len - RIGHT + 1);
+        refused(run, "write, data", 9, status as usize, Out::new());
+        let length = ffi::raid2d_look(2, 1, at, len, [0; RIGHT].as_ptr(), RIGHT, 0, offset.pointer());
+        refused(run, "look, array", 0, length, offset);
+        let length = ffi::raid2d_look(2, 1, array, RIGHT, at, len, 0, map_offset.pointer());
+        refused(run, "look, map", 0, length, map_offset);
+    }
+    run.tally.report("buffers above 2^32 bytes", &[0, 3, 9]);
+}

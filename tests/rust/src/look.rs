@@ -1,0 +1,67 @@
+//! Look: the block of one present disk as that part of the array, or an empty part.
+
+use crate::inputs::{random_array, Size};
+use crate::tally::{show, Tally};
+use crate::{arguments, ffi, model, Run};
+
+pub fn compare(tally: &mut Tally, n: usize, block: usize, array: &[u8], map: &[u8], disk: usize) {
+    let input = || {
+        let (array, map) = (show(array), show(map));
+        format!("look, n {n}, block {block}, disk {disk}, map {map}, array {array}")
+    };
+    tally.compare(input, &model::look(n, block, array, map, disk), || ffi::look(n, block, array, map, disk));
+}
+
+/// A map of zeros and ones: none erased, all erased, or some.
+fn map(run: &mut Run, disks: usize) -> Vec<u8> {
+    match run.random.below(6) {
+        0 => vec![0; disks],
+        1 => vec![1; disks],
+        _ => {
+            let chances = run.random.between(2, 6);
+            (0..disks).map(|_| run.random.one_in(chances) as u8).collect()
+        }
+    }
+}
+
+/// Spoils one byte of a map: its first, its last, that of the disk, or any.
+fn spoil(run: &mut Run, map: &mut [u8], disk: usize) {
+    if map.is_empty() {
+        return;
+    }
+    let any = run.random.below(map.len());
+    let at = run.random.pick(&[0, map.len() - 1, disk % map.len(), any]);
+    let value = run.random.between(2, 255) as u8;
+    map[at] = run.random.pick(&[2, 3, 128, 255, value]);
+}
+
+/// Every disk erased, present, and now and then present under a spoiled map; then the first numbers outside the grid.
+pub fn contents(run: &mut Run, size: Size) {
+    let array = random_array(&mut run.random, size);
+    for disk in 0..size.disks() {
+        let mut map = map(run, size.disks());
+        for mark in [1, 0] {
+            map[disk] = mark;
+            compare(&mut run.tally, size.n, size.block, &array, &map, disk);
+        }
+        if run.random.one_in(8) {
+            spoil(run, &mut map, disk);
+            compare(&mut run.tally, size.n, size.block, &array, &map, disk);
+        }
+    }
+    for disk in [size.disks(), size.disks() + 1] {
+        let map = map(run, size.disks());
+        compare(&mut run.tally, size.n, size.block, &array, &map, disk);
+    }
+}
+
+pub fn refusals(run: &mut Run) {
+    let drawn = arguments::array(&mut run.random);
+    let disk = arguments::disk(&mut run.random, drawn.made_for);
+    let length = arguments::length(&mut run.random, drawn.made_for.disks());
+    let mut map = map(run, length);
+    if run.random.one_in(5) {
+        spoil(run, &mut map, disk);
+    }
+    compare(&mut run.tally, drawn.n, drawn.block, &drawn.bytes, &map, disk);
+}

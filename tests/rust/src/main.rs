@@ -1,0 +1,114 @@
+//! Compares libraid2d.a with a model written from paper 01: every answer, every out-parameter and all bytes.
+//!
+//! RAID2D_SEED sets the seed, which is printed: the same seed gives the same run. RAID2D_LONG=1 does twenty times
+//! the work. RAID2D_TRACE=1 prints every input before its call, for a library that ends the program. The last line
+//! counts the comparisons; the exit status is 1 where one fails.
+
+mod arguments;
+mod cases;
+mod check;
+mod ffi;
+mod guard;
+mod huge;
+mod inputs;
+mod look;
+mod model;
+mod outcome;
+mod random;
+mod seal;
+mod tally;
+mod write;
+
+use inputs::Size;
+use random::Random;
+use std::process::ExitCode;
+use tally::Tally;
+
+const DEFAULT_SEED: u64 = 20_240_229;
+const LONG_ROUNDS: usize = 20;
+
+pub struct Run {
+    pub random: Random,
+    pub tally: Tally,
+}
+
+/// How one call is compared. A new call adds a row to the table below.
+struct Call {
+    name: &'static str,
+    /// The comparisons at one size, with arguments that are all good.
+    contents: fn(&mut Run, Size),
+    /// One comparison with arguments drawn from good and bad ones, and how often it is made.
+    refusals: fn(&mut Run),
+    draws: usize,
+    /// Answers that must have been due among the comparisons.
+    answers: &'static [usize],
+}
+
+const CALLS: [Call; 4] = [
+    Call { name: "seal", contents: seal::contents, refusals: seal::refusals, draws: 30_000, answers: &[0, 1, 2, 3] },
+    Call {
+        name: "check",
+        contents: check::contents,
+        refusals: check::refusals,
+        draws: 30_000,
+        answers: &[0, 1, 2, 3, 64],
+    },
+    Call {
+        name: "write",
+        contents: write::contents,
+        refusals: write::refusals,
+        draws: 45_000,
+        answers: &[0, 1, 2, 3, 8, 9],
+    },
+    // Look answers a length: nothing, and the smallest and the largest block.
+    Call {
+        name: "look",
+        contents: look::contents,
+        refusals: look::refusals,
+        draws: 45_000,
+        answers: &[0, 1, inputs::BLOCK_MAX],
+    },
+];
+
+impl Run {
+    fn compare(&mut self, call: &Call, rounds: usize) {
+        for _ in 0..rounds {
+            for size in inputs::sizes(&mut self.random) {
+                (call.contents)(self, size);
+            }
+            for _ in 0..call.draws {
+                (call.refusals)(self);
+            }
+        }
+        self.tally.report(call.name, call.answers);
+    }
+}
+
+fn seed() -> u64 {
+    match std::env::var("RAID2D_SEED") {
+        Ok(text) => text.parse().expect("RAID2D_SEED has to be a whole number from 0 to 2^64 - 1"),
+        Err(_) => DEFAULT_SEED,
+    }
+}
+
+fn is_set(variable: &str) -> bool {
+    std::env::var(variable).is_ok_and(|value| value == "1")
+}
+
+fn main() -> ExitCode {
+    let rounds = if is_set("RAID2D_LONG") { LONG_ROUNDS } else { 1 };
+    let seed = seed();
+    println!("seed {seed}, rounds {rounds}");
+    let mut run = Run { random: Random::new(seed), tally: Tally::new(is_set("RAID2D_TRACE")) };
+    cases::run(&mut run);
+    run.tally.report("paper's cases", &[0, 1, 2, 8]);
+    huge::run(&mut run);
+    for call in &CALLS {
+        run.compare(call, rounds);
+    }
+    if run.tally.finish() {
+        ExitCode::SUCCESS
+    } else {
+        ExitCode::FAILURE
+    }
+}

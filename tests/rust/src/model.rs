@@ -1,0 +1,151 @@
+//! The array by the words of paper 01, in the plainest way: every sum is taken over a stripe as the paper defines it,
+//! and every refusal is tested in the paper's order. Nothing here is taken from the library.
+//!
+//! The paper's words: a disk is its card, a stripe its line, an erased disk a marked card.
+
+use crate::outcome::Outcome;
+
+/// The status of a call that refuses nothing.
+const SUCCESS: usize = 0;
+/// What check answers for an array that is not sealed. Paper 01 gives no number; the C interface does.
+const NOT_SEALED: usize = 64;
+/// Column c is stripe 16 + c.
+const FIRST_COLUMN: usize = 16;
+
+/// The number of the disk in row r and column c.
+pub fn disk_at(n: usize, r: usize, c: usize) -> usize {
+    r * (n + 1) + c
+}
+
+/// How many disks the grid has.
+pub fn disk_count(n: usize) -> usize {
+    (n + 1) * (n + 1)
+}
+
+/// The first `count` disks of row r.
+fn row(n: usize, r: usize, count: usize) -> Vec<usize> {
+    (0..count).map(|c| disk_at(n, r, c)).collect()
+}
+
+/// The first `count` disks of column c.
+fn column(n: usize, c: usize, count: usize) -> Vec<usize> {
+    (0..count).map(|r| disk_at(n, r, c)).collect()
+}
+
+fn block_of(array: &[u8], block: usize, disk: usize) -> &[u8] {
+    &array[disk * block..(disk + 1) * block]
+}
+
+fn set_block(array: &mut [u8], block: usize, disk: usize, bytes: &[u8]) {
+    array[disk * block..(disk + 1) * block].copy_from_slice(bytes);
+}
+
+fn exclusive_or(a: &[u8], b: &[u8]) -> Vec<u8> {
+    a.iter().zip(b).map(|(x, y)| x ^ y).collect()
+}
+
+/// The exclusive or over some disks, at each byte place of the block.
+fn sum(array: &[u8], block: usize, disks: &[usize]) -> Vec<u8> {
+    disks.iter().fold(vec![0; block], |sum, &disk| exclusive_or(&sum, block_of(array, block, disk)))
+}
+
+/// Refusals 1, 2 and 3, with which seal, check and write begin; 0 where none applies.
+fn array_refusal(n: usize, block: usize, array: &[u8]) -> usize {
+    if !(2..=15).contains(&n) {
+        return 1;
+    }
+    if !(1..=4096).contains(&block) {
+        return 2;
+    }
+    if array.len() != disk_count(n) * block {
+        return 3;
+    }
+    SUCCESS
+}
+
+/// Fills P with the sum of its row's data, Q with that of its column's data, and S with the sum of all P.
+pub fn seal(n: usize, block: usize, array: &[u8]) -> Outcome {
+    let refusal = array_refusal(n, block, array);
+    let mut sealed = array.to_vec();
+    if refusal != SUCCESS {
+        return Outcome::writing(refusal, sealed);
+    }
+    for r in 0..n {
+        set_block(&mut sealed, block, disk_at(n, r, n), &sum(array, block, &row(n, r, n)));
+    }
+    for c in 0..n {
+        set_block(&mut sealed, block, disk_at(n, n, c), &sum(array, block, &column(n, c, n)));
+    }
+    let superparity = sum(&sealed, block, &column(n, n, n));
+    set_block(&mut sealed, block, disk_at(n, n, n), &superparity);
+    Outcome::writing(SUCCESS, sealed)
+}
+
+/// The lowest stripe whose sum is not zero at some place, none for a sealed array.
+fn lowest_unsealed(n: usize, block: usize, array: &[u8]) -> Option<usize> {
+    let rows = (0..=n).map(|r| (r, row(n, r, n + 1)));
+    let columns = (0..=n).map(|c| (FIRST_COLUMN + c, column(n, c, n + 1)));
+    rows.chain(columns).find(|(_, disks)| sum(array, block, disks).iter().any(|&b| b != 0)).map(|(stripe, _)| stripe)
+}
+
+pub fn check(n: usize, block: usize, array: &[u8]) -> Outcome {
+    let refusal = array_refusal(n, block, array);
+    if refusal != SUCCESS {
+        return Outcome::reading(refusal, None);
+    }
+    match lowest_unsealed(n, block, array) {
+        Some(stripe) => Outcome::reading(NOT_SEALED, Some(stripe)),
+        None => Outcome::reading(SUCCESS, None),
+    }
+}
+
+/// The row and the column of a data disk, none for a parity disk or a number outside the grid.
+fn data_place(n: usize, disk: usize) -> Option<(usize, usize)> {
+    let mut places = (0..n).flat_map(|r| (0..n).map(move |c| (r, c)));
+    places.find(|&(r, c)| disk_at(n, r, c) == disk)
+}
+
+fn write_refusal(n: usize, block: usize, array: &[u8], disk: usize, data: &[u8]) -> usize {
+    let refusal = array_refusal(n, block, array);
+    if refusal != SUCCESS {
+        return refusal;
+    }
+    if data_place(n, disk).is_none() {
+        return 8;
+    }
+    if data.len() != block {
+        return 9;
+    }
+    SUCCESS
+}
+
+/// Stores the new block; P, Q and S of the disk change by the same difference.
+pub fn write(n: usize, block: usize, array: &[u8], disk: usize, data: &[u8]) -> Outcome {
+    let refusal = write_refusal(n, block, array, disk, data);
+    let mut written = array.to_vec();
+    if refusal != SUCCESS {
+        return Outcome::writing(refusal, written);
+    }
+    let (r, c) = data_place(n, disk).expect("refusal 8 has been tested");
+    let difference = exclusive_or(block_of(array, block, disk), data);
+    for changed in [disk, disk_at(n, r, n), disk_at(n, n, c), disk_at(n, n, n)] {
+        let bytes = exclusive_or(block_of(array, block, changed), &difference);
+        set_block(&mut written, block, changed, &bytes);
+    }
+    Outcome::writing(SUCCESS, written)
+}
+
+/// The block of one present disk, by its length and its place in the array; length 0 where anything is wrong.
+pub fn look(n: usize, block: usize, array: &[u8], map: &[u8], disk: usize) -> Outcome {
+    let empty = Outcome::reading(0, None);
+    if array_refusal(n, block, array) != SUCCESS {
+        return empty;
+    }
+    if map.len() != disk_count(n) || map.iter().any(|&mark| mark > 1) {
+        return empty;
+    }
+    if disk >= disk_count(n) || map[disk] == 1 {
+        return empty;
+    }
+    Outcome::reading(block, Some(disk * block))
+}
