@@ -25,7 +25,7 @@ use Rattle.array.proofs.Blocks.{strided-disks, block-at}
 
 -- Where the blocks of a row stand, and those of a column. The numbers are those that the code has computed.
 module _ (z : Size) (B len : ℕ) (long : len ≡ arrayBytes z B) (w down : ℕ) (across-is : w ≡ across z) (rows-are : down ≡ rows z) where
-  pub row-reach : (i : ℕ) → i < down + 1 → (k : ℕ) → k < w → i * (w * B) + k * B + B ≤ len
+  row-reach : (i : ℕ) → i < down + 1 → (k : ℕ) → k < w → i * (w * B) + k * B + B ≤ len
   unfolding across diskAt
   row-reach i h k l =
       rw across-is
@@ -46,8 +46,17 @@ module _ (z : Size) (B len : ℕ) (long : len ≡ arrayBytes z B) (w down : ℕ)
       first : columns z ≡ diskAt z 0 (columns z)
       first = let none = zero-mul (across z) in omega arith
 
-  pub column-reach : (i : ℕ) → i < w → (k : ℕ) → k < down + 1 → i * B + k * (w * B) + B ≤ len
-  column-reach i h k l = let r = row-reach k l i h in omega arith
+  -- What the search for the lowest row asks, and that for the lowest column: each stretch, and the first of each stripe.
+  pub rows-reach : ((i : ℕ) → i < down + 1 → (k : ℕ) → k < w → i * (w * B) + k * B + B ≤ len)
+      × ((i : ℕ) → i < down + 1 → i * (w * B) + B ≤ len)
+  unfolding across
+  rows-reach = (row-reach, λ i h. let r = row-reach i h 0 (omega arith) in let none = zero-mul B in omega arith)
+
+  pub columns-reach : ((i : ℕ) → i < w → (k : ℕ) → k < down + 1 → i * B + k * (w * B) + B ≤ len) × ((i : ℕ) → i < w → i * B + B ≤ len)
+  columns-reach = (
+    λ i h k l. let r = row-reach k l i h in omega arith,
+    λ i h. let r = row-reach 0 (omega arith) i h in let none = zero-mul (w * B) in omega arith,
+  )
 
 -- Where none is left out.
 xsum-all : (n : ℕ) (g : ℕ → ℕ) → xsum n (λ k. gate (not (eqb k n)) (g k)) ≡ xsum n g
