@@ -4,9 +4,10 @@ use mathlib.Core.Path.{_≡_, refl, sym, _∙_, ap, ap₂}
 use mathlib.Core.Bool.{Bool, true, false, cond, not}
 use mathlib.Core.List.{List}
 use Prim.Native.Nat.{ℕ, _+_, _*_, _≤_, _<_, zero-le}
-use native.Mathlib.Nat.{le-refl, le-of-lt, lt-trans, not-suc-le-self, one-mul, mul-assoc, add-mul, zero-mul}
+use native.Mathlib.Nat.{le-of-eq, zero-add, le-refl, le-of-lt, lt-trans, not-suc-le-self, one-mul, mul-assoc, add-mul, zero-mul}
 use native.Mathlib.Omega.{arith}
 use borrow.Author.Tests.{ne-eqb, lt-ltb, le-ltb}
+use lib.Arith.{digits-lt}
 use lib.Dec.{eqb, ltb}
 use lib.ListN.{length}
 use Rattle.model.specs.Fold.{xsum, gate, lowest}
@@ -16,16 +17,16 @@ use Rattle.model.specs.Refusal.{refusal, arrayTests}
 use Rattle.model.specs.Array.{lowestUnsealed, checked}
 use Rattle.model.specs.declared.Size.{Size}
 use Rattle.model.specs.declared.Checked.the-variants.{Sealed, Unsealed}
-use Rattle.model.proofs.Fold.{xsum-ext, every-ext, Lowest, lowest-is, lowest-ext, lowest-unique}
+use Rattle.model.proofs.Fold.{every-all, every-at, xsum-ext, every-ext, Lowest, lowest-is, lowest-ext, lowest-unique}
 use Rattle.model.proofs.Grid.{size-fits, row-stripe, column-stripe, empty-stripe, row-line, column-line, by-stripe}
 use Rattle.model.proofs.Check.{zero-of-sums}
 use Rattle.model.proofs.Refusal.{given-accepted}
-use Rattle.xor.specs.Strided.{cancelled}
+use Rattle.xor.specs.Strided.{cancelled, strided}
 use Rattle.array.proofs.Blocks.{strided-disks, block-at}
 
 -- Where the blocks of a row stand, and those of a column. The numbers are those that the code has computed.
 module _ (z : Size) (B len : ℕ) (long : len ≡ arrayBytes z B) (w down : ℕ) (across-is : w ≡ across z) (rows-are : down ≡ rows z) where
-  pub row-reach : (i : ℕ) → i < down + 1 → (k : ℕ) → k < w → i * (w * B) + k * B + B ≤ len
+  row-reach : (i : ℕ) → i < down + 1 → (k : ℕ) → k < w → i * (w * B) + k * B + B ≤ len
   unfolding across diskAt
   row-reach i h k l =
       rw across-is
@@ -46,8 +47,17 @@ module _ (z : Size) (B len : ℕ) (long : len ≡ arrayBytes z B) (w down : ℕ)
       first : columns z ≡ diskAt z 0 (columns z)
       first = let none = zero-mul (across z) in omega arith
 
-  pub column-reach : (i : ℕ) → i < w → (k : ℕ) → k < down + 1 → i * B + k * (w * B) + B ≤ len
-  column-reach i h k l = let r = row-reach k l i h in omega arith
+  -- What the search for the lowest row asks, and that for the lowest column: each stretch, and the first of each stripe.
+  pub rows-reach : ((i : ℕ) → i < down + 1 → (k : ℕ) → k < w → i * (w * B) + k * B + B ≤ len)
+      × ((i : ℕ) → i < down + 1 → i * (w * B) + B ≤ len)
+  unfolding across
+  rows-reach = (row-reach, λ i h. let r = row-reach i h 0 (omega arith) in let none = zero-mul B in omega arith)
+
+  pub columns-reach : ((i : ℕ) → i < w → (k : ℕ) → k < down + 1 → i * B + k * (w * B) + B ≤ len) × ((i : ℕ) → i < w → i * B + B ≤ len)
+  columns-reach = (
+    λ i h k l. let r = row-reach k l i h in omega arith,
+    λ i h. let r = row-reach 0 (omega arith) i h in let none = zero-mul (w * B) in omega arith,
+  )
 
 -- Where none is left out.
 xsum-all : (n : ℕ) (g : ℕ → ℕ) → xsum n (λ k. gate (not (eqb k n)) (g k)) ≡ xsum n g
@@ -82,17 +92,31 @@ module _ (z : Size) (B : ℕ) (a : List ℕ) (fits : sizeFits z ≡ true) where
         row-stripe z fits (whole B) a r (omega arith) p
         ∙ xsum-ext (across z) (λ k l. ap (λ (d : ℕ). byte (whole B) a d p) (omega arith))))))
 
-    pub column-lowest : lowest w (λ c. not (cancelled B a (c * B) (w * B) (down + 1) (down + 1))) ≡ lowest (across z) (λ c. nonzero (16 + c))
+    column-test : (c : ℕ) → c < across z → not (cancelled B a (c * B) (across z * B) (rows z + 1) (rows z + 1)) ≡ nonzero (16 + c)
     unfolding diskAt across
-    column-lowest =
-        rw (across-is, rows-are)
-        (lowest-ext (across z)
-        (λ c h.
+    column-test c h =
         ap not
         (cancelled-zero (gridOf z) B a (16 + c) c (across z) (rows z + 1)
         (λ p b.
         column-stripe z fits (whole B) a c (omega arith) p
-        ∙ xsum-ext (rows z + 1) (λ k l. ap (λ (d : ℕ). byte (whole B) a d p) (omega arith))))))
+        ∙ xsum-ext (rows z + 1) (λ k l. ap (λ (d : ℕ). byte (whole B) a d p) (omega arith))))
+
+    -- Where the sum of the rows is zero throughout, no column is left.
+    pub columns-none : cancelled (w * B) a 0 (w * B) (down + 1) (down + 1) ≡ true → w ≡ lowest (across z) (λ c. nonzero (16 + c))
+    unfolding cancelled
+    columns-none e =
+        lowest-unique (across z) (λ c. nonzero (16 + c)) w _
+        (record {
+          within = le-of-eq across-is;
+          none = λ c h. let l : c < across z = omega arith in sym (column-test c l) ∙ ap not (every-all B (λ p b.
+              ap (λ (k : ℕ). eqb (strided a k (across z * B) (rows z + 1) (rows z + 1)) 0) (sym (zero-add (c * B + p)))
+              ∙ every-at (across z * B) _ (rw (across-is, rows-are) at e) (c * B + p) (digits-lt l b)));
+          found = λ h. let never : ⊥ = omega arith in absurd never;
+        })
+        (lowest-is (across z) (λ c. nonzero (16 + c)))
+
+    pub column-lowest : lowest w (λ c. not (cancelled B a (c * B) (w * B) (down + 1) (down + 1))) ≡ lowest (across z) (λ c. nonzero (16 + c))
+    column-lowest = rw (across-is, rows-are) (lowest-ext (across z) column-test)
 
   -- No disk lies on a number between the rows and the columns.
   empty-zero : (s : ℕ) → rows z < s → s < 16 → nonzero s ≡ false

@@ -20,7 +20,8 @@ pub fn lowest_row(size: Size, block: usize, array: &[u8]) -> usize
     xor::cancel::lowest_nonzero(array, pitch, lines, block, across, across, block)
 }
 
-// The lowest such column, counted from 0, or the number of columns.
+// The lowest such column, counted from 0, or the number of columns. All columns are tested at once first, as the sum of whole
+// rows: only where that is not zero is there one to look for.
 pub fn lowest_column(size: Size, block: usize, array: &[u8]) -> usize
     requires { ⌜ refusal (arrayTests size block (length (now array))) ≡ 0 ⌝ }
     ensures { λ r. ⌜ r ≡ lowest (across size) (λ c. not (sumsToZero (gridOf size) (whole block) (now (array .entry)) (16 + c))) ⌝ }
@@ -28,5 +29,8 @@ pub fn lowest_column(size: Size, block: usize, array: &[u8]) -> usize
     let down = layout::rows(size) + 1;
     let across = layout::across(size);
     let step = across * block;
+    if xor::cancel::cancel(array, 0, step, down, down, step) {
+        return across;
+    }
     xor::cancel::lowest_nonzero(array, block, across, step, down, down, block)
 }

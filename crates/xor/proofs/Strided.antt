@@ -5,7 +5,7 @@ use mathlib.Core.Bool.{Bool, true, false, not, _&&_, and-false}
 use mathlib.Core.Logic.{⊎-elim}
 use mathlib.Core.List.{List}
 use Prim.Native.Nat.{ℕ, suc, _+_, _*_, _-_, _≤_, _<_}
-use native.Mathlib.Nat.{add-assoc, add-zero, zero-add, add-sub-of-le, mul-le-mul-right, suc-mul, eq-or-lt-of-le}
+use native.Mathlib.Nat.{mul-suc, mul-le-mul-left, add-assoc, add-zero, zero-add, add-sub-of-le, mul-le-mul-right, suc-mul, eq-or-lt-of-le}
 use native.Mathlib.Numerals.{add-one}
 use native.Mathlib.Omega.{arith}
 use borrow.Author.Tests.{eq-eqb, ne-eqb, eqb-true, eqb-false}
@@ -15,7 +15,7 @@ use lib.ListN.{length, getD, set, replicate, length-replicate, getD-replicate}
 use Rattle.model.specs.Fold.{_⊕_, xsum, gate, every}
 use Rattle.model.proofs.Xor.{⊕-zero}
 use Rattle.model.proofs.Fold.{xsum-ext, every-add, every-ext, getD-tabulate, list-is, tabulate-ext, lt-or-le}
-use Rattle.xor.specs.Strided.{strided, sums, mixed, stored, filled, cancelled, Spaced}
+use Rattle.xor.specs.Strided.{strided, sums, mixed, stored, filled, cancelled, Spaced, Within}
 use Rattle.xor.proofs.Stored.{stored-more, stored-next, stored-all, stored-ext, stored-none, length-stored, getD-before, getD-after}
 
 -- ---- one more byte
@@ -115,6 +115,39 @@ fill-next a first step count skip n w r at f h e p v =
     ∙ strided-apart a first step count skip n _ (n + i) (omega arith) (omega arith))
     ∙ stored-more a (first + skip * step) n w (λ i. strided a (first + i) step count skip)
 
+-- ---- a turn of that loop, over the width
+-- What a turn that stores w bytes may rely on: r is as long as a, and what is read and what is stored lies within it.
+pub record Turn (w : ℕ) (a : List ℕ) (first step count skip i : ℕ) (r : List ℕ) : Type 0 where
+  pub same : length r ≡ length a
+  pub read : Within r (first + w * i) step count w
+  pub store : first + skip * step + w * i + w ≤ length r
+
+module _ (w : ℕ) (a : List ℕ) (first step count skip chunks : ℕ) (s : Spaced a first step count skip (w * chunks)) (i : ℕ) (h : i < chunks)
+    (r : List ℕ) (e : r ≡ filled (w * i) a first step count skip) where
+  -- The bytes of the turns up to this one.
+  upto : w * i + w ≤ w * chunks
+  upto = let m : w * suc i ≤ w * chunks = mul-le-mul-left w h in let n : w * suc i ≡ w * i + w = mul-suc w i in omega arith
+
+  pub turn : Turn w a first step count skip i r
+  turn =
+      let same : length r ≡ length a = ap length e ∙ length-filled (w * i) a first step count skip in
+      let u = upto in
+      record {
+        same = same;
+        read = λ k l. let b = s .within k l in omega arith;
+        store = let b = s .within skip (s .one) in omega arith;
+      }
+
+  -- After it w places more hold the sum.
+  pub turned : (v l : List ℕ) → v ≡ sums w r (first + w * i) step count skip
+      → l ≡ stored r (first + skip * step + w * i) w (λ j. getD v j 0) → l ≡ filled (w * (i + 1)) a first step count skip
+  turned v l sum-is put-is =
+      let u = upto in
+      let g = s .apart in
+      put-is
+      ∙ fill-next a first step count skip (w * i) w r _ _ (omega arith) e refl (sums-at w r (first + w * i) step skip count v sum-is)
+      ∙ ap (λ (n : ℕ). filled n a first step count skip) (sym (mul-suc w i) ∙ ap (λ (k : ℕ). w * k) (sym (add-one i)))
+
 -- n places behind m.
 pub filled-then : (a : List ℕ) (first step count skip m n : ℕ) (r q : List ℕ) (at : ℕ)
     → m + n ≤ step
@@ -206,3 +239,21 @@ module _ (a : List ℕ) (first step count skip : ℕ) where
   pub cancelled-one : (v : ℕ) → v ≡ strided a first step count skip → eqb v 0 ≡ cancelled 1 a first step count skip
   unfolding cancelled every
   cancelled-one v e = ap (λ (x : ℕ). eqb x 0) (e ∙ ap (λ (k : ℕ). strided a k step count skip) (sym (add-zero first)))
+
+-- A turn of the loop that tests w bytes, of which t says whether they are zero.
+module _ (w : ℕ) (a : List ℕ) (first step count skip chunks i : ℕ) (h : i < chunks) (v : List ℕ) (t : Bool)
+    (sum-is : v ≡ sums w a (first + w * i) step count skip) (test-is : t ≡ every w (zeroAt v)) where
+  test : t ≡ cancelled w a (first + w * i) step count skip
+  test = cancelled-by a (first + w * i) step count skip w v t sum-is test-is
+
+  pub turn-fails : t ≡ false → false ≡ cancelled (w * chunks) a first step count skip
+  turn-fails e =
+      let m : w * suc i ≤ w * chunks = mul-le-mul-left w h in
+      let n : w * suc i ≡ w * i + w = mul-suc w i in
+      cancelled-fails a first step count skip (w * i) w (w * chunks) (first + w * i) refl (omega arith) (sym test ∙ e)
+
+  pub turn-passes : cancelled (w * i) a first step count skip ≡ true → t ≡ true → cancelled (w * (i + 1)) a first step count skip ≡ true
+  turn-passes before e =
+      ap (λ (n : ℕ). cancelled n a first step count skip) (ap (λ (k : ℕ). w * k) (add-one i) ∙ mul-suc w i)
+      ∙ cancelled-after a first step count skip (w * i) w (first + w * i) refl before
+      ∙ sym test ∙ e

@@ -1,57 +1,56 @@
 -- `array::stripes::lowest_column` meets its contract: the sums of the columns are what is tested.
 -- Assumes nothing.
-use mathlib.Core.Path.{_∙_}
-use Prim.Native.Nat.{_*_}
-use native.Mathlib.Nat.{zero-mul}
+use mathlib.Core.Path.{sym, _∙_}
 use native.Mathlib.Omega.{arith}
 use borrow.Author.Needs.{needs}
 use lib.ListN.{length}
 use Rattle.model.proofs.Grid.{size-fits}
-use Rattle.model.proofs.Refusal.{array-fits}
-use Rattle.array.proofs.Lines.{width-within, column-reach, column-lowest}
+use Rattle.model.proofs.Refusal.{ArrayFits, array-fits}
+use Rattle.array.proofs.Rows.{last-spaced}
+use Rattle.array.proofs.Lines.{width-within, columns-reach, column-lowest, columns-none}
 use Rattle.array.proofs.stripes.lowest_column.Statement.{statement}
 use Rattle.array.proofs.stripes.lowest_column.Tie as tie
+
+-- The arguments have passed the tests.
+sized : (s : tie.Start) → ArrayFits (s .args .size) (s .args .block) (length (s .args .array .now))
+sized s = array-fits _ _ _ (s .pre)
 
 rows-requires : tie.Need-rows-requires
 rows-requires c κs = search needs
 
 add-down : tie.Need-add-down
-add-down c =
-    let s = c .before .before in
-    let a = s .args in
-    let fits = array-fits (a .size) (a .block) (length (a .array .now)) (s .pre) in
-    let h = size-fits (a .size) (fits .size) .rowsHigh in let e = c .rows .ensures in omega arith
+add-down c = let h = size-fits _ (sized (c .before .before) .size) .rowsHigh in let e = c .rows .ensures in omega arith
 
 across-requires : tie.Need-across-requires
-across-requires c κs =
-    let s = c .before .before in
-    let a = s .args in
-    let fits = array-fits (a .size) (a .block) (length (a .array .now)) (s .pre) in
-    fits .size
+across-requires c κs = sized (c .before .before) .size
 
 mul-step : tie.Need-mul-step
-mul-step c =
-    let s = c .before .before .before in
-    let a = s .args in
-    let fits = array-fits (a .size) (a .block) (length (a .array .now)) (s .pre) in
-    let h = width-within (a .size) (a .block) (length (a .array .now)) (fits .long) (c .across .result) (c .before .rows .result) (c .across .ensures) (c .before .rows .ensures) in omega arith
+mul-step c = let h = width-within _ _ _ (sized (c .before .before .before) .long) (c .across .result) (c .before .rows .result) (c .across .ensures) (c .before .rows .ensures) in omega arith
 
-lowest-nonzero-requires : tie.Need-lowest-nonzero-requires
-lowest-nonzero-requires c κs =
+cancel-requires : tie.Need-cancel-requires
+cancel-requires c κs =
     let s = c .before .before .before in
-    let a = s .args in
-    let fits = array-fits (a .size) (a .block) (length (a .array .now)) (s .pre) in
-    let reach = column-reach (a .size) (a .block) (length (a .array .now)) (fits .long) (c .across .result) (c .before .rows .result) (c .across .ensures) (c .before .rows .ensures) in
-    (reach, λ i h. let r = reach i h 0 (omega arith) in let none = zero-mul (c .across .result * a .block) in omega arith)
+    let h = width-within _ _ _ (sized s .long) (c .across .result) (c .before .rows .result) (c .across .ensures) (c .before .rows .ensures) in
+    (last-spaced _ _ (s .args .array .now) (sized s .long) (c .across .result) (c .across .ensures) (c .before .rows .result) (c .before .rows .ensures) .within, omega arith)
 
 returns : tie.Need-returns
-returns c =
-    let s = c .before .before .before .before in
-    let a = s .args in
-    let fits = array-fits (a .size) (a .block) (length (a .array .now)) (s .pre) in
-    c .lowest-nonzero .ensures ∙ column-lowest (a .size) (a .block) (a .array .now) (fits .size) (c .before .across .result) (c .before .before .rows .result) (c .before .across .ensures) (c .before .before .rows .ensures)
+returns c = columns-none _ _ _ (sized (c .before .before .before .before .before) .size) (c .before .before .across .result) (c .before .before .before .rows .result) (c .before .before .across .ensures) (c .before .before .before .rows .ensures) (sym (c .before .cancel .ensures) ∙ c .if1 .taken)
+
+lowest-nonzero-requires : tie.Need-lowest-nonzero-requires
+lowest-nonzero-requires c κs = columns-reach _ _ _ (sized (c .before .before .before .before .before) .long) (c .before .before .across .result) (c .before .before .before .rows .result) (c .before .before .across .ensures) (c .before .before .before .rows .ensures)
+
+returns-2 : tie.Need-returns-2
+returns-2 c = c .lowest-nonzero .ensures ∙ column-lowest _ _ _ (sized (c .before .before .before .before .before .before) .size) (c .before .before .before .across .result) (c .before .before .before .before .rows .result) (c .before .before .before .across .ensures) (c .before .before .before .before .rows .ensures)
 
 pub lowest-column-spec : {M : Type 1} → statement M
 lowest-column-spec =
     tie.close
-    (tie.spec rows-requires add-down across-requires mul-step lowest-nonzero-requires returns)
+    (tie.spec
+    rows-requires
+    add-down
+    across-requires
+    mul-step
+    cancel-requires
+    returns
+    lowest-nonzero-requires
+    returns-2)

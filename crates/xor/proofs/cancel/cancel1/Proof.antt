@@ -12,7 +12,7 @@ use Rattle.xor.proofs.cancel.cancel1.Statement.{statement}
 use Rattle.xor.proofs.cancel.cancel1.Tie as tie
 
 abbrev Inv-loop : tie.InvT-loop
-Inv-loop a first step count skip len i₀ i = (i ≤ len) × (cancelled (i) a first step count skip ≡ true)
+Inv-loop a first step count skip len i₀ i = (i ≤ len) × (cancelled i a first step count skip ≡ true)
 
 abbrev μ-loop : tie.MeasureT-loop
 μ-loop a first step count skip len i₀ i = len - i
@@ -28,11 +28,11 @@ sum1-requires c κs = λ k h. omega (arith, c .before .before .before .pre .0 k 
 
 returns : tie.Need-returns Inv-loop μ-loop
 returns c =
-    let a = c .before .before .before .before .before .args in
+    let s = c .before .before .before .before .before in
     let l = c .before .before .before .loop in
     let v = c .before .sum1 in
-    let t = cancelled-one (a .a .now) (a .first + l .i) (a .step) (a .count) (a .skip) (v .result) (v .ensures) in
-    cancelled-fails (a .a .now) (a .first) (a .step) (a .count) (a .skip) (l .i) 1 _ _ refl (omega arith) (sym t ∙ ne-eqb (v .result) 0 (c .if1 .taken))
+    let t = cancelled-one (s .args .a .now) (s .args .first + l .i) (s .args .step) (s .args .count) (s .args .skip) (v .result) (v .ensures) in
+    cancelled-fails (s .args .a .now) (s .args .first) (s .args .step) (s .args .count) (s .args .skip) (l .i) 1 _ _ refl (omega arith) (sym t ∙ ne-eqb (v .result) 0 (c .if1 .taken))
 
 add-i : tie.Need-add-i Inv-loop μ-loop
 add-i c = search needs
@@ -42,21 +42,16 @@ loop-less c = search needs
 
 loop-again : tie.Need-loop-again Inv-loop μ-loop
 loop-again c =
-    let a = c .before .before .before .before .before .args in
+    let s = c .before .before .before .before .before in
     let l = c .before .before .before .loop in
     let v = c .before .sum1 in
-    let t = cancelled-one (a .a .now) (a .first + l .i) (a .step) (a .count) (a .skip) (v .result) (v .ensures) in (
-      search needs,
-      ap (λ (n : ℕ). cancelled n (a .a .now) (a .first) (a .step) (a .count) (a .skip)) (omega arith)
-          ∙ cancelled-after (a .a .now) (a .first) (a .step) (a .count) (a .skip) (l .i) 1 _ refl (l .inv .1)
-          ∙ sym t ∙ eq-eqb (v .result) 0 (c .if1 .left),
-    )
+    let t = cancelled-one (s .args .a .now) (s .args .first + l .i) (s .args .step) (s .args .count) (s .args .skip) (v .result) (v .ensures) in
+    (search needs, cancelled-after (s .args .a .now) (s .args .first) (s .args .step) (s .args .count) (s .args .skip) (l .i) 1 _ refl (l .inv .1) ∙ sym t ∙ eq-eqb (v .result) 0 (c .if1 .left))
 
 returns-2 : tie.Need-returns-2 Inv-loop μ-loop
 returns-2 c =
-    let a = c .before .before .before .args in
-    let l = c .before .loop in
-    sym (l .inv .1) ∙ ap (λ (n : ℕ). cancelled (n) (a .a .now) (a .first) (a .step) (a .count) (a .skip)) (omega arith)
+    let s = c .before .before .before in
+    sym (c .before .loop .inv .1) ∙ ap (λ (n : ℕ). cancelled n (s .args .a .now) (s .args .first) (s .args .step) (s .args .count) (s .args .skip)) (omega arith)
 
 pub cancel1-spec : {M : Type 1} → statement M
 cancel1-spec =

@@ -1,13 +1,13 @@
 -- `xor::cancel::cancel16` meets its contract: the sums so far are all zero.
 -- Assumes nothing.
-use mathlib.Core.Path.{_≡_, _∙_, sym, ap, refl}
+use mathlib.Core.Path.{_≡_, _∙_, sym, ap}
 use mathlib.Core.Bool.{true}
-use Prim.Native.Nat.{ℕ, _≤_, _-_, _+_, _*_}
+use Prim.Native.Nat.{ℕ, _≤_, _-_, _*_}
 use native.Mathlib.Omega.{arith}
 use borrow.Author.Needs.{needs}
 use borrow.Author.Tests.{not-true, not-false}
 use Rattle.xor.specs.Strided.{cancelled}
-use Rattle.xor.proofs.Strided.{cancelled-none, cancelled-after, cancelled-fails, cancelled-by}
+use Rattle.xor.proofs.Strided.{cancelled-none, turn-fails, turn-passes}
 use Rattle.xor.proofs.cancel.cancel16.Statement.{statement}
 use Rattle.xor.proofs.cancel.cancel16.Tie as tie
 
@@ -34,12 +34,11 @@ zero16-requires c κs = search needs
 
 returns : tie.Need-returns Inv-loop μ-loop
 returns c =
-    let a = c .before .before .before .before .before .before .args in
+    let s = c .before .before .before .before .before .before in
     let l = c .before .before .before .before .loop in
     let v = c .before .before .sum16 in
     let z = c .before .zero16 in
-    let t = cancelled-by (a .a .now) (a .first + 16 * l .i) (a .step) (a .count) (a .skip) 16 (v .result) (z .result) (v .ensures) (z .ensures) in
-    cancelled-fails (a .a .now) (a .first) (a .step) (a .count) (a .skip) (16 * l .i) 16 _ _ refl (omega arith) (sym t ∙ not-true _ (c .if1 .taken))
+    turn-fails 16 (s .args .a .now) (s .args .first) (s .args .step) (s .args .count) (s .args .skip) (s .args .chunks) (l .i) (c .before .before .before .loop-test .taken) (v .result) (z .result) (v .ensures) (z .ensures) (not-true _ (c .if1 .taken))
 
 add-i : tie.Need-add-i Inv-loop μ-loop
 add-i c = search needs
@@ -49,22 +48,16 @@ loop-less c = search needs
 
 loop-again : tie.Need-loop-again Inv-loop μ-loop
 loop-again c =
-    let a = c .before .before .before .before .before .before .args in
+    let s = c .before .before .before .before .before .before in
     let l = c .before .before .before .before .loop in
     let v = c .before .before .sum16 in
     let z = c .before .zero16 in
-    let t = cancelled-by (a .a .now) (a .first + 16 * l .i) (a .step) (a .count) (a .skip) 16 (v .result) (z .result) (v .ensures) (z .ensures) in (
-      search needs,
-      ap (λ (n : ℕ). cancelled n (a .a .now) (a .first) (a .step) (a .count) (a .skip)) (omega arith)
-          ∙ cancelled-after (a .a .now) (a .first) (a .step) (a .count) (a .skip) (16 * l .i) 16 _ refl (l .inv .1)
-          ∙ sym t ∙ not-false _ (c .if1 .left),
-    )
+    (search needs, turn-passes 16 (s .args .a .now) (s .args .first) (s .args .step) (s .args .count) (s .args .skip) (s .args .chunks) (l .i) (c .before .before .before .loop-test .taken) (v .result) (z .result) (v .ensures) (z .ensures) (l .inv .1) (not-false _ (c .if1 .left)))
 
 returns-2 : tie.Need-returns-2 Inv-loop μ-loop
 returns-2 c =
-    let a = c .before .before .before .args in
-    let l = c .before .loop in
-    sym (l .inv .1) ∙ ap (λ (n : ℕ). cancelled (16 * n) (a .a .now) (a .first) (a .step) (a .count) (a .skip)) (omega arith)
+    let s = c .before .before .before in
+    sym (c .before .loop .inv .1) ∙ ap (λ (n : ℕ). cancelled (16 * n) (s .args .a .now) (s .args .first) (s .args .step) (s .args .count) (s .args .skip)) (omega arith)
 
 pub cancel16-spec : {M : Type 1} → statement M
 cancel16-spec =
