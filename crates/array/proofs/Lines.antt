@@ -64,7 +64,7 @@ xsum-all : (n : ℕ) (g : ℕ → ℕ) → xsum n (λ k. gate (not (eqb k n)) (g
 unfolding gate
 xsum-all n g = xsum-ext n (λ k h. ap (λ (b : Bool). gate (not b) (g k)) (ne-eqb k n (omega arith)))
 
--- A stripe whose disks stand s apart from disk t on is clear if their stretches cancel.
+-- A stripe whose disks stand s apart from disk t on sums to zero if their stretches cancel.
 cancelled-zero : (L : Layout) (B : ℕ) (a : List ℕ) (line t s count : ℕ)
     → ((p : ℕ) → p < B → stripeSum L (whole B) a line p ≡ xsum count (λ k. byte (whole B) a (t + k * s) p))
     → cancelled B a (t * B) (s * B) count count ≡ sumsToZero L (whole B) a line
@@ -123,7 +123,7 @@ module _ (z : Size) (B : ℕ) (a : List ℕ) (fits : sizeFits z ≡ true) where
   unfolding whole
   empty-zero s l h = ap not (zero-of-sums (gridOf z) (whole B) a s (λ p b. empty-stripe z fits (whole B) a s l h p))
 
-  -- The lowest row, the lowest column where all rows are clear, and none where all are.
+  -- The lowest row, the lowest column where no row is found, and none where no column is.
   module _ (r : ℕ) (row : r ≡ lowest (rows z + 1) nonzero) where
     rows-so : Lowest (rows z + 1) nonzero r
     rows-so = rw row (lowest-is (rows z + 1) nonzero)
@@ -138,7 +138,7 @@ module _ (z : Size) (B : ℕ) (a : List ℕ) (fits : sizeFits z ≡ true) where
       columns-so : Lowest (across z) (λ j. nonzero (16 + j)) c
       columns-so = rw column (lowest-is (across z) (λ j. nonzero (16 + j)))
 
-      -- What is clear below a stripe where the columns below it are.
+      -- What sums to zero below a stripe where the columns below it do.
       none : (s : ℕ) → ((j : ℕ) → 16 + j < s → nonzero (16 + j) ≡ false) → (i : ℕ) → i < s → i < gridOf z .stripeBound → nonzero i ≡ false
       none s below i l lines =
           by-stripe z (λ (i : ℕ). i < s → nonzero i ≡ false) (λ k h l. rows-so .none k (omega arith)) (λ k h g l. empty-zero k h g)

@@ -16,17 +16,18 @@ use Rattle.model.specs.declared.Checked.the-variants.{Sealed, Unsealed, 
 
 -- ---- Seal
 
--- The byte that sealing gives the disk in row r and column c: data keeps its byte, P, Q and S are filled. The array of these
--- bytes is the data encoded.
+-- The byte that sealing gives the disk in row r and column c: data keeps its byte, P, Q and S are filled.
 unfoldable pub encodedByte : Size → ℕ → List ℕ → (r c p : ℕ) → ℕ
 encodedByte z B a r c p =
     cond (ltb c (columns z))
     (cond (ltb r (rows z)) (byte (whole B) a (diskAt z r c) p) (columnData z (whole B) a p c))
     (cond (ltb r (rows z)) (rowData z (whole B) a p r) (xsum (rows z) (rowData z (whole B) a p)))
 
+-- The array that sealing makes: the data with its parities.
 unfoldable pub encoded : Size → ℕ → List ℕ → List ℕ
 encoded z B a = arrayOf z B (λ d p. encodedByte z B a (d / across z) (d % across z) p)
 
+-- What seal answers, and the array after it.
 unfoldable pub sealStatus : Size → ℕ → List ℕ → ℕ
 sealStatus z B a = refusal (arrayTests z B (length a))
 
@@ -39,6 +40,7 @@ sealArray z B a = cond (eqb (sealStatus z B a) 0) (encoded z B a) a
 unfoldable pub lowestUnsealed : Size → ℕ → List ℕ → ℕ
 lowestUnsealed z B a = lowest (gridOf z .stripeBound) (λ s. not (sumsToZero (gridOf z) (whole B) a s))
 
+-- What check answers.
 unfoldable pub checked : Size → ℕ → List ℕ → Checked
 checked z B a =
     cond (eqb (refusal (arrayTests z B (length a))) 0)
@@ -60,6 +62,7 @@ checkStripe (Refused k) before = before
 
 -- ---- Write
 
+-- Write tests, besides, that the disk holds data and that the new block has the length of a block.
 unfoldable pub writeTests : Size → (B len d dataLen : ℕ) → List Test
 writeTests z B len d dataLen = arrayTests z B len ++ (8 unless isData z d ∷ 9 unless eqb dataLen B ∷ [])
 
@@ -68,12 +71,13 @@ unfoldable pub isParityOf : Size → (d e : ℕ) → Bool
 isParityOf z d e =
     eqb e (diskAt z (d / across z) (columns z)) || (eqb e (diskAt z (rows z) (d % across z)) || eqb e (diskAt z (rows z) (columns z)))
 
--- The new block is stored, and P, Q and S change by the difference.
+-- The byte of disk e after a write to disk d: the new block is stored, and P, Q and S change by the difference.
 unfoldable pub writtenByte : Size → ℕ → List ℕ → ℕ → List ℕ → (e p : ℕ) → ℕ
 writtenByte z B a d new e p =
     cond (eqb e d) (getD new p 0)
     (cond (isParityOf z d e) (byte (whole B) a e p ⊕ (byte (whole B) a d p ⊕ getD new p 0)) (byte (whole B) a e p))
 
+-- The array that a write makes.
 unfoldable pub written : Size → ℕ → List ℕ → ℕ → List ℕ → List ℕ
 written z B a d new = arrayOf z B (writtenByte z B a d new)
 
@@ -81,6 +85,7 @@ written z B a d new = arrayOf z B (writtenByte z B a d new)
 unfoldable pub replaced : Size → ℕ → List ℕ → ℕ → List ℕ → List ℕ
 replaced z B a d new = arrayOf z B (λ e p. cond (eqb e d) (getD new p 0) (byte (whole B) a e p))
 
+-- What write answers, and the array after it.
 unfoldable pub writeStatus : Size → ℕ → List ℕ → ℕ → List ℕ → ℕ
 writeStatus z B a d new = refusal (writeTests z B (length a) d (length new))
 

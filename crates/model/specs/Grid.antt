@@ -38,6 +38,7 @@ across z = columns z + 1
 unfoldable pub gridOf : Size → Layout
 gridOf z = grid (rows z) (columns z) 16
 
+-- Disks of the grid.
 unfoldable pub disks : Size → ℕ
 disks z = (rows z + 1) * across z
 
@@ -57,12 +58,14 @@ arrayBytes z B = disks z * B
 unfoldable pub arrayOf : Size → ℕ → (ℕ → ℕ → ℕ) → List ℕ
 arrayOf z B f = tabulate (arrayBytes z B) (λ i. f (i / B) (i % B))
 
--- What refusals 1, 2 and 4 test. A map has a byte for each disk: 0 present, 1 erased (paper 01: marked).
+-- What refusal 1 tests: 2 to 15 data disks along a side.
 unfoldable pub sizeFits : Size → Bool
 sizeFits z = leb 2 (z .side) && leb (z .side) 15
 
+-- What refusal 2 tests: a block of 1 to 4,096 bytes.
 unfoldable pub blockFits : ℕ → Bool
 blockFits B = leb 1 B && leb B 4096
 
+-- What refusal 4 tests: a map has a byte for each disk, 0 present, 1 erased (paper 01: marked).
 unfoldable pub mapFits : Size → List ℕ → Bool
 mapFits z m = eqb (length m) (disks z) && every (length m) (λ d. leb (getD m d 0) 1)

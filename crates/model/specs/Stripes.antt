@@ -10,8 +10,7 @@ use lib.ListN.{length, getD}
 use Rattle.model.specs.Fold.{xsum, gate, every}
 
 -- Disks (paper 01: cards) and stripes (paper 01: lines), both numbered from 0. `through d` lists the stripes of disk d,
--- lowest first. Stripe numbers lie below `stripeBound`; one
--- that no disk lists is an empty stripe.
+-- lowest first. Stripe numbers lie below `stripeBound`; one that no disk lists is an empty stripe.
 pub record Layout : Type 0 where
   pub disks : ℕ
   pub stripeBound : ℕ
@@ -25,6 +24,7 @@ pub record TwoStripes (L : Layout) : Type 0 where
   pub order : (d : ℕ) → d < L .disks → low d < high d
   pub bound : (d : ℕ) → d < L .disks → high d < L .stripeBound
 
+-- The number stands in the list.
 unfoldable pub among : ℕ → List ℕ → Bool
 among s [] = false
 among s (t ∷ ts) = eqb s t || among s ts
