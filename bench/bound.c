@@ -36,12 +36,12 @@ static void read_bytes(const uint8_t *bytes, size_t length)
 
 static void copy_bytes(const uint8_t *bytes, size_t length)
 {
-    static uint8_t copy[SIDE_MAX * SIDE_MAX * BLOCK_MAX];
+    static uint8_t copy[ACROSS_MAX * ACROSS_MAX * BLOCK_MAX];
     memcpy(copy, bytes, length);
     sink = copy[length - 1];
 }
 
-/* The three calls of a bound: the prototypes of a peer around one way of moving bytes. */
+/* The three calls for scale: the prototypes of a peer around one way of moving bytes. */
 #define BOUND(peer, move)                                                                                             \
     uint32_t peer##_seal(size_t n, size_t block, uint8_t *array, size_t array_len)                                    \
     {                                                                                                                 \

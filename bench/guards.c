@@ -10,7 +10,7 @@ struct guard {
     double most;
 };
 
-/* The limits leave some room above what the loops reached when they were chosen. */
+/* The limits leave some room above the ratios in docs/PERFORMANCE.md. */
 static const struct guard guards[] = {
     {SEAL, READ, 2.4},
     {CHECK, READ, 2.6},

@@ -7,7 +7,7 @@
 #include <stdlib.h>
 
 /* The bytes of the largest array. */
-enum { LARGEST = SIDE_MAX * SIDE_MAX * BLOCK_MAX };
+enum { LARGEST = ACROSS_MAX * ACROSS_MAX * BLOCK_MAX };
 
 /* The new block stands behind the array at a fixed distance, which is no multiple of a block: where buffers stand
    modulo the page decides speed too, and must be the same in every run. */

@@ -8,7 +8,7 @@ typedef int xor_function(int vectors, int length, void **array);
 /* Applies a function of ISA-L to n + 1 stretches that stand `step` bytes apart; the last is the sum of the others. */
 static int over(xor_function *function, size_t n, const uint8_t *first, size_t step, size_t length)
 {
-    void *stretches[SIDE_MAX];
+    void *stretches[ACROSS_MAX];
     for (size_t k = 0; k <= n; k++)
         stretches[k] = (void *)(first + k * step);
     return function((int)(n + 1), (int)length, stretches);

@@ -17,7 +17,7 @@ struct peer {
     const char *name;
     /* The block's length has to be a multiple of this. */
     size_t unit;
-    /* The peer only moves the bytes: a bound on speed, with no result to compare. */
+    /* The peer only moves the bytes: it stands for scale, with no result to compare. */
     int bound;
     /* A call that the peer does not have is null; its rows are left out. */
     seal_call *seal;
@@ -37,6 +37,6 @@ seal_call plain_seal;
 enum { SEALED = 0, NOT_SEALED = 64, FIRST_COLUMN = 16 };
 
 /* The largest array: disks along a side, parity disks included, and bytes in a block. */
-enum { SIDE_MAX = 16, BLOCK_MAX = 4096 };
+enum { ACROSS_MAX = 16, BLOCK_MAX = 4096 };
 
 #endif

@@ -16,6 +16,6 @@ const struct peer peers[PEERS] = {
     [ISAL] = {"ISA-L", 32, 0, isal_seal, isal_check, NULL},
     [ISAL_SSE] = {"ISA-L xor_gen_sse", 32, 0, isal_sse_seal, NULL, NULL},
 #endif
-    [READ] = {"one SSE2 read (bound)", 1, 1, read_seal, read_check, read_write},
-    [COPY] = {"one memcpy (bound)", 1, 1, copy_seal, copy_check, copy_write},
+    [READ] = {"one SSE2 read (for scale)", 1, 1, read_seal, read_check, read_write},
+    [COPY] = {"one memcpy (for scale)", 1, 1, copy_seal, copy_check, copy_write},
 };

@@ -40,7 +40,7 @@ static void store_names(void)
             memcpy(block_of(row * ACROSS + column), names[row][column], BLOCK);
 }
 
-/* Data as text, parities as hexadecimal digits: a sum of letters is none. */
+/* Data as text, parities as hexadecimal digits: a sum of letters is not text. */
 static void print_disk(size_t row, size_t column)
 {
     const uint8_t *block = block_of(row * ACROSS + column);
@@ -75,7 +75,7 @@ static void seal_array(void)
     printf("seal: %s\n", raid2d_strerror(status));
 }
 
-/* Stripes 0 to 15 are rows, those from 16 on are columns. */
+/* Stripes below RAID2D_COLUMN_STRIPE are rows, the others are columns. */
 static void check_array(void)
 {
     size_t stripe = 0;
@@ -85,11 +85,11 @@ static void check_array(void)
         printf("check: the array is sealed\n");
     else if (status != RAID2D_NOT_SEALED)
         printf("check: refused, %s\n", raid2d_strerror(status));
-    else if (stripe < 16)
+    else if (stripe < RAID2D_COLUMN_STRIPE)
         printf("check: not sealed, see stripe %zu (row %zu)\n", stripe, stripe);
     else
         printf("check: not sealed, see stripe %zu (column %zu)\n", stripe,
-               stripe - 16);
+               stripe - RAID2D_COLUMN_STRIPE);
 }
 
 static void write_block(size_t disk, const char *name)

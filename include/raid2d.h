@@ -4,7 +4,8 @@
  * The library keeps the parities of a square array of disks, in memory that
  * the caller lends. Each call is proved, in the Rattle sources it is made
  * from, against a definition of its result and of every byte it leaves, for
- * every argument. This header puts those definitions into words.
+ * every argument. This header puts those definitions into words. It is C99
+ * and C++.
  *
  *
  * THE ARRAY
@@ -21,8 +22,8 @@
  *
  * GLOSSARY
  *
- * The words of this header; in brackets the cabinet order's where it has
- * another.
+ * The words of this header; in brackets those of the library's order, where
+ * it has others.
  *
  *   sum            Exclusive or of blocks, at each byte place by itself.
  *   block          The bytes of one disk: as many for every disk.
@@ -43,7 +44,7 @@
  *   map            One byte for each disk, in the same order: 0 present,
  *                  1 erased.
  *   erased         [marked, failed] Said of a disk whose block counts for
- *                  nothing.
+ *                  nothing. Calls without a map take every disk as present.
  *   status         [refusal number] What a call returns.
  *
  *
@@ -66,8 +67,8 @@
  * every out-parameter as it was. A status keeps its number for good.
  *
  * State. There is none: no memory is allocated, nothing is read or written
- * but what is lent. Calls that lend different buffers may run at the same
- * time.
+ * but what is lent. Calls may run at the same time unless one writes what
+ * another is lent.
  */
 
 #ifndef RAID2D_H
@@ -94,7 +95,10 @@ extern "C" {
 /* Bytes of an array. With constants for n and b it can size a static array. */
 #define RAID2D_ARRAY_BYTES(n, b)  (RAID2D_DISKS(n) * (size_t)(b))
 
-/* The statuses. 1 to 9 are the numbers of the order's refusals. */
+/* The stripe number of column 0. Row r is stripe r, column c this plus c. */
+#define RAID2D_COLUMN_STRIPE  16
+
+/* The statuses. Their numbers never change. */
 enum raid2d_status {
     RAID2D_OK = 0,
     RAID2D_ERR_SIDE = 1,
@@ -191,7 +195,9 @@ uint32_t raid2d_check(size_t n, size_t block,
  * The disk's row parity, its column parity and the superparity change by the
  * difference of the old block and the new one. So every stripe's sum stays
  * what it was: a sealed array stays sealed and is then what raid2d_seal makes
- * of the changed data, and damage elsewhere stays as visible as before.
+ * of the changed data, and damage stays visible to raid2d_check. Overwriting
+ * a damaged block moves its damage into the three parities. data must not be
+ * a part of array.
  *
  *   n          data disks along a side, RAID2D_SIDE_MIN to RAID2D_SIDE_MAX
  *   block      bytes in a block, RAID2D_BLOCK_MIN to RAID2D_BLOCK_MAX

@@ -21,6 +21,7 @@ static void limits_and_sizes(void)
     expect(RAID2D_BLOCK_MIN == 1 && RAID2D_BLOCK_MAX == 4096, "range of block");
     expect(sizeof largest == 1048576 && largest[0] == 0,
            "bytes of the largest array");
+    expect(RAID2D_COLUMN_STRIPE == 16, "stripe of column 0");
     expect(RAID2D_DISKS(2) == 9 && RAID2D_DISKS(15) == 256, "disks");
     expect(RAID2D_DISKS(1 + 1) == 9, "disks, from an expression");
     expect(RAID2D_ARRAY_BYTES(1 + 1, 1 + 2) == 27, "bytes, from expressions");

@@ -1,5 +1,5 @@
 pub mod Blocks
 pub mod Rows
-pub mod Lines
+pub mod Sums
 pub mod Part
 pub mod Turns

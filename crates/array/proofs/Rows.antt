@@ -57,8 +57,8 @@ module _ (z : Size) (B : ℕ) (a : List ℕ) (fits : length a ≡ arrayBytes z B
         one = omega arith;
       }
 
-  pub last-spaced : (down : ℕ) → down ≡ rows z → Spaced a 0 (w * B) (down + 1) down (w * B)
-  last-spaced down rows-are =
+  pub last-spaced : (last : ℕ) → last ≡ rows z → Spaced a 0 (w * B) (last + 1) last (w * B)
+  last-spaced last rows-are =
       record {
         within = λ k l. rw across-is
             (let b = blocks-within z B (length a) fits (k * across z) (across z) (row-start z k (across z) (omega arith) (le-refl (across z))) in
@@ -89,6 +89,10 @@ pub rows-none : (z : Size) (B : ℕ) (a : List ℕ) → length a ≡ arrayBytes 
 unfolding rowsSealed
 rows-none z B a e = array-self z B a e ∙ array-ext z B (λ d p l b. simp (le-ltb (d / across z) 0 (omega arith)))
 
+-- A definition by row and column, at a disk of the grid.
+at-cell : (z : Size) (f : ℕ → ℕ → ℕ) (r c : ℕ) → c ≤ columns z → f (diskAt z r c / across z) (diskAt z r c % across z) ≡ f r c
+at-cell z f r c h = ap₂ f (row-of z r c (column-inside z c h)) (column-of z r c (column-inside z c h))
+
 -- The bytes of the array with the first k row parities filled.
 rows-at : (z : Size) (B : ℕ) (a : List ℕ) (k r c p : ℕ) → r ≤ rows z → c ≤ columns z → p < B
     → byte (whole B) (rowsSealed z B a k) (diskAt z r c) p
@@ -96,16 +100,11 @@ rows-at : (z : Size) (B : ℕ) (a : List ℕ) (k r c p : ℕ) → r ≤ rows z �
 unfolding rowsSealed
 rows-at z B a k r c p hr hc b =
     byte-arrayOf z B _ (diskAt z r c) p (disk-below z r c hr hc) b
-    ∙ ap₂ (λ (i j : ℕ). cond (ltb i k && eqb j (columns z)) (rowData z (whole B) a p i) (byte (whole B) a (diskAt z r c) p))
-    (row-of z r c (column-inside z c hc)) (column-of z r c (column-inside z c hc))
+    ∙ at-cell z (λ i j. cond (ltb i k && eqb j (columns z)) (rowData z (whole B) a p i) (byte (whole B) a (diskAt z r c) p)) r c hc
 
 pub rows-length : (z : Size) (B : ℕ) (a : List ℕ) (k : ℕ) → length (rowsSealed z B a k) ≡ arrayBytes z B
 unfolding rowsSealed
 rows-length z B a k = array-length z B _
-
--- A definition by row and column, at a disk of the grid.
-at-cell : (z : Size) (f : ℕ → ℕ → ℕ) (r c : ℕ) → c ≤ columns z → f (diskAt z r c / across z) (diskAt z r c % across z) ≡ f r c
-at-cell z f r c h = ap₂ f (row-of z r c (column-inside z c h)) (column-of z r c (column-inside z c h))
 
 -- The row parity of row k is filled where those of the rows before it are.
 pub rows-next : (z : Size) (B : ℕ) (a : List ℕ) (k : ℕ) → k < rows z → rowSealed z B (rowsSealed z B a k) k ≡ rowsSealed z B a (k + 1)

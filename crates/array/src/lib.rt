@@ -17,7 +17,7 @@ pub fn seal(size: Size, block: usize, array: &mut [u8]) -> u32
     ensures status { λ r. ⌜ r ≡ sealStatus size block (now (array .entry)) ⌝ }
     ensures array { λ r. ⌜ now (array .exit) ≡ sealArray size block (now (array .entry)) ⌝ }
 {
-    let status = layout::refusal(size, block, array.len());
+    let status = layout::array_refusal(size, block, array.len());
     if status != 0 {
         return status;
     }
@@ -30,9 +30,9 @@ pub fn seal(size: Size, block: usize, array: &mut [u8]) -> u32
 pub fn check(size: Size, block: usize, array: &[u8]) -> Checked
     ensures { λ r. ⌜ r ≡ checked size block (now (array .entry)) ⌝ }
 {
-    let refusal = layout::refusal(size, block, array.len());
-    if refusal != 0 {
-        return Checked::Refused(refusal);
+    let status = layout::array_refusal(size, block, array.len());
+    if status != 0 {
+        return Checked::Refused(status);
     }
     let row = stripes::lowest_row(size, block, array);
     if row <= layout::rows(size) {
@@ -50,9 +50,9 @@ pub fn write(size: Size, block: usize, array: &mut [u8], disk: usize, data: &[u8
     ensures status { λ r. ⌜ r ≡ writeStatus size block (now (array .entry)) disk (now («data» .entry)) ⌝ }
     ensures array { λ r. ⌜ now (array .exit) ≡ writeArray size block (now (array .entry)) disk (now («data» .entry)) ⌝ }
 {
-    let refused = layout::refusal(size, block, array.len());
-    if refused != 0 {
-        return refused;
+    let status = layout::array_refusal(size, block, array.len());
+    if status != 0 {
+        return status;
     }
     if !layout::is_data(size, disk) {
         return 8;
@@ -74,7 +74,7 @@ pub fn look<'a>(size: Size, block: usize, array: &'a [u8], map: &[u8], disk: usi
         ptr r ≡ (ptr (array .entry) .0, ptr (array .entry) .1 + lookOffset size block (now (array .entry)) (now (map .entry)) disk)
         ⌝ }
 {
-    if layout::refusal(size, block, array.len()) != 0 {
+    if layout::array_refusal(size, block, array.len()) != 0 {
         return &array[..0];
     }
     if !layout::map_fits(size, map) {

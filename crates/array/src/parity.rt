@@ -34,7 +34,7 @@ pub fn fill_last_row(size: Size, block: usize, array: &mut [u8])
     requires { ⌜ sealStatus size block (now array) ≡ 0 ⌝ }
     ensures { λ r. ⌜ now (array .exit) ≡ lastRowSealed size block (now (array .entry)) ⌝ }
 {
-    let down = layout::rows(size);
+    let last = layout::rows(size);
     let whole = layout::across(size) * block;
-    xor::fill::fill(array, 0, whole, down + 1, down, whole);
+    xor::fill::fill(array, 0, whole, last + 1, last, whole);
 }

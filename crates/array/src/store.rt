@@ -4,6 +4,7 @@ ghost use Rattle.model.specs.Array.{writeStatus, written};
 use model::Size;
 
 // Byte by byte, the new block goes to its disk and the difference to the row parity, the column parity and the superparity.
+// own, row, column and corner are where these four blocks start.
 pub fn store(size: Size, block: usize, array: &mut [u8], disk: usize, data: &[u8])
     requires { ⌜ writeStatus size block (now array) disk (now «data») ≡ 0 ⌝ }
     ensures { λ r. ⌜ now (array .exit) ≡ written size block (now (array .entry)) disk (now («data» .entry)) ⌝ }

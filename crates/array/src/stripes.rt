@@ -9,18 +9,18 @@ ghost use Rattle.model.specs.Grid.{rows, across, gridOf};
 ghost use Rattle.model.specs.Refusal.{refusal, arrayTests};
 use model::Size;
 
-// The lowest such row, or the number of rows.
+// The lowest such row, or n + 1 where there is none.
 pub fn lowest_row(size: Size, block: usize, array: &[u8]) -> usize
     requires { ⌜ refusal (arrayTests size block (length (now array))) ≡ 0 ⌝ }
     ensures { λ r. ⌜ r ≡ lowest (rows size + 1) (λ s. not (sumsToZero (gridOf size) (whole block) (now (array .entry)) s)) ⌝ }
 {
-    let lines = layout::rows(size) + 1;
+    let down = layout::rows(size) + 1;
     let across = layout::across(size);
     let pitch = across * block;
-    xor::cancel::lowest_nonzero(array, pitch, lines, block, across, across, block)
+    xor::cancel::lowest_nonzero(array, pitch, down, block, across, across, block)
 }
 
-// The lowest such column, counted from 0, or the number of columns. All columns are tested at once first, as the sum of whole
+// The lowest such column, counted from 0, or n + 1 where there is none. All columns are tested at once first, as the sum of whole
 // rows: only where that is not zero is there one to look for.
 pub fn lowest_column(size: Size, block: usize, array: &[u8]) -> usize
     requires { ⌜ refusal (arrayTests size block (length (now array))) ≡ 0 ⌝ }

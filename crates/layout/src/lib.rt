@@ -108,7 +108,7 @@ pub fn map_fits(size: Size, map: &[u8]) -> bool
 
 // The tests of the size, the block's length and the array's length, which come first in every call on an array: the
 // refusal, or 0.
-pub fn refusal(size: Size, block: usize, len: usize) -> u32
+pub fn array_refusal(size: Size, block: usize, len: usize) -> u32
     ensures { λ r. ⌜ r ≡ refusal (arrayTests size block len) ⌝ }
 {
     if !size_fits(size) {

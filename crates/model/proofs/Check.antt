@@ -7,7 +7,7 @@ use mathlib.Core.List.{List}
 use Prim.Native.Nat.{ℕ, _<_}
 use native.Mathlib.Nat.{le-of-lt, lt-of-lt-of-le}
 use native.Mathlib.Omega.{arith}
-use borrow.Author.Tests.{eq-eqb, eqb-true, eqb-false, ltb-true, ltb-false, lt-ltb, le-ltb, not-true, not-false}
+use borrow.Author.Tests.{eq-eqb, ne-eqb, eqb-true, eqb-false, ltb-true, ltb-false, lt-ltb, le-ltb, not-true, not-false}
 use lib.Dec.{eqb, ltb}
 use lib.ListN.{length}
 use Rattle.model.specs.Fold.{lowest}
@@ -19,7 +19,7 @@ use Rattle.model.specs.Array.{lowestUnsealed, checked, checkStatus}
 use Rattle.model.specs.declared.Size.{Size}
 use Rattle.model.specs.declared.Checked.{Checked}
 use Rattle.model.specs.declared.Checked.the-variants.{Sealed, Unsealed, Refused}
-use Rattle.model.proofs.Fold.{every-at, every-all, every-fails, Lowest, lowest-is, lowest-unique}
+use Rattle.model.proofs.Fold.{every-at, every-all, every-not, every-fails, Lowest, lowest-is, lowest-unique}
 use Rattle.model.proofs.Equations.{equations-iff-sums}
 use Rattle.model.proofs.Refusal.{given-accepted, array-fits}
 
@@ -40,11 +40,8 @@ module _ (L : Layout) (x : Stretch) (a : List ℕ) (s : ℕ) where
       (p, h, eqb-false (stripeSum L x a s p) 0 q)
 
   pub nonzero-of-place : (p : ℕ) → p < x .width → (stripeSum L x a s p ≡ 0 → ⊥) → sumsToZero L x a s ≡ false
-  nonzero-of-place p h q = go (sumsToZero L x a s) refl
-    where
-      go : (b : Bool) → sumsToZero L x a s ≡ b → b ≡ false
-      go true e = absurd (q (sums-of-zero e p h))
-      go false e = refl
+  unfolding sumsToZero
+  nonzero-of-place p h q = every-not (x .width) _ p h (ne-eqb _ 0 q)
 
 -- What it tells that the answer is Sealed, or Unsealed.
 of-sealed : (b : Bool) (k : ℕ) → cond b (Unsealed k) Sealed ≡ Sealed → b ≡ false

@@ -14,7 +14,7 @@ use Rattle.model.specs.Equations.{cell, rowData, columnData, Equations}
 use Rattle.model.specs.declared.Size.{Size}
 use Rattle.model.proofs.Xor.{equal-of-zero, zero-of-equal}
 use Rattle.model.proofs.Fold.{below-suc}
-use Rattle.model.proofs.Grid.{size-fits, row-stripe, column-stripe, empty-stripe, row-line, column-line, by-stripe}
+use Rattle.model.proofs.Grid.{size-fits, row-stripe, column-stripe, empty-stripe, row-number, column-number, by-stripe}
 
 -- A sum is zero if and only if its last part is the sum of the others.
 last-is-sum : {sum : ℕ} (n : ℕ) (f : ℕ → ℕ) → sum ≡ xsum (n + 1) f → (sum ≡ 0) ↔ (f n ≡ xsum n f)
@@ -52,9 +52,9 @@ module _ (z : Size) (fits : sizeFits z ≡ true) (x : Stretch) (a : List ℕ) wh
   unfolding rowData columnData
   equations-of-sums h =
       let row : (r : ℕ) → r ≤ rows z → (p : ℕ) → p < x .width → cell z x a p r (columns z) ≡ rowData z x a p r =
-      λ r l p b. row-equation r l p .0 (h r (row-line z (size-fits z fits) r l) p b) in
+      λ r l p b. row-equation r l p .0 (h r (row-number z (size-fits z fits) r l) p b) in
       let column : (c : ℕ) → c ≤ columns z → (p : ℕ) → p < x .width → cell z x a p (rows z) c ≡ columnData z x a p c =
-      λ c l p b. column-equation c l p .0 (h (16 + c) (column-line z c l) p b) in
+      λ c l p b. column-equation c l p .0 (h (16 + c) (column-number z c l) p b) in
       record {
         rowParity = λ p b r l. row r (le-of-lt l) p b;
         columnParity = λ p b c l. column c (le-of-lt l) p b;

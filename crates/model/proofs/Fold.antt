@@ -96,11 +96,6 @@ xsum-only (suc n) k {f} l h =
     ∙ ⊕-zero (f k))
     (eq-or-lt-of-le (le-of-suc-le-suc l))
 
-pub gate-zero : (b : Bool) → gate b 0 ≡ 0
-unfolding gate
-gate-zero true = refl
-gate-zero false = refl
-
 pub gate-⊕ : (b : Bool) (x y : ℕ) → gate b (x ⊕ y) ≡ gate b x ⊕ gate b y
 unfolding gate
 gate-⊕ true x y = refl

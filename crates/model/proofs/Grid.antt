@@ -98,7 +98,7 @@ both-bounds : (low n high : ℕ) → (leb low n && leb n high) ≡ true → (low
 both-bounds low n high e =
     (leb-true low n (and-left (leb low n) (leb n high) e), leb-true n high (and-right (leb low n) (leb n high) e))
 
--- The one place that knows how many rows and columns a size has.
+-- What a size that fits says of its rows and of its columns.
 pub size-fits : (z : Size) → sizeFits z ≡ true → Fits z
 unfolding sizeFits rows columns
 size-fits z e =
@@ -166,13 +166,13 @@ pub gridOf-two : (z : Size) → sizeFits z ≡ true → TwoStripes (gridOf z)
 unfolding gridOf
 gridOf-two z fits = let f : Fits z = size-fits z fits in grid-two (rows z) (columns z) 16 (omega arith)
 
-pub row-line : (z : Size) → Fits z → (r : ℕ) → r ≤ rows z → r < gridOf z .stripeBound
+pub row-number : (z : Size) → Fits z → (r : ℕ) → r ≤ rows z → r < gridOf z .stripeBound
 unfolding gridOf grid
-row-line z fits r l = omega arith
+row-number z fits r l = omega arith
 
-pub column-line : (z : Size) (c : ℕ) → c ≤ columns z → 16 + c < gridOf z .stripeBound
+pub column-number : (z : Size) (c : ℕ) → c ≤ columns z → 16 + c < gridOf z .stripeBound
 unfolding gridOf grid
-column-line z c l = omega arith
+column-number z c l = omega arith
 
 pub by-stripe : (z : Size) (P : ℕ → Type 0)
     → ((r : ℕ) → r ≤ rows z → P r) → ((s : ℕ) → rows z < s → s < 16 → P s) → ((c : ℕ) → c ≤ columns z → P (16 + c))

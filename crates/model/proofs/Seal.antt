@@ -63,9 +63,9 @@ module _ (z : Size) (B : ℕ) (a : List ℕ) where
   byte-S p = rw (le-ltb (columns z) (columns z) (le-refl (columns z)), le-ltb (rows z) (rows z) (le-refl (rows z)))
 
   -- The sealed array has these bytes.
-  has-sealed : Has z B a (encoded z B a)
+  has-encoded : Has z B a (encoded z B a)
   unfolding cell encoded
-  has-sealed r c l k p h =
+  has-encoded r c l k p h =
       let w : c < across z = column-inside z c k in
       byte-arrayOf z B _ (diskAt z r c) p (disk-below z r c l k) h ∙ ap₂ (λ (i j : ℕ). encodedByte z B a i j p) (row-of z r c w) (column-of z r c w)
 
@@ -121,10 +121,10 @@ module _ (z : Size) (B : ℕ) (a : List ℕ) where
   encoded-length = array-length z B _
 
   pub encoded-same : Same z B a (encoded z B a)
-  encoded-same = data-of-bytes (encoded z B a) has-sealed
+  encoded-same = data-of-bytes (encoded z B a) has-encoded
 
   pub encoded-equations : Equations z (whole B) (encoded z B a)
-  encoded-equations = equations-of-bytes (encoded z B a) has-sealed
+  encoded-equations = equations-of-bytes (encoded z B a) has-encoded
 
   -- Where all bytes of an array are below 256, so are those of the sealed array.
   module _ (small : (i : ℕ) → i < length a → getD a i 0 < 256) where
@@ -136,9 +136,9 @@ module _ (z : Size) (B : ℕ) (a : List ℕ) where
     unfolding columnData cell
     small-column p c = xsum-byte (rows z) (λ r l. small-byte a small (whole B) (diskAt z r c) p)
 
-    small-sealedByte : (r c p : ℕ) → encodedByte z B a r c p < 256
+    small-encodedByte : (r c p : ℕ) → encodedByte z B a r c p < 256
     unfolding encodedByte
-    small-sealedByte r c p =
+    small-encodedByte r c p =
         choose (ltb c (columns z)) (choose (ltb r (rows z)) (small-byte a small (whole B) (diskAt z r c) p) (small-column p c))
         (choose (ltb r (rows z)) (small-row p r) (xsum-byte (rows z) (λ i l. small-row p i)))
       where
@@ -148,7 +148,7 @@ module _ (z : Size) (B : ℕ) (a : List ℕ) where
 
     pub encoded-small : (i : ℕ) → i < length (encoded z B a) → getD (encoded z B a) i 0 < 256
     unfolding encoded
-    encoded-small = array-all z B _ (λ v. v < 256) (λ d p l h. small-sealedByte (d / across z) (d % across z) p)
+    encoded-small = array-all z B _ (λ v. v < 256) (λ d p l h. small-encodedByte (d / across z) (d % across z) p)
 
 -- The data are the same in every data row and column if and only if they are on every data disk.
 module _ (z : Size) (B : ℕ) (a b : List ℕ) where

@@ -48,7 +48,7 @@ checked z B a =
     (Refused (refusal (arrayTests z B (length a))))
 
 -- The number of an answer: 0 sealed, a refusal's own, and 64 for a stripe whose sum is not zero. Paper 01 gives that answer
--- no number; 64 is the C interface's, past the refusals of all editions.
+-- no number; 64 is the C interface's, above every refusal number.
 unfoldable pub checkStatus : Checked → ℕ
 checkStatus Sealed = 0
 checkStatus (Unsealed s) = 64

@@ -17,6 +17,6 @@ unfoldable pub refusal : List Test → ℕ
 refusal [] = 0
 refusal (k unless t ∷ ts) = cond t (refusal ts) k
 
--- The tests with which seal, check and write begin: the size, the block's length, the array's length.
+-- The tests with which every call on an array begins: the size, the block's length, the array's length.
 unfoldable pub arrayTests : Size → (B len : ℕ) → List Test
 arrayTests z B len = 1 unless sizeFits z ∷ 2 unless blockFits B ∷ 3 unless eqb len (arrayBytes z B) ∷ []

@@ -24,7 +24,7 @@ module _ (l : List ℕ) (at n : ℕ) (f : ℕ → ℕ) where
   unfolding stored
   getD-stored i b p q = getD-tabulate (length l) _ i b ∙ simp (le-leb _ _ p, lt-ltb _ _ q)
 
-  -- Past the end there is nothing in either list, and elsewhere what `value` says.
+  -- Outside the stretch, also past the end, where there is nothing in either list.
   outside : (i : ℕ) → (leb at i && ltb i (at + n)) ≡ false → getD (stored l at n f) i 0 ≡ getD l i 0
   unfolding stored
   outside i e =

@@ -24,7 +24,7 @@ fn zero128(v: [u8; 128]) -> bool
     any == 0
 }
 
-// 128 bytes for each of `chunks`.
+// The same for 128 * chunks bytes, 128 at a time.
 fn cancel128(a: &[u8], first: usize, step: usize, count: usize, skip: usize, chunks: usize) -> bool
     requires { ⌜ Within (now a) first step count (128 * chunks) ⌝ }
     requires { ⌜ first + 128 * chunks ≤ length (now a) ⌝ }
@@ -54,7 +54,7 @@ fn zero16(v: [u8; 16]) -> bool
     any == 0
 }
 
-// 16 bytes for each of `chunks`.
+// The same for 16 * chunks bytes, 16 at a time.
 fn cancel16(a: &[u8], first: usize, step: usize, count: usize, skip: usize, chunks: usize) -> bool
     requires { ⌜ Within (now a) first step count (16 * chunks) ⌝ }
     requires { ⌜ first + 16 * chunks ≤ length (now a) ⌝ }
@@ -71,7 +71,7 @@ fn cancel16(a: &[u8], first: usize, step: usize, count: usize, skip: usize, chun
     true
 }
 
-// One byte at a time.
+// The same, one byte at a time.
 fn cancel1(a: &[u8], first: usize, step: usize, count: usize, skip: usize, len: usize) -> bool
     requires { ⌜ Within (now a) first step count len ⌝ }
     requires { ⌜ first + len ≤ length (now a) ⌝ }
@@ -114,27 +114,27 @@ pub fn cancel(a: &[u8], first: usize, step: usize, count: usize, skip: usize, le
     )
 }
 
-// The lowest of `lines` sums that is not zero somewhere, or `lines` where there is none. The stretches of sum number i
+// The lowest of `total` sums that is not zero somewhere, or `total` where there is none. The stretches of sum number i
 // start at i * pitch.
 pub fn lowest_nonzero(
     a: &[u8],
     pitch: usize,
-    lines: usize,
+    total: usize,
     step: usize,
     count: usize,
     skip: usize,
     len: usize,
 ) -> usize
-    requires { ⌜ ((i : ℕ) → i < lines → Within (now a) (i * pitch) step count len) ⌝ }
-    requires { ⌜ ((i : ℕ) → i < lines → i * pitch + len ≤ length (now a)) ⌝ }
-    ensures { λ r. ⌜ r ≡ lowest lines (λ i. not (cancelled len (now (a .entry)) (i * pitch) step count skip)) ⌝ }
+    requires { ⌜ ((i : ℕ) → i < total → Within (now a) (i * pitch) step count len) ⌝ }
+    requires { ⌜ ((i : ℕ) → i < total → i * pitch + len ≤ length (now a)) ⌝ }
+    ensures { λ r. ⌜ r ≡ lowest total (λ i. not (cancelled len (now (a .entry)) (i * pitch) step count skip)) ⌝ }
 {
     let mut i = 0;
-    while i < lines {
+    while i < total {
         if !cancel(a, i * pitch, step, count, skip, len) {
             return i;
         }
         i += 1;
     }
-    lines
+    total
 }

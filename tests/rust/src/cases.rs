@@ -1,5 +1,5 @@
-//! The cases of paper 01 that concern these calls: 1, 9, 10 and 11. The paper's outcome is expected of the library
-//! and of the model, which ties the model to the paper.
+//! The cases of paper 01 that concern these calls: 1, 9, 10, and of 11 the write to card 2. The paper's outcome is
+//! expected of the library and of the model, which ties the model to the paper.
 
 use crate::model::disk_count;
 use crate::outcome::Outcome;
@@ -26,7 +26,7 @@ fn write(run: &mut Run, case: &str, disk: usize, data: &[u8], status: usize, aft
 }
 
 pub fn run(run: &mut Run) {
-    seal(run, "1", 2, 1, &[1, 2, 0, 4, 8, 0, 0, 0, 0], 0, &A);
+    seal(run, "1", 2, 1, &[1, 2, 99, 4, 8, 7, 6, 5, 4], 0, &A);
     let sealed = Outcome::reading(0, None);
     stated(run, "1, checked", sealed, || ffi::check(2, 1, &A), model::check(2, 1, &A));
     write(run, "9", 0, &[9], 0, &[9, 2, 11, 4, 8, 12, 13, 10, 7]);

@@ -10,17 +10,17 @@ use Rattle.array.proofs.Part.{map-length, look-refused, look-no-map, lo
 use Rattle.array.proofs.look.Statement.{statement}
 use Rattle.array.proofs.look.Tie as tie
 
-refusal-requires : tie.Need-refusal-requires
-refusal-requires c κs = search needs
+array-refusal-requires : tie.Need-array-refusal-requires
+array-refusal-requires c κs = search needs
 
 slice-aggregate-result : tie.Need-slice-aggregate-result
 slice-aggregate-result c = search needs
 
 returns : tie.Need-returns
-returns c = look-refused _ _ _ _ _ (λ e. c .before .if1 .taken (c .before .before .refusal .ensures ∙ e)) _
+returns c = look-refused _ _ _ _ _ (λ e. c .before .if1 .taken (c .before .before .array-refusal .ensures ∙ e)) _
 
 map-fits-requires : tie.Need-map-fits-requires
-map-fits-requires c κs = array-fits _ _ _ (sym (c .before .refusal .ensures) ∙ c .if1 .left) .size
+map-fits-requires c κs = array-fits _ _ _ (sym (c .before .array-refusal .ensures) ∙ c .if1 .left) .size
 
 slice-aggregate-result-2 : tie.Need-slice-aggregate-result-2
 slice-aggregate-result-2 c = search needs
@@ -29,7 +29,7 @@ returns-2 : tie.Need-returns-2
 returns-2 c = look-no-map _ _ _ _ _ (sym (c .before .before .map-fits .ensures) ∙ not-true _ (c .before .if2 .taken)) _
 
 disks-requires : tie.Need-disks-requires
-disks-requires c κs = array-fits _ _ _ (sym (c .before .before .before .refusal .ensures) ∙ c .before .before .if1 .left) .size
+disks-requires c κs = array-fits _ _ _ (sym (c .before .before .before .array-refusal .ensures) ∙ c .before .before .if1 .left) .size
 
 slice-aggregate-result-3 : tie.Need-slice-aggregate-result-3
 slice-aggregate-result-3 c = search needs
@@ -53,7 +53,7 @@ part-result-end : tie.Need-part-result-end
 part-result-end c =
     let s = c .before .before .before .before .before .before .before in
     let e = c .before .before .before .disks .ensures in
-    let fits = array-fits _ _ _ (sym (s .refusal .ensures) ∙ c .before .before .before .before .before .before .if1 .left) in
+    let fits = array-fits _ _ _ (sym (s .array-refusal .ensures) ∙ c .before .before .before .before .before .before .if1 .left) in
     let h = block-within _ _ _ (fits .long) (s .before .before .before .args .disk) (omega arith) in
     omega arith
 
@@ -74,7 +74,7 @@ returns-5 c =
     let s = c .before .before .before in
     let e = s .before .disks .ensures in
     look-block _ _ _ _ _
-    (sym (s .before .before .before .before .before .refusal .ensures) ∙ s .before .before .before .before .if1 .left)
+    (sym (s .before .before .before .before .before .array-refusal .ensures) ∙ s .before .before .before .before .if1 .left)
     (sym (s .before .before .before .map-fits .ensures) ∙ not-false _ (s .before .before .if2 .left))
     (omega arith)
     (c .before .if4 .left)
@@ -84,7 +84,7 @@ pub look-spec : {M : Type 1} → statement M
 look-spec =
     tie.close
     (tie.spec
-    refusal-requires
+    array-refusal-requires
     slice-aggregate-result
     returns
     map-fits-requires

@@ -10,19 +10,19 @@ use Rattle.array.proofs.Rows.{halves-seal, same-status}
 use Rattle.array.proofs.seal.Statement.{statement}
 use Rattle.array.proofs.seal.Tie as tie
 
-refusal-requires : tie.Need-refusal-requires
-refusal-requires c κs = search needs
+array-refusal-requires : tie.Need-array-refusal-requires
+array-refusal-requires c κs = search needs
 
 returns : tie.Need-returns
 unfolding sealStatus
 returns c =
     let a = c .before .before .before .args in
-    let status = c .before .refusal .ensures in
+    let status = c .before .array-refusal .ensures in
     (status, sym (seal-refused (a .size) (a .block) (a .array .now) (λ e. c .if1 .taken (status ∙ e))))
 
 fill-rows-requires : tie.Need-fill-rows-requires
 unfolding sealStatus
-fill-rows-requires c κs = sym (c .before .before .refusal .ensures) ∙ c .before .if1 .left
+fill-rows-requires c κs = sym (c .before .before .array-refusal .ensures) ∙ c .before .if1 .left
 
 fill-last-row-requires : tie.Need-fill-last-row-requires
 fill-last-row-requires c κs =
@@ -37,7 +37,7 @@ returns-2 : tie.Need-returns-2
 unfolding sealStatus
 returns-2 c =
     let a = c .before .before .before .before .before .before .before .before .before .before .before .args in
-    let ok = sym (c .before .before .before .before .before .before .before .before .before .refusal .ensures) ∙ c .before .before .before .before .before .before .before .before .if1 .left in (
+    let ok = sym (c .before .before .before .before .before .before .before .before .before .array-refusal .ensures) ∙ c .before .before .before .before .before .before .before .before .if1 .left in (
       sym ok,
       c .before .before .fill-last-row .ensures ∙ ap (lastRowSealed (a .size) (a .block)) (c .before .before .before .before .before .before .fill-rows .ensures)
           ∙ halves-seal (a .size) (a .block) (a .array .now) ∙ sym (seal-is (a .size) (a .block) (a .array .now) ok),
@@ -47,7 +47,7 @@ pub seal-spec : {M : Type 1} → statement M
 seal-spec =
     tie.close
     (tie.spec
-    refusal-requires
+    array-refusal-requires
     returns
     fill-rows-requires
     fill-last-row-requires

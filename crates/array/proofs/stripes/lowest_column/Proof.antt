@@ -7,7 +7,7 @@ use lib.ListN.{length}
 use Rattle.model.proofs.Grid.{size-fits}
 use Rattle.model.proofs.Refusal.{ArrayFits, array-fits}
 use Rattle.array.proofs.Rows.{last-spaced}
-use Rattle.array.proofs.Lines.{width-within, columns-reach, column-lowest, columns-none}
+use Rattle.array.proofs.Sums.{width-within, columns-reach, column-lowest, columns-none}
 use Rattle.array.proofs.stripes.lowest_column.Statement.{statement}
 use Rattle.array.proofs.stripes.lowest_column.Tie as tie
 

@@ -6,7 +6,7 @@ use borrow.Author.Needs.{needs}
 use lib.ListN.{length}
 use Rattle.model.proofs.Grid.{size-fits}
 use Rattle.model.proofs.Refusal.{ArrayFits, array-fits}
-use Rattle.array.proofs.Lines.{width-within, rows-reach, row-lowest}
+use Rattle.array.proofs.Sums.{width-within, rows-reach, row-lowest}
 use Rattle.array.proofs.stripes.lowest_row.Statement.{statement}
 use Rattle.array.proofs.stripes.lowest_row.Tie as tie
 
@@ -17,8 +17,8 @@ sized s = array-fits _ _ _ (s .pre)
 rows-requires : tie.Need-rows-requires
 rows-requires c κs = search needs
 
-add-lines : tie.Need-add-lines
-add-lines c = let h = size-fits _ (sized (c .before .before) .size) .rowsHigh in let e = c .rows .ensures in omega arith
+add-down : tie.Need-add-down
+add-down c = let h = size-fits _ (sized (c .before .before) .size) .rowsHigh in let e = c .rows .ensures in omega arith
 
 across-requires : tie.Need-across-requires
 across-requires c κs = sized (c .before .before) .size
@@ -35,4 +35,4 @@ returns c = c .lowest-nonzero .ensures ∙ row-lowest _ _ _ (sized (c .before .b
 pub lowest-row-spec : {M : Type 1} → statement M
 lowest-row-spec =
     tie.close
-    (tie.spec rows-requires add-lines across-requires mul-pitch lowest-nonzero-requires returns)
+    (tie.spec rows-requires add-down across-requires mul-pitch lowest-nonzero-requires returns)

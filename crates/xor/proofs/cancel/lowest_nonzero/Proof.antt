@@ -14,10 +14,10 @@ use Rattle.xor.proofs.cancel.lowest_nonzero.Statement.{statement}
 use Rattle.xor.proofs.cancel.lowest_nonzero.Tie as tie
 
 abbrev Inv-loop : tie.InvT-loop
-Inv-loop a pitch lines step count skip len i₀ i = (i ≤ lines) × ((k : ℕ) → k < i → cancelled len a (k * pitch) step count skip ≡ true)
+Inv-loop a pitch total step count skip len i₀ i = (i ≤ total) × ((k : ℕ) → k < i → cancelled len a (k * pitch) step count skip ≡ true)
 
 abbrev μ-loop : tie.MeasureT-loop
-μ-loop a pitch lines step count skip len i₀ i = lines - i
+μ-loop a pitch total step count skip len i₀ i = total - i
 
 loop-holds : tie.Need-loop-holds Inv-loop μ-loop
 loop-holds c = (search needs, λ k h. absurd (not-suc-le-zero h))
@@ -32,9 +32,9 @@ returns : tie.Need-returns Inv-loop μ-loop
 returns c =
     let a = c .before .before .before .before .before .args in
     let l = c .before .before .before .loop in
-    lowest-unique (a .lines) _ (l .i) _
+    lowest-unique (a .total) _ (l .i) _
     (record { within = omega arith; none = λ k h. ap not (l .inv .1 k h); found = λ h. ap not (sym (c .before .cancel .ensures) ∙ not-true _ (c .if1 .taken)) })
-    (lowest-is (a .lines) _)
+    (lowest-is (a .total) _)
 
 add-i : tie.Need-add-i Inv-loop μ-loop
 add-i c = search needs
@@ -51,9 +51,9 @@ returns-2 : tie.Need-returns-2 Inv-loop μ-loop
 returns-2 c =
     let a = c .before .before .before .args in
     let l = c .before .loop in
-    lowest-unique (a .lines) _ (a .lines) _
+    lowest-unique (a .total) _ (a .total) _
     (record { within = le-refl _; none = λ k h. ap not (l .inv .1 k (omega arith)); found = λ h. absurd (not-suc-le-self _ h) })
-    (lowest-is (a .lines) _)
+    (lowest-is (a .total) _)
 
 pub lowest-nonzero-spec : {M : Type 1} → statement M
 lowest-nonzero-spec =

@@ -1,12 +1,12 @@
--- `layout::refusal` meets its contract: each return is the first test that fails.
+-- `layout::array_refusal` meets its contract: each return is the first test that fails.
 -- Assumes nothing.
 use mathlib.Core.Path.{_∙_, sym}
 use borrow.Author.Needs.{needs}
 use borrow.Author.Tests.{not-true, not-false, ne-eqb}
-use Rattle.model.specs.Refusal.{refusal, arrayTests}
+use Rattle.model.specs.Refusal.{arrayTests}
 use Rattle.model.proofs.Refusal.{fails, passes, array-accepted}
-use Rattle.layout.proofs.refusal.Statement.{statement}
-use Rattle.layout.proofs.refusal.Tie as tie
+use Rattle.layout.proofs.array_refusal.Statement.{statement}
+use Rattle.layout.proofs.array_refusal.Tie as tie
 
 size-fits-requires : tie.Need-size-fits-requires
 size-fits-requires c κs = search needs
@@ -39,8 +39,8 @@ returns-4 c =
     let (size, block) = array-bytes-requires (c .before .before) tt in
     sym (array-accepted _ _ _ (record { size = size; block = block; long = c .if3 .left ∙ c .before .array-bytes .ensures }))
 
-pub refusal-spec : {M : Type 1} → statement M
-refusal-spec =
+pub array-refusal-spec : {M : Type 1} → statement M
+array-refusal-spec =
     tie.close
     (tie.spec
     size-fits-requires

@@ -18,15 +18,15 @@ use Rattle.model.specs.Array.{lowestUnsealed, checked}
 use Rattle.model.specs.declared.Size.{Size}
 use Rattle.model.specs.declared.Checked.the-variants.{Sealed, Unsealed}
 use Rattle.model.proofs.Fold.{every-all, every-at, xsum-ext, every-ext, Lowest, lowest-is, lowest-ext, lowest-unique}
-use Rattle.model.proofs.Grid.{size-fits, row-stripe, column-stripe, empty-stripe, row-line, column-line, by-stripe}
+use Rattle.model.proofs.Grid.{size-fits, row-stripe, column-stripe, empty-stripe, row-number, column-number, by-stripe}
 use Rattle.model.proofs.Check.{zero-of-sums}
 use Rattle.model.proofs.Refusal.{given-accepted}
 use Rattle.xor.specs.Strided.{cancelled, strided}
 use Rattle.array.proofs.Blocks.{strided-disks, block-at}
 
 -- Where the blocks of a row stand, and those of a column. The numbers are those that the code has computed.
-module _ (z : Size) (B len : ℕ) (long : len ≡ arrayBytes z B) (w down : ℕ) (across-is : w ≡ across z) (rows-are : down ≡ rows z) where
-  row-reach : (i : ℕ) → i < down + 1 → (k : ℕ) → k < w → i * (w * B) + k * B + B ≤ len
+module _ (z : Size) (B len : ℕ) (long : len ≡ arrayBytes z B) (w last : ℕ) (across-is : w ≡ across z) (rows-are : last ≡ rows z) where
+  row-reach : (i : ℕ) → i < last + 1 → (k : ℕ) → k < w → i * (w * B) + k * B + B ≤ len
   unfolding across diskAt
   row-reach i h k l =
       rw across-is
@@ -48,12 +48,12 @@ module _ (z : Size) (B len : ℕ) (long : len ≡ arrayBytes z B) (w down : ℕ)
       first = let none = zero-mul (across z) in omega arith
 
   -- What the search for the lowest row asks, and that for the lowest column: each stretch, and the first of each stripe.
-  pub rows-reach : ((i : ℕ) → i < down + 1 → (k : ℕ) → k < w → i * (w * B) + k * B + B ≤ len)
-      × ((i : ℕ) → i < down + 1 → i * (w * B) + B ≤ len)
+  pub rows-reach : ((i : ℕ) → i < last + 1 → (k : ℕ) → k < w → i * (w * B) + k * B + B ≤ len)
+      × ((i : ℕ) → i < last + 1 → i * (w * B) + B ≤ len)
   unfolding across
   rows-reach = (row-reach, λ i h. let r = row-reach i h 0 (omega arith) in let none = zero-mul B in omega arith)
 
-  pub columns-reach : ((i : ℕ) → i < w → (k : ℕ) → k < down + 1 → i * B + k * (w * B) + B ≤ len) × ((i : ℕ) → i < w → i * B + B ≤ len)
+  pub columns-reach : ((i : ℕ) → i < w → (k : ℕ) → k < last + 1 → i * B + k * (w * B) + B ≤ len) × ((i : ℕ) → i < w → i * B + B ≤ len)
   columns-reach = (
     λ i h k l. let r = row-reach k l i h in omega arith,
     λ i h. let r = row-reach 0 (omega arith) i h in let none = zero-mul (w * B) in omega arith,
@@ -77,9 +77,9 @@ module _ (z : Size) (B : ℕ) (a : List ℕ) (fits : sizeFits z ≡ true) where
   abbrev pub nonzero : ℕ → Bool
   nonzero s = not (sumsToZero (gridOf z) (whole B) a s)
 
-  -- The code's numbers of disks across and down.
-  module _ (w down : ℕ) (across-is : w ≡ across z) (rows-are : down ≡ rows z) where
-    pub row-lowest : lowest (down + 1) (λ r. not (cancelled B a (r * (w * B)) B w w)) ≡ lowest (rows z + 1) nonzero
+  -- The code's numbers of disks across and last.
+  module _ (w last : ℕ) (across-is : w ≡ across z) (rows-are : last ≡ rows z) where
+    pub row-lowest : lowest (last + 1) (λ r. not (cancelled B a (r * (w * B)) B w w)) ≡ lowest (rows z + 1) nonzero
     unfolding diskAt
     row-lowest =
         rw (across-is, rows-are)
@@ -102,7 +102,7 @@ module _ (z : Size) (B : ℕ) (a : List ℕ) (fits : sizeFits z ≡ true) where
         ∙ xsum-ext (rows z + 1) (λ k l. ap (λ (d : ℕ). byte (whole B) a d p) (omega arith))))
 
     -- Where the sum of the rows is zero throughout, no column is left.
-    pub columns-none : cancelled (w * B) a 0 (w * B) (down + 1) (down + 1) ≡ true → w ≡ lowest (across z) (λ c. nonzero (16 + c))
+    pub columns-none : cancelled (w * B) a 0 (w * B) (last + 1) (last + 1) ≡ true → w ≡ lowest (across z) (λ c. nonzero (16 + c))
     unfolding cancelled
     columns-none e =
         lowest-unique (across z) (λ c. nonzero (16 + c)) w _
@@ -115,7 +115,7 @@ module _ (z : Size) (B : ℕ) (a : List ℕ) (fits : sizeFits z ≡ true) where
         })
         (lowest-is (across z) (λ c. nonzero (16 + c)))
 
-    pub column-lowest : lowest w (λ c. not (cancelled B a (c * B) (w * B) (down + 1) (down + 1))) ≡ lowest (across z) (λ c. nonzero (16 + c))
+    pub column-lowest : lowest w (λ c. not (cancelled B a (c * B) (w * B) (last + 1) (last + 1))) ≡ lowest (across z) (λ c. nonzero (16 + c))
     column-lowest = rw (across-is, rows-are) (lowest-ext (across z) column-test)
 
   -- No disk lies on a number between the rows and the columns.
@@ -132,7 +132,7 @@ module _ (z : Size) (B : ℕ) (a : List ℕ) (fits : sizeFits z ≡ true) where
     unfolding lowestUnsealed
     row-answer h =
         lowest-unique (gridOf z .stripeBound) nonzero _ r (lowest-is (gridOf z .stripeBound) nonzero)
-        (record { within = le-of-lt (row-line z (size-fits z fits) r (omega arith)); none = rows-so .none; found = λ l. rows-so .found h })
+        (record { within = le-of-lt (row-number z (size-fits z fits) r (omega arith)); none = rows-so .none; found = λ l. rows-so .found h })
 
     module _ (rows-zero : rows z + 1 ≤ r) (c : ℕ) (column : c ≡ lowest (across z) (λ j. nonzero (16 + j))) where
       columns-so : Lowest (across z) (λ j. nonzero (16 + j)) c
@@ -147,7 +147,7 @@ module _ (z : Size) (B : ℕ) (a : List ℕ) (fits : sizeFits z ≡ true) where
       pub column-answer : c < across z → lowestUnsealed z B a ≡ 16 + c
       unfolding lowestUnsealed across
       column-answer h =
-          let last = column-line z c (omega arith) in
+          let last = column-number z c (omega arith) in
           lowest-unique (gridOf z .stripeBound) nonzero _ (16 + c) (lowest-is (gridOf z .stripeBound) nonzero)
           (record {
             within = le-of-lt last;
