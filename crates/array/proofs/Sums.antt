@@ -1,25 +1,28 @@
 -- From sums of stretches to stripes: the lowest row and the lowest column that do not cancel give the answer of a check.
 -- Assumes nothing.
-use mathlib.Core.Path.{_≡_, refl, sym, _∙_, ap, ap₂}
+use mathlib.Core.Path.{subst, _≡_, refl, sym, _∙_, ap, ap₂}
 use mathlib.Core.Bool.{Bool, true, false, cond, not}
+use mathlib.Core.Logic.{⊎-elim}
 use mathlib.Core.List.{List}
 use Prim.Native.Nat.{ℕ, _+_, _*_, _≤_, _<_, zero-le}
-use native.Mathlib.Nat.{le-of-eq, zero-add, le-refl, le-of-lt, lt-trans, not-suc-le-self, one-mul, mul-assoc, add-mul, zero-mul}
+use native.Mathlib.Nat.{le-of-eq, eq-or-lt-of-le, zero-add, le-refl, le-of-lt, lt-trans, not-suc-le-self, one-mul, mul-assoc, add-mul, zero-mul}
+use native.Mathlib.Numerals.{add-one}
 use native.Mathlib.Omega.{arith}
-use borrow.Author.Tests.{ne-eqb, lt-ltb, le-ltb}
+use borrow.Author.Tests.{not-false, ne-eqb, lt-ltb, le-ltb}
 use lib.Arith.{digits-lt}
 use lib.Dec.{eqb, ltb}
 use lib.ListN.{length}
-use Rattle.model.specs.Fold.{xsum, gate, lowest}
+use Rattle.model.specs.Fold.{_⊕_, xsum, gate, lowest}
 use Rattle.model.specs.Stripes.{Layout, whole, byte, stripeSum, sumsToZero}
 use Rattle.model.specs.Grid.{rows, columns, across, grid, gridOf, diskAt, arrayBytes, sizeFits}
 use Rattle.model.specs.Refusal.{refusal, arrayTests}
 use Rattle.model.specs.Array.{lowestUnsealed, checked}
 use Rattle.model.specs.declared.Size.{Size}
 use Rattle.model.specs.declared.Checked.the-variants.{Sealed, Unsealed}
-use Rattle.model.proofs.Fold.{every-all, every-at, xsum-ext, every-ext, Lowest, lowest-is, lowest-ext, lowest-unique}
+use Rattle.model.proofs.Xor.{zero-⊕}
+use Rattle.model.proofs.Fold.{xsum-zero, xsum-swap, every-all, every-at, xsum-ext, every-ext, Lowest, lowest-is, lowest-ext, lowest-unique}
 use Rattle.model.proofs.Grid.{size-fits, row-stripe, column-stripe, empty-stripe, row-number, column-number, by-stripe}
-use Rattle.model.proofs.Check.{zero-of-sums}
+use Rattle.model.proofs.Check.{sums-of-zero, zero-of-sums}
 use Rattle.model.proofs.Refusal.{given-accepted}
 use Rattle.xor.specs.Strided.{cancelled, strided}
 use Rattle.array.proofs.Blocks.{strided-disks, block-at}
@@ -101,19 +104,56 @@ module _ (z : Size) (B : ℕ) (a : List ℕ) (fits : sizeFits z ≡ true) where
         column-stripe z fits (whole B) a c (omega arith) p
         ∙ xsum-ext (rows z + 1) (λ k l. ap (λ (d : ℕ). byte (whole B) a d p) (omega arith))))
 
-    -- Where the sum of the rows is zero throughout, no column is left.
-    pub columns-none : cancelled (w * B) a 0 (w * B) (last + 1) (last + 1) ≡ true → w ≡ lowest (across z) (λ c. nonzero (16 + c))
-    unfolding cancelled
-    columns-none e =
+    -- The sums of all rows and of all columns but the last are zero: so is that of the last.
+    last-column : (p : ℕ) → ((r : ℕ) → r ≤ rows z → stripeSum (gridOf z) (whole B) a r p ≡ 0)
+        → ((c : ℕ) → c < columns z → stripeSum (gridOf z) (whole B) a (16 + c) p ≡ 0)
+        → stripeSum (gridOf z) (whole B) a (16 + columns z) p ≡ 0
+    unfolding across xsum
+    last-column p by-rows by-columns =
+        let f : ℕ → ℕ → ℕ = λ r c. byte (whole B) a (diskAt z r c) p in
+        let all : xsum (rows z + 1) (λ r. xsum (across z) (λ c. f r c)) ≡ 0 =
+        xsum-zero (rows z + 1) (λ r h. sym (row-stripe z fits (whole B) a r (omega arith) p) ∙ by-rows r (omega arith)) in
+        let others : xsum (columns z) (λ c. xsum (rows z + 1) (λ r. f r c)) ≡ 0 =
+        xsum-zero (columns z) (λ c h. sym (column-stripe z fits (whole B) a c (le-of-lt h) p) ∙ by-columns c h) in
+        column-stripe z fits (whole B) a (columns z) (le-refl (columns z)) p
+        ∙ sym (zero-⊕ _)
+        ∙ ap (λ (x : ℕ). x ⊕ xsum (rows z + 1) (λ r. f r (columns z))) (sym others)
+        ∙ ap (λ (n : ℕ). xsum n (λ c. xsum (rows z + 1) (λ r. f r c))) (sym (add-one (columns z)))
+        ∙ sym (xsum-swap (rows z + 1) (columns z + 1) f) ∙ all
+
+    -- Where all rows are zero, and the sum of the rows without their last disk is, no column is left.
+    pub columns-none : lowest (rows z + 1) nonzero ≡ rows z + 1
+        → (others : ℕ) → others ≡ columns z → cancelled (others * B) a 0 (w * B) (last + 1) (last + 1) ≡ true
+        → w ≡ lowest (across z) (λ c. nonzero (16 + c))
+    unfolding across cancelled whole
+    columns-none no-row others others-are e =
         lowest-unique (across z) (λ c. nonzero (16 + c)) w _
         (record {
           within = le-of-eq across-is;
-          none = λ c h. let l : c < across z = omega arith in sym (column-test c l) ∙ ap not (every-all B (λ p b.
-              ap (λ (k : ℕ). eqb (strided a k (across z * B) (rows z + 1) (rows z + 1)) 0) (sym (zero-add (c * B + p)))
-              ∙ every-at (across z * B) _ (rw (across-is, rows-are) at e) (c * B + p) (digits-lt l b)));
+          none = λ c h. ⊎-elim (λ q. ap (λ (k : ℕ). nonzero (16 + k)) q ∙ the-last) (λ l. column c l) (eq-or-lt-of-le (bound c h));
           found = λ h. let never : ⊥ = omega arith in absurd never;
         })
         (lowest-is (across z) (λ c. nonzero (16 + c)))
+      where
+        bound : (c : ℕ) → c < w → c ≤ columns z
+        bound c h = omega arith
+
+        row : (r : ℕ) → r ≤ rows z → (p : ℕ) → p < B → stripeSum (gridOf z) (whole B) a r p ≡ 0
+        row r h =
+            sums-of-zero (gridOf z) (whole B) a r
+            (not-false _ (subst (λ (k : ℕ). Lowest (rows z + 1) nonzero k) no-row (lowest-is (rows z + 1) nonzero) .none r (omega arith)))
+
+        column : (c : ℕ) → c < columns z → nonzero (16 + c) ≡ false
+        column c l =
+            sym (column-test c (omega arith))
+            ∙ ap not (every-all B (λ p b.
+            ap (λ (k : ℕ). eqb (strided a k (across z * B) (rows z + 1) (rows z + 1)) 0) (sym (zero-add (c * B + p)))
+            ∙ every-at (columns z * B) _ (rw (across-is, rows-are, others-are) at e) (c * B + p) (digits-lt l b)))
+
+        the-last : nonzero (16 + columns z) ≡ false
+        the-last =
+            ap not (zero-of-sums (gridOf z) (whole B) a (16 + columns z) (λ p b.
+            last-column p (λ r h. row r h p b) (λ c l. sums-of-zero (gridOf z) (whole B) a (16 + c) (not-false _ (column c l)) p b)))
 
     pub column-lowest : lowest w (λ c. not (cancelled B a (c * B) (w * B) (last + 1) (last + 1))) ≡ lowest (across z) (λ c. nonzero (16 + c))
     column-lowest = rw (across-is, rows-are) (lowest-ext (across z) column-test)
@@ -127,6 +167,9 @@ module _ (z : Size) (B : ℕ) (a : List ℕ) (fits : sizeFits z ≡ true) where
   module _ (r : ℕ) (row : r ≡ lowest (rows z + 1) nonzero) where
     rows-so : Lowest (rows z + 1) nonzero r
     rows-so = rw row (lowest-is (rows z + 1) nonzero)
+
+    pub no-row : rows z < r → lowest (rows z + 1) nonzero ≡ rows z + 1
+    no-row h = let w = rows-so .within in sym row ∙ omega arith
 
     pub row-answer : r < rows z + 1 → lowestUnsealed z B a ≡ r
     unfolding lowestUnsealed

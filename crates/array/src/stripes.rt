@@ -20,16 +20,19 @@ pub fn lowest_row(size: Size, block: usize, array: &[u8]) -> usize
     xor::cancel::lowest_nonzero(array, pitch, down, block, across, across, block)
 }
 
-// The lowest such column, counted from 0, or n + 1 where there is none. All columns are tested at once first, as the sum of whole
-// rows: only where that is not zero is there one to look for.
+// The lowest such column, counted from 0, or n + 1 where there is none, of an array whose rows all sum to zero. All columns
+// but the last are tested at once first, as the sum of whole rows; the sum of the last follows from the others. Only where
+// that is not zero is there a column to look for.
 pub fn lowest_column(size: Size, block: usize, array: &[u8]) -> usize
     requires { ⌜ refusal (arrayTests size block (length (now array))) ≡ 0 ⌝ }
+    requires { ⌜ lowest (rows size + 1) (λ s. not (sumsToZero (gridOf size) (whole block) (now array) s)) ≡ rows size + 1 ⌝ }
     ensures { λ r. ⌜ r ≡ lowest (across size) (λ c. not (sumsToZero (gridOf size) (whole block) (now (array .entry)) (16 + c))) ⌝ }
 {
     let down = layout::rows(size) + 1;
     let across = layout::across(size);
     let step = across * block;
-    if xor::cancel::cancel(array, 0, step, down, down, step) {
+    let rest = layout::columns(size) * block;
+    if xor::cancel::cancel(array, 0, step, down, down, rest) {
         return across;
     }
     xor::cancel::lowest_nonzero(array, block, across, step, down, down, block)

@@ -11,7 +11,7 @@ use Rattle.model.specs.declared.Checked.the-variants.{Refused}
 use Rattle.model.proofs.Grid.{size-fits, row-number, column-number}
 use Rattle.model.proofs.Refusal.{array-fits}
 use Rattle.model.proofs.Demand2.{check-refused}
-use Rattle.array.proofs.Sums.{row-answer, column-answer, no-answer, answer-stripe, answer-none}
+use Rattle.array.proofs.Sums.{no-row, row-answer, column-answer, no-answer, answer-stripe, answer-none}
 use Rattle.array.proofs.check.Statement.{statement}
 use Rattle.array.proofs.check.Tie as tie
 
@@ -46,7 +46,9 @@ returns-2 c =
     (row-number (a .size) (size-fits (a .size) fits) _ (omega arith))
 
 lowest-column-requires : tie.Need-lowest-column-requires
-lowest-column-requires c κs = search needs
+lowest-column-requires c κs =
+    let e = c .before .rows .ensures in
+    (accepted (c .before .before .before), no-row _ _ _ (fitting (c .before .before .before)) _ (c .before .before .lowest-row .ensures) (omega arith))
 
 columns-requires : tie.Need-columns-requires
 columns-requires c κs = search needs
