@@ -1,8 +1,10 @@
 -- The worked cases of paper 01, n = 2 and B = 1, as one list: what the definitions give, and what the paper says.
 -- Assumes nothing.
-use mathlib.Core.List.{List, [], _∷_}
+use mathlib.Core.List.{List, [], _∷_, _++_}
 use Prim.Native.Nat.{ℕ}
+use lib.ListN.{replicate}
 use Rattle.model.specs.Array.{sealArray, writeArray, sealStatus, writeStatus}
+use Rattle.model.specs.Rebuild.{planOutcome, planSheet, outcomeStatus, outcomeCount, rebuildOutcome, rebuildArray, rebuildSheet}
 use Rattle.model.specs.declared.Size.{Size}
 
 -- A case by its number in the paper: numbers and bytes in one list.
@@ -18,8 +20,24 @@ two = record { side = 2 }
 A : List ℕ
 A = 1 ∷ 2 ∷ 3 ∷ 4 ∷ 8 ∷ 12 ∷ 5 ∷ 10 ∷ 15 ∷ []
 
+-- Whatever stands in the sheet beforehand.
+before : List ℕ
+before = replicate 98 7
+
+-- What plan gives for a map: the number, the count, the sheet.
+planned : List ℕ → List ℕ
+unfolding two before
+planned m = outcomeStatus (planOutcome two m before) ∷ outcomeCount (planOutcome two m before) 99 ∷ planSheet two m before
+
+-- What rebuild gives for an array and a map: the number, the count, the array, the sheet.
+restored : List ℕ → List ℕ → List ℕ
+unfolding two before
+restored a m =
+    outcomeStatus (rebuildOutcome two 1 a m before) ∷ outcomeCount (rebuildOutcome two 1 a m before) 99
+    ∷ rebuildArray two 1 a m before ++ rebuildSheet two 1 a m before
+
 unfoldable pub cases : List Case
-unfolding two A
+unfolding two A planned restored
 cases =
     -- Data 1 2 / 4 8 seals to A, whatever stands in the parities' place.
     record {
@@ -27,6 +45,50 @@ cases =
       computed =
           sealStatus two 1 (1 ∷ 2 ∷ 99 ∷ 4 ∷ 8 ∷ 7 ∷ 6 ∷ 5 ∷ 4 ∷ []) ∷ sealArray two 1 (1 ∷ 2 ∷ 99 ∷ 4 ∷ 8 ∷ 7 ∷ 6 ∷ 5 ∷ 4 ∷ []);
       expected = 0 ∷ A;
+    }
+    -- No disk erased: restored, no repairs; byte 0 of the sheet is 1, the rest zero.
+    ∷ record {
+      number = 2;
+      computed = restored A (0 ∷ 0 ∷ 0 ∷ 0 ∷ 0 ∷ 0 ∷ 0 ∷ 0 ∷ 0 ∷ []);
+      expected = 0 ∷ 0 ∷ A ++ 1 ∷ replicate 97 0;
+    }
+    -- Disks 0, 2, 6 erased: the sheet, and A is restored whatever stands on them.
+    ∷ record {
+      number = 3;
+      computed = restored (7 ∷ 2 ∷ 7 ∷ 4 ∷ 8 ∷ 12 ∷ 7 ∷ 10 ∷ 15 ∷ []) (1 ∷ 0 ∷ 1 ∷ 0 ∷ 0 ∷ 0 ∷ 1 ∷ 0 ∷ 0 ∷ []);
+      expected = 0 ∷ 3 ∷ A ++ 1 ∷ 1 ∷ 2 ∷ 18 ∷ 2 ∷ 0 ∷ 0 ∷ 3 ∷ 6 ∷ 2 ∷ 0 ∷ replicate 87 0;
+    }
+    -- Disks 0, 2, 6, 8 erased: fatal, 4 lost; loop 0, 2, 8, 6 on stripes 0, 18, 2, 16. Nothing else changes.
+    ∷ record {
+      number = 4;
+      computed = planned (1 ∷ 0 ∷ 1 ∷ 0 ∷ 0 ∷ 0 ∷ 1 ∷ 0 ∷ 1 ∷ []) ++ restored A (1 ∷ 0 ∷ 1 ∷ 0 ∷ 0 ∷ 0 ∷ 1 ∷ 0 ∷ 1 ∷ []);
+      expected =
+          6 ∷ 4 ∷ 2 ∷ 1 ∷ 0 ∷ 0 ∷ 2 ∷ 2 ∷ 18 ∷ 3 ∷ 8 ∷ 2 ∷ 4 ∷ 6 ∷ 16 ∷ 0 ∷ replicate 84 0
+          ++ 6 ∷ 4 ∷ A ++ 2 ∷ 1 ∷ 0 ∷ 0 ∷ 2 ∷ 2 ∷ 18 ∷ 3 ∷ 8 ∷ 2 ∷ 4 ∷ 6 ∷ 16 ∷ 0 ∷ replicate 84 0;
+    }
+    -- Disks 0, 1, 3, 4 erased: fatal.
+    ∷ record {
+      number = 5;
+      computed = planned (1 ∷ 1 ∷ 0 ∷ 1 ∷ 1 ∷ 0 ∷ 0 ∷ 0 ∷ 0 ∷ []);
+      expected = 6 ∷ 4 ∷ 2 ∷ 1 ∷ 0 ∷ 0 ∷ 2 ∷ 1 ∷ 17 ∷ 3 ∷ 4 ∷ 1 ∷ 4 ∷ 3 ∷ 16 ∷ 0 ∷ replicate 84 0;
+    }
+    -- Disks 0, 4, 8 erased: repairs 0, 4, 8, on stripes 0, 1, 2.
+    ∷ record {
+      number = 6;
+      computed = restored (7 ∷ 2 ∷ 3 ∷ 4 ∷ 7 ∷ 12 ∷ 5 ∷ 10 ∷ 7 ∷ []) (1 ∷ 0 ∷ 0 ∷ 0 ∷ 1 ∷ 0 ∷ 0 ∷ 0 ∷ 1 ∷ []);
+      expected = 0 ∷ 3 ∷ A ++ 1 ∷ 1 ∷ 0 ∷ 0 ∷ 2 ∷ 4 ∷ 1 ∷ 3 ∷ 8 ∷ 2 ∷ 0 ∷ replicate 87 0;
+    }
+    -- Disks 0, 1, 2, 3, 6 erased: restored, the full five.
+    ∷ record {
+      number = 7;
+      computed = restored (7 ∷ 7 ∷ 7 ∷ 7 ∷ 8 ∷ 12 ∷ 7 ∷ 10 ∷ 15 ∷ []) (1 ∷ 1 ∷ 1 ∷ 1 ∷ 0 ∷ 0 ∷ 1 ∷ 0 ∷ 0 ∷ []);
+      expected = 0 ∷ 5 ∷ A ++ 1 ∷ 1 ∷ 1 ∷ 17 ∷ 2 ∷ 2 ∷ 18 ∷ 3 ∷ 0 ∷ 0 ∷ 4 ∷ 3 ∷ 1 ∷ 5 ∷ 6 ∷ 2 ∷ 0 ∷ replicate 81 0;
+    }
+    -- A with disk 8 holding 14, disk 0 erased: refusal 7, disk 0 becomes 0, and the sheet is zero.
+    ∷ record {
+      number = 8;
+      computed = restored (1 ∷ 2 ∷ 3 ∷ 4 ∷ 8 ∷ 12 ∷ 5 ∷ 10 ∷ 14 ∷ []) (1 ∷ 0 ∷ 0 ∷ 0 ∷ 0 ∷ 0 ∷ 0 ∷ 0 ∷ 0 ∷ []);
+      expected = 7 ∷ 99 ∷ 0 ∷ 2 ∷ 3 ∷ 4 ∷ 8 ∷ 12 ∷ 5 ∷ 10 ∷ 14 ∷ replicate 98 0;
     }
     -- Write 9 to disk 0 of A: disks 0, 2, 6, 8 become 9, 11, 13, 7.
     ∷ record {

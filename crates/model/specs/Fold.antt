@@ -2,7 +2,7 @@
 -- Assumes nothing.
 use mathlib.Core.Bool.{Bool, true, false, cond, _&&_}
 use mathlib.Core.List.{List, [], _∷_}
-use Prim.Native.Nat.{ℕ, zero, suc}
+use Prim.Native.Nat.{ℕ, zero, suc, _+_}
 use lib.Bits.{bitXor}
 
 -- The exclusive or, bit by bit.
@@ -24,6 +24,15 @@ gate false v = 0
 unfoldable pub every : ℕ → (ℕ → Bool) → Bool
 every zero t = true
 every (suc n) t = every n t && t n
+
+-- How many numbers below n the test holds of.
+unfoldable pub bit : Bool → ℕ
+bit true = 1
+bit false = 0
+
+unfoldable pub count : ℕ → (ℕ → Bool) → ℕ
+count zero t = 0
+count (suc n) t = count n t + bit (t n)
 
 -- The lowest number below n of which the test holds, or n where there is none.
 unfoldable pub lowest : ℕ → (ℕ → Bool) → ℕ

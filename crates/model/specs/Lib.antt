@@ -4,4 +4,10 @@ pub mod Grid
 pub mod Equations
 pub mod Refusal
 pub mod Array
+pub mod Repair
+pub mod Cycle
+pub mod Sheet
+pub mod Rebuild
+pub mod Listing
+pub mod Demand3
 pub mod Cases

@@ -15,3 +15,13 @@ pub enum Checked {
     // A refusal by its number.
     Refused(u32),
 }
+
+// What plan and rebuild answer.
+pub enum Outcome {
+    // The number of repairs.
+    Repairs(usize),
+    // The loss is fatal; the number of disks that no repair reaches (paper 01: lost cards).
+    Fatal(usize),
+    // A refusal by its number.
+    Refused(u32),
+}

@@ -1,0 +1,51 @@
+-- The text that the listing program prints for what it reads.
+-- Assumes nothing.
+use mathlib.Core.Bool.{cond}
+use mathlib.Core.List.{List, [], _∷_, _++_}
+use Prim.Native.Nat.{ℕ, zero, suc, _+_, _/_, _%_}
+use lib.Dec.{eqb, ltb}
+use lib.ListN.{length, getD, drop}
+use Rattle.model.specs.Grid.{square, gridOf}
+use Rattle.model.specs.Refusal.{refusal}
+use Rattle.model.specs.Repair.{Entry, erasures, repairs, fatal}
+use Rattle.model.specs.Cycle.{shownCycle}
+use Rattle.model.specs.Rebuild.{planTests}
+
+-- A decimal digit as a character, and a number below 1000 in decimal.
+unfoldable pub digit : ℕ → ℕ
+digit k = 48 + k
+
+unfoldable pub decimal : ℕ → List ℕ
+decimal k =
+    cond (ltb k 10) (digit k ∷ [])
+    (cond (ltb k 100) (digit (k / 10) ∷ digit (k % 10) ∷ []) (digit (k / 100) ∷ digit (k / 10 % 10) ∷ digit (k % 10) ∷ []))
+
+-- The words `repair `, `fatal ` and `refused `.
+unfoldable pub repairWord : List ℕ
+repairWord = 114 ∷ 101 ∷ 112 ∷ 97 ∷ 105 ∷ 114 ∷ 32 ∷ []
+
+unfoldable pub fatalWord : List ℕ
+fatalWord = 102 ∷ 97 ∷ 116 ∷ 97 ∷ 108 ∷ 32 ∷ []
+
+unfoldable pub refusedWord : List ℕ
+refusedWord = 114 ∷ 101 ∷ 102 ∷ 117 ∷ 115 ∷ 101 ∷ 100 ∷ 32 ∷ []
+
+-- One line for each disk with its stripe. Every line ends with one line feed.
+unfoldable pub entryLines : List Entry → List ℕ
+entryLines [] = []
+entryLines (r ∷ rs) = decimal (r .disk) ++ 32 ∷ decimal (r .stripe) ++ 10 ∷ entryLines rs
+
+-- The heading, a word and the number of lines that follow, and these lines.
+unfoldable pub listed : List ℕ → List Entry → List ℕ
+listed word rs = word ++ decimal (length rs) ++ 10 ∷ entryLines rs
+
+-- The input is the size in one byte, 0 where it is missing, and then the map.
+unfoldable pub listing : List ℕ → List ℕ
+listing input =
+    let n : ℕ = getD input 0 0 in
+    let m : List ℕ = drop 1 input in
+    let k : ℕ = refusal (planTests (square n) m 98) in
+    cond (eqb k 0)
+    (cond (fatal (gridOf (square n)) (erasures m)) (listed fatalWord (shownCycle (gridOf (square n)) (erasures m)))
+    (listed repairWord (repairs (gridOf (square n)) (erasures m))))
+    (refusedWord ++ decimal k ++ 10 ∷ [])

@@ -1,0 +1,124 @@
+-- Repairs over any stripe system: which are allowed, plan's order, what it leaves, and what repairs do to an array.
+-- Assumes nothing.
+use mathlib.Core.Path.{_≡_}
+use mathlib.Core.Bool.{Bool, true, false, cond, not, _&&_, _||_}
+use mathlib.Core.List.{List, [], _∷_}
+use Prim.Native.Nat.{ℕ, zero, suc, _+_, _-_, _/_, _%_, _<_}
+use lib.Dec.{eqb, leb, ltb}
+use lib.ListN.{length, getD}
+use Rattle.model.specs.Fold.{every, gate, count, lowest, tabulate}
+use Rattle.model.specs.Stripes.{Layout, on, Stretch, byte, sumOver, sumsToZero, Codeword}
+
+-- ---- Erased disks
+
+-- The erased disks (paper 01: marked cards) are a test on disk numbers. A map has the byte 1 for each of them.
+unfoldable pub erasures : List ℕ → ℕ → Bool
+erasures m d = eqb (getD m d 0) 1
+
+-- The same without disk d.
+unfoldable pub without : (ℕ → Bool) → ℕ → ℕ → Bool
+without e d i = e i && not (eqb i d)
+
+-- ---- Repairs
+
+-- A disk and a stripe through it: a repair of the disk by that stripe, or a step of a cycle that leaves the disk along it.
+pub record Entry : Type 0 where
+  pub disk : ℕ
+  pub stripe : ℕ
+
+-- No disk on stripe s is erased, but for d.
+unfoldable pub alone : Layout → (ℕ → Bool) → (d s : ℕ) → Bool
+alone L e d s = every (L .disks) (λ i. eqb i d || not (e i && on L i s))
+
+-- Disk d can be repaired by stripe s: it is erased, it lies on the stripe, and no other disk there is still erased.
+unfoldable pub allowed : Layout → (ℕ → Bool) → (d s : ℕ) → Bool
+allowed L e d s = (ltb d (L .disks) && e d) && (on L d s && alone L e d s)
+
+-- The first of a list of stripes by which disk d can be repaired, and whether there is one.
+unfoldable pub firstAllowed : Layout → (ℕ → Bool) → ℕ → List ℕ → ℕ
+firstAllowed L e d [] = 0
+firstAllowed L e d (s ∷ ss) = cond (allowed L e d s) s (firstAllowed L e d ss)
+
+unfoldable pub someAllowed : Layout → (ℕ → Bool) → ℕ → List ℕ → Bool
+someAllowed L e d [] = false
+someAllowed L e d (s ∷ ss) = allowed L e d s || someAllowed L e d ss
+
+-- ---- Plan's order
+
+-- The lowest-numbered disk that can be repaired, or the number of disks where there is none.
+unfoldable pub nextDisk : Layout → (ℕ → Bool) → ℕ
+nextDisk L e = lowest (L .disks) (λ d. someAllowed L e d (L .through d))
+
+-- Its repair, by the first of its stripes that is allowed.
+unfoldable pub repairOf : Layout → (ℕ → Bool) → ℕ → Entry
+repairOf L e d = record { disk = d; stripe = firstAllowed L e d (L .through d) }
+
+-- At most k repairs in plan's order (peeling): at each step the lowest-numbered disk that can be repaired then.
+unfoldable pub peel : Layout → ℕ → (ℕ → Bool) → List Entry
+peel L zero e = []
+peel L (suc k) e =
+    cond (ltb (nextDisk L e) (L .disks)) (repairOf L e (nextDisk L e) ∷ peel L k (without e (nextDisk L e))) []
+
+-- All of them: each takes an erased disk away, so there are no more than disks.
+unfoldable pub repairs : Layout → (ℕ → Bool) → List Entry
+repairs L e = peel L (L .disks) e
+
+-- The disks that are still erased after a list of repairs.
+unfoldable pub after : (ℕ → Bool) → List Entry → ℕ → Bool
+after e [] = e
+after e (r ∷ rs) = after (without e (r .disk)) rs
+
+-- What plan's order leaves erased (paper 01: the lost cards), how many they are, and whether the loss is fatal.
+unfoldable pub residual : Layout → (ℕ → Bool) → ℕ → Bool
+residual L e = after e (repairs L e)
+
+unfoldable pub lost : Layout → (ℕ → Bool) → ℕ
+lost L e = count (L .disks) (residual L e)
+
+unfoldable pub fatal : Layout → (ℕ → Bool) → Bool
+fatal L e = ltb 0 (lost L e)
+
+-- ---- What repairs do to an array
+
+-- The array with f d p as the byte of each disk d at each place p of the stretch; the bytes outside the stretch stay.
+unfoldable pub changed : Stretch → List ℕ → (ℕ → ℕ → ℕ) → List ℕ
+changed x a f =
+    tabulate (length a) (λ i.
+    cond (leb (x .offset) (i % x .block) && ltb (i % x .block) (x .offset + x .width))
+    (f (i / x .block) (i % x .block - x .offset))
+    (getD a i 0))
+
+-- The sum of the other disks of a repair's stripe at place p.
+unfoldable pub sumOfOthers : Layout → Stretch → List ℕ → Entry → ℕ → ℕ
+sumOfOthers L x a r p = sumOver L (λ d. gate (not (eqb d (r .disk))) (byte x a d p)) (r .stripe)
+
+-- A repair sets the block of its disk to that sum.
+unfoldable pub repaired : Layout → Stretch → List ℕ → Entry → List ℕ
+repaired L x a r = changed x a (λ d p. cond (eqb d (r .disk)) (sumOfOthers L x a r p) (byte x a d p))
+
+-- The array after a list of repairs.
+unfoldable pub rebuilt : Layout → Stretch → List ℕ → List Entry → List ℕ
+rebuilt L x a [] = a
+rebuilt L x a (r ∷ rs) = rebuilt L x (repaired L x a r) rs
+
+-- The array with zeros on every erased disk.
+unfoldable pub zeroed : Stretch → List ℕ → (ℕ → Bool) → List ℕ
+zeroed x a e = changed x a (λ d p. gate (not (e d)) (byte x a d p))
+
+-- Every stripe's sum is zero at every place: a test.
+unfoldable pub consistent : Layout → Stretch → List ℕ → Bool
+consistent L x a = every (L .stripeBound) (sumsToZero L x a)
+
+-- ---- Survivors
+
+-- Two arrays have the same bytes on every disk that is not erased: on the survivors.
+abbrev pub Agree : Layout → Stretch → (ℕ → Bool) → (a b : List ℕ) → Type 0
+Agree L x e a b = (d : ℕ) → d < L .disks → e d ≡ false → (p : ℕ) → p < x .width → byte x a d p ≡ byte x b d p
+
+-- The survivors of an array belong to a codeword (paper 01: to a sealed array).
+abbrev pub Belongs : Layout → Stretch → (ℕ → Bool) → List ℕ → Type 0
+Belongs L x e a = (b : List ℕ) × Codeword L x b × Agree L x e a b
+
+-- Two different codewords agree on every survivor.
+abbrev pub Ambiguous : Layout → Stretch → (ℕ → Bool) → Type 0
+Ambiguous L x e = (a : List ℕ) × (b : List ℕ) × Codeword L x a × Codeword L x b × Agree L x e a b × (a ≡ b → ⊥)
