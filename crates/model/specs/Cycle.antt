@@ -65,6 +65,10 @@ closing L e = lowest (L .disks) (λ d. fatal L (below (suc d) e))
 unfoldable pub core : Layout → (ℕ → Bool) → ℕ → Bool
 core L e = residual L (below (suc (closing L e)) e)
 
+-- Each stripe touched by a disk of c holds exactly two of them.
+abbrev pub Paired : Layout → (ℕ → Bool) → Type 0
+Paired L c = (d s : ℕ) → d < L .disks → c d ≡ true → on L d s ≡ true → count (L .disks) (λ i. c i && on L i s) ≡ 2
+
 -- The lowest other disk of c on the stripe along which a disk is left.
 unfoldable pub partner : Layout → (ℕ → Bool) → Entry → ℕ
 partner L c r = lowest (L .disks) (λ d. c d && (on L d (r .stripe) && not (eqb d (r .disk))))
