@@ -1,9 +1,11 @@
-// Numbers only: the sizes of an array, which of its disks hold data, and the tests that every call begins with.
+// Numbers only: the sizes of an array, which of its disks hold data, where the disks of a stripe stand, and the tests that every
+// call begins with.
 ghost use mathlib.Core.Path.{_≡_};
 ghost use mathlib.Core.Bool.{true};
 ghost use Prim.Native.Nat.{_≤_};
 ghost use Rattle.model.specs.Grid.{rows, columns, across, disks, diskAt, arrayBytes, isData, sizeFits, blockFits, mapFits};
 ghost use Rattle.model.specs.Refusal.{refusal, arrayTests};
+ghost use Rattle.layout.specs.Stripe.{disksOn, placeOn, rowStripe, columnStripe};
 use model::Size;
 
 // Data rows.
@@ -86,6 +88,61 @@ pub fn is_data(size: Size, disk: usize) -> bool
         return disk % width < columns(size);
     }
     false
+}
+
+// `count` disks that stand `step` apart from disk `first` on.
+pub struct Run {
+    pub first: usize,
+    pub step: usize,
+    pub count: usize,
+}
+
+// The disks of a stripe.
+pub fn disks_on(size: Size, stripe: usize) -> Run
+    requires { ⌜ sizeFits size ≡ true ⌝ }
+    ensures { λ r. ⌜ r ≡ disksOn size stripe ⌝ }
+{
+    let width = across(size);
+    if stripe < 16 {
+        return Run {
+            first: stripe * width,
+            step: 1,
+            count: width,
+        };
+    }
+    Run {
+        first: stripe - 16,
+        step: width,
+        count: rows(size) + 1,
+    }
+}
+
+// Which of the disks of its stripe a disk is.
+pub fn place_on(size: Size, disk: usize, stripe: usize) -> usize
+    requires { ⌜ sizeFits size ≡ true ⌝ }
+    ensures { λ r. ⌜ r ≡ placeOn size disk stripe ⌝ }
+{
+    let width = across(size);
+    if stripe < 16 {
+        return disk % width;
+    }
+    disk / width
+}
+
+// The row of a disk as a stripe number.
+pub fn row_stripe(size: Size, disk: usize) -> usize
+    requires { ⌜ sizeFits size ≡ true ⌝ }
+    ensures { λ r. ⌜ r ≡ rowStripe size disk ⌝ }
+{
+    disk / across(size)
+}
+
+// The column of a disk as a stripe number.
+pub fn column_stripe(size: Size, disk: usize) -> usize
+    requires { ⌜ sizeFits size ≡ true ⌝ }
+    ensures { λ r. ⌜ r ≡ columnStripe size disk ⌝ }
+{
+    16 + disk % across(size)
 }
 
 // The map has a byte for each disk, and each is 0 or 1.
