@@ -2,10 +2,7 @@
 ghost use mathlib.Core.Path.{_≡_};
 ghost use Rattle.model.specs.Rebuild.{planOutcome, planSheet};
 
-mod attempt;
-mod cycle;
-mod peel;
-mod tally;
+mod fatal;
 
 use model::Outcome;
 use model::Size;
@@ -27,11 +24,11 @@ pub fn plan(size: Size, map: &[u8], sheet: &mut [u8]) -> Outcome
     let all = layout::disks(size);
     let mut work = [0u8; 256];
     let mut blank = [0u8; 98];
-    let found = attempt::peel_below(size, map, all, &mut work, &mut blank);
+    let found = peel::peel_below(size, map, all, &mut work, &mut blank);
     if found.left == 0 {
         sheet::copy(&blank, sheet);
         return Outcome::Repairs(found.made);
     }
-    cycle::show(size, map, sheet);
+    fatal::show(size, map, sheet);
     Outcome::Fatal(found.left)
 }

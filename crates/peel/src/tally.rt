@@ -7,7 +7,7 @@ ghost use Rattle.model.specs.Fold.{count};
 ghost use Rattle.model.specs.Grid.{disks, sizeFits, mapFits};
 ghost use Rattle.model.specs.Repair.{erasures, without};
 ghost use Rattle.model.specs.Cycle.{below};
-ghost use Rattle.plan.specs.Tally.{Tallied, together};
+ghost use Rattle.peel.specs.Tally.{Tallied, together};
 use model::Size;
 
 // One disk more is erased.

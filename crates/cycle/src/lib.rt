@@ -1,49 +1,15 @@
-// The cycle of erased disks that a fatal loss is shown by.
+// The cycle that a set of disks forms, where each stripe touched holds two of them.
 ghost use mathlib.Core.Path.{_≡_};
 ghost use mathlib.Core.Bool.{true};
 ghost use mathlib.Core.List.{[]};
-ghost use Prim.Native.Nat.{_≤_, _<_};
-ghost use lib.ListN.{length, replicate};
-ghost use Rattle.model.specs.Grid.{sizeFits, mapFits, gridOf, disks};
+ghost use Prim.Native.Nat.{_<_};
+ghost use lib.ListN.{length};
 ghost use Rattle.model.specs.Stripes.{on};
-ghost use Rattle.model.specs.Repair.{Entry, erasures, fatal};
-ghost use Rattle.model.specs.Cycle.{below, closing, partner, lowestOf, cycleOf, shownCycle, Paired};
+ghost use Rattle.model.specs.Grid.{sizeFits, gridOf, disks};
+ghost use Rattle.model.specs.Repair.{erasures};
+ghost use Rattle.model.specs.Cycle.{partner, otherThan, lowestOf, cycleOf, Paired};
 ghost use Rattle.model.specs.Sheet.{sheetOf};
-use crate::attempt::peel_below;
 use model::Size;
-
-// The loss of the erased disks below k alone is fatal.
-fn fatal_below(size: Size, map: &[u8], k: usize) -> bool
-    requires { ⌜ sizeFits size ≡ true ⌝ }
-    requires { ⌜ mapFits size (now map) ≡ true ⌝ }
-    requires { ⌜ k ≤ disks size ⌝ }
-    ensures { λ r. ⌜ r ≡ fatal (gridOf size) (below k (erasures (now (map .entry)))) ⌝ }
-{
-    let mut work = [0u8; 256];
-    let mut blank = [0u8; 98];
-    let found = peel_below(size, map, k, &mut work, &mut blank);
-    0 < found.left
-}
-
-// The disk whose loss makes the loss of those below it fatal, by halving.
-fn closing(size: Size, map: &[u8]) -> usize
-    requires { ⌜ sizeFits size ≡ true ⌝ }
-    requires { ⌜ mapFits size (now map) ≡ true ⌝ }
-    requires { ⌜ fatal (gridOf size) (erasures (now map)) ≡ true ⌝ }
-    ensures { λ r. ⌜ r ≡ closing (gridOf size) (erasures (now (map .entry))) ⌝ }
-{
-    let mut low = 0;
-    let mut high = layout::disks(size) - 1;
-    while low < high {
-        let middle = (low + high) / 2;
-        if fatal_below(size, map, middle + 1) {
-            high = middle;
-        } else {
-            low = middle + 1;
-        }
-    }
-    low
-}
 
 // The lowest disk of a set.
 fn lowest(size: Size, set: &[u8]) -> usize
@@ -100,7 +66,7 @@ fn other_stripe(size: Size, disk: usize, stripe: usize) -> usize
 }
 
 // Writes the cycle that the disks of a set form into the sheet.
-fn trace(size: Size, set: &[u8], sheet: &mut [u8])
+pub fn trace(size: Size, set: &[u8], sheet: &mut [u8])
     requires { ⌜ sizeFits size ≡ true ⌝ }
     requires { ⌜ length (now set) ≡ 256 ⌝ }
     requires { ⌜ Paired (gridOf size) (erasures (now set)) ⌝ }
@@ -121,22 +87,4 @@ fn trace(size: Size, set: &[u8], sheet: &mut [u8])
         stripe = other_stripe(size, disk, stripe);
         k += 1;
     }
-}
-
-// Writes a cycle of the erased disks of a map into the sheet.
-pub fn show(size: Size, map: &[u8], sheet: &mut [u8])
-    requires { ⌜ sizeFits size ≡ true ⌝ }
-    requires { ⌜ mapFits size (now map) ≡ true ⌝ }
-    requires { ⌜ fatal (gridOf size) (erasures (now map)) ≡ true ⌝ }
-    requires { ⌜ length (now sheet) ≡ 98 ⌝ }
-    ensures { λ r. ⌜ now (sheet .exit) ≡ sheetOf 2 (shownCycle (gridOf size) (erasures (now (map .entry)))) ⌝ }
-{
-    let last = closing(size, map);
-    let mut core = [0u8; 256];
-    let mut used = [0u8; 98];
-    let found = peel_below(size, map, last + 1, &mut core, &mut used);
-    let mut blank = [0u8; 98];
-    blank[0] = 2;
-    trace(size, &core, &mut blank);
-    sheet::copy(&blank, sheet);
 }

@@ -1,0 +1,39 @@
+// Rebuild: the repairs of a plan made on the array.
+ghost use mathlib.Core.Path.{_≡_};
+ghost use Rattle.model.specs.Rebuild.{rebuildOutcome, rebuildArray, rebuildSheet};
+
+mod erase;
+mod repair;
+
+use model::Checked;
+use model::Outcome;
+use model::Size;
+
+// Restores the erased blocks and writes plan's sheet. Where the survivors contradict each other, the erased blocks and the sheet
+// become zero. The map is only read.
+pub fn rebuild(size: Size, block: usize, array: &mut [u8], map: &[u8], sheet: &mut [u8]) -> Outcome
+    ensures outcome { λ r. ⌜ r ≡ rebuildOutcome size block (now (array .entry)) (now (map .entry)) (now (sheet .entry)) ⌝ }
+    ensures array { λ r. ⌜
+        now (array .exit) ≡ rebuildArray size block (now (array .entry)) (now (map .entry)) (now (sheet .entry))
+        ⌝ }
+    ensures sheet { λ r. ⌜
+        now (sheet .exit) ≡ rebuildSheet size block (now (array .entry)) (now (map .entry)) (now (sheet .entry))
+        ⌝ }
+{
+    let status = layout::array_refusal(size, block, array.len());
+    if status != 0 {
+        return Outcome::Refused(status);
+    }
+    let answer = plan::plan(size, map, sheet);
+    let Outcome::Repairs(count) = answer else {
+        return answer;
+    };
+    repair::repair_all(size, block, array, sheet, count);
+    let checked = array::check(size, block, array);
+    let Checked::Sealed = checked else {
+        erase::zero_erased(size, block, array, map);
+        sheet::clear(sheet);
+        return Outcome::Refused(7);
+    };
+    answer
+}
