@@ -1,6 +1,7 @@
 pub mod Xor
 pub mod Fold
 pub mod Grid
+pub mod Degree
 pub mod Equations
 pub mod Refusal
 pub mod Seal

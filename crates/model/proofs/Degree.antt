@@ -1,0 +1,173 @@
+-- How many disks of a set lie on each stripe, how many stripes the set touches, and what repairs take from that number.
+-- Assumes nothing.
+use mathlib.Core.Path.{_≡_, refl, sym, _∙_, ap, ap₂}
+use mathlib.Core.Bool.{Bool, true, false, _&&_, _||_, or-false, or-true}
+use mathlib.Core.Logic.{_⊎_, inl, inr, ⊎-elim}
+use Prim.Native.Nat.{ℕ, zero, suc, _+_, _*_, _≤_, _<_}
+use native.Mathlib.Nat.{zero-add, mul-zero, mul-add, zero-mul, one-mul, mul-comm, lt-suc-self, le-step, le-refl, eq-or-lt-of-le, le-of-suc-le-suc, not-suc-le-zero}
+use native.Mathlib.Omega.{arith}
+use borrow.Author.Tests.{eq-eqb, ne-eqb, eqb-true}
+use lib.Dec.{eqb, ltb}
+use Rattle.model.specs.Fold.{bit, count}
+use Rattle.model.specs.Stripes.{Layout, TwoStripes, among, on}
+use Rattle.model.proofs.Fold.{below-suc}
+
+-- ---- sums of numbers
+
+-- f 0 + f 1 + .. + f (n - 1).
+unfoldable pub total : ℕ → (ℕ → ℕ) → ℕ
+total zero f = 0
+total (suc n) f = total n f + f n
+
+pub total-ext : (n : ℕ) {f g : ℕ → ℕ} → ((i : ℕ) → i < n → f i ≡ g i) → total n f ≡ total n g
+unfolding total
+total-ext zero h = refl
+total-ext (suc n) h = ap₂ (λ (x y : ℕ). x + y) (total-ext n (λ i l. h i (le-step l))) (h n (lt-suc-self n))
+
+pub total-zero : (n : ℕ) {f : ℕ → ℕ} → ((i : ℕ) → i < n → f i ≡ 0) → total n f ≡ 0
+unfolding total
+total-zero zero h = refl
+total-zero (suc n) {f} h =
+    let before : total n f ≡ 0 = total-zero n (λ i l. h i (le-step l)) in
+    let here : f n ≡ 0 = h n (lt-suc-self n) in
+    omega arith
+
+pub total-add : (n : ℕ) (f g : ℕ → ℕ) → total n (λ i. f i + g i) ≡ total n f + total n g
+unfolding total
+total-add zero f g = refl
+total-add (suc n) f g = let before = total-add n f g in omega arith
+
+pub total-times : (n k : ℕ) (f : ℕ → ℕ) → total n (λ i. k * f i) ≡ k * total n f
+unfolding total
+total-times zero k f = sym (mul-zero k)
+total-times (suc n) k f = ap (λ (x : ℕ). x + k * f n) (total-times n k f) ∙ sym (mul-add k (total n f) (f n))
+
+pub total-swap : (m n : ℕ) (f : ℕ → ℕ → ℕ) → total m (λ i. total n (λ j. f i j)) ≡ total n (λ j. total m (λ i. f i j))
+unfolding total
+total-swap zero n f = sym (total-zero n (λ j h. refl))
+total-swap (suc m) n f =
+    ap (λ (x : ℕ). x + total n (λ j. f m j)) (total-swap m n f) ∙ sym (total-add n (λ j. total m (λ i. f i j)) (λ j. f m j))
+
+pub total-mono : (n : ℕ) (f g : ℕ → ℕ) → ((i : ℕ) → i < n → f i ≤ g i) → total n f ≤ total n g
+unfolding total
+total-mono zero f g h = le-refl 0
+total-mono (suc n) f g h =
+    let before = total-mono n f g (λ i l. h i (le-step l)) in
+    let here = h n (lt-suc-self n) in
+    omega arith
+
+-- Where no part is larger and the sum is not smaller, the parts are equal.
+pub total-squeeze : (n : ℕ) (f g : ℕ → ℕ) → ((i : ℕ) → i < n → f i ≤ g i) → total n g ≤ total n f → (i : ℕ) → i < n → f i ≡ g i
+unfolding total
+total-squeeze zero f g h e = λ i l. absurd (not-suc-le-zero l)
+total-squeeze (suc n) f g h e =
+    let before = total-mono n f g (λ i l. h i (le-step l)) in
+    let here = h n (lt-suc-self n) in
+    below-suc (λ i. f i ≡ g i) n (total-squeeze n f g (λ i l. h i (le-step l)) (omega arith)) (omega arith)
+
+-- The sum of a function that is zero everywhere but at k.
+pub total-only : (n k : ℕ) {f : ℕ → ℕ} → k < n → ((i : ℕ) → i < n → (i ≡ k → ⊥) → f i ≡ 0) → total n f ≡ f k
+unfolding total
+total-only zero k l h = absurd (not-suc-le-zero l)
+total-only (suc n) k {f} l h =
+    ⊎-elim
+    (λ e.
+    let none : total n f ≡ 0 = total-zero n (λ i m. h i (le-step m) (λ q. omega arith)) in
+    ap (λ (x : ℕ). x + f n) none ∙ zero-add (f n) ∙ ap f (sym e))
+    (λ m.
+    let before : total n f ≡ f k = total-only n k m (λ i w. h i (le-step w)) in
+    let here : f n ≡ 0 = h n (lt-suc-self n) (λ q. omega arith) in
+    omega arith)
+    (eq-or-lt-of-le (le-of-suc-le-suc l))
+
+pub count-total : (n : ℕ) (t : ℕ → Bool) → count n t ≡ total n (λ i. bit (t i))
+unfolding total count
+count-total zero t = refl
+count-total (suc n) t = ap (λ (x : ℕ). x + bit (t n)) (count-total n t)
+
+-- ---- disks on a stripe, stripes of a disk
+
+-- How many disks of c lie on stripe s.
+unfoldable pub degree : Layout → (ℕ → Bool) → ℕ → ℕ
+degree L c s = count (L .disks) (λ d. c d && on L d s)
+
+-- How many stripes hold a disk of c.
+unfoldable pub touched : Layout → (ℕ → Bool) → ℕ
+touched L c = count (L .stripeBound) (λ s. ltb 0 (degree L c s))
+
+-- The parts of a sum of bits.
+pub bit-and : (a b : Bool) → bit (a && b) ≡ bit a * bit b
+unfolding bit
+bit-and true b = sym (one-mul (bit b))
+bit-and false b = sym (zero-mul (bit b))
+
+bit-or : (a b : Bool) → (a ≡ true → b ≡ false) → bit (a || b) ≡ bit a + bit b
+unfolding bit
+bit-or true b h = sym (ap (λ (x : Bool). 1 + bit x) (h refl))
+bit-or false b h = sym (zero-add (bit b))
+
+-- Just one number equals k.
+pub total-equal : (n k : ℕ) → k < n → total n (λ s. bit (eqb s k)) ≡ 1
+unfolding bit
+total-equal n k l = total-only n k l (λ i h q. ap bit (ne-eqb i k q)) ∙ ap bit (eq-eqb k k refl)
+
+module _ (L : Layout) (two : TwoStripes L) (d : ℕ) (inside : d < L .disks) where
+  pub low-bound : two .low d < L .stripeBound
+  low-bound = let a = two .order d inside in let b = two .bound d inside in omega arith
+
+  -- A disk lies on its two stripes and on no other.
+  pub on-two : (s : ℕ) → on L d s ≡ (eqb s (two .low d) || eqb s (two .high d))
+  unfolding on among
+  on-two s = ap (among s) (two .two d inside) ∙ ap (λ (b : Bool). eqb s (two .low d) || b) (or-false (eqb s (two .high d)))
+
+  pub on-low : on L d (two .low d) ≡ true
+  on-low = on-two (two .low d) ∙ ap (λ (b : Bool). b || eqb (two .low d) (two .high d)) (eq-eqb (two .low d) (two .low d) refl)
+
+  pub on-high : on L d (two .high d) ≡ true
+  on-high =
+      on-two (two .high d) ∙ ap (λ (b : Bool). eqb (two .high d) (two .low d) || b) (eq-eqb (two .high d) (two .high d) refl)
+      ∙ or-true (eqb (two .high d) (two .low d))
+
+  pub on-which : (s : ℕ) → on L d s ≡ true → (s ≡ two .low d) ⊎ (s ≡ two .high d)
+  on-which s e = go (eqb s (two .low d)) refl
+    where
+      go : (b : Bool) → eqb s (two .low d) ≡ b → (s ≡ two .low d) ⊎ (s ≡ two .high d)
+      go true q = inl (eqb-true s (two .low d) q)
+      go false q = inr (eqb-true s (two .high d) (ap (λ (b : Bool). b || eqb s (two .high d)) (sym q) ∙ sym (on-two s) ∙ e))
+
+  pub on-bound : (s : ℕ) → on L d s ≡ true → s < L .stripeBound
+  on-bound s e =
+      let a = low-bound in
+      let b = two .bound d inside in
+      ⊎-elim (λ q. omega arith) (λ q. omega arith) (on-which s e)
+
+  -- As a sum of bits, and summed over the stripes.
+  pub on-bits : (s : ℕ) → bit (on L d s) ≡ bit (eqb s (two .low d)) + bit (eqb s (two .high d))
+  on-bits s =
+      ap bit (on-two s)
+      ∙ bit-or (eqb s (two .low d)) (eqb s (two .high d))
+      (λ q. let e = eqb-true s (two .low d) q in let a = two .order d inside in ne-eqb s (two .high d) (λ h. omega arith))
+
+  pub on-total : total (L .stripeBound) (λ s. bit (on L d s)) ≡ 2
+  on-total =
+      total-ext (L .stripeBound) (λ s l. on-bits s)
+      ∙ total-add (L .stripeBound) (λ s. bit (eqb s (two .low d))) (λ s. bit (eqb s (two .high d)))
+      ∙ ap₂ (λ (x y : ℕ). x + y) (total-equal (L .stripeBound) (two .low d) low-bound)
+      (total-equal (L .stripeBound) (two .high d) (two .bound d inside))
+
+  pub on-count : count (L .stripeBound) (λ s. on L d s) ≡ 2
+  on-count = count-total (L .stripeBound) (λ s. on L d s) ∙ on-total
+
+-- Each disk of c counts on two stripes.
+pub degrees : (L : Layout) → TwoStripes L → (c : ℕ → Bool) → total (L .stripeBound) (degree L c) ≡ 2 * count (L .disks) c
+unfolding degree
+degrees L two c =
+    total-ext (L .stripeBound) (λ s l. count-total (L .disks) (λ d. c d && on L d s))
+    ∙ total-swap (L .stripeBound) (L .disks) (λ s d. bit (c d && on L d s))
+    ∙ total-ext (L .disks) (λ d l.
+    total-ext (L .stripeBound) (λ s b. bit-and (c d) (on L d s))
+    ∙ total-times (L .stripeBound) (bit (c d)) (λ s. bit (on L d s))
+    ∙ ap (λ (x : ℕ). bit (c d) * x) (on-total L two d l)
+    ∙ mul-comm (bit (c d)) 2)
+    ∙ total-times (L .disks) 2 (λ d. bit (c d))
+    ∙ ap (λ (x : ℕ). 2 * x) (sym (count-total (L .disks) c))
