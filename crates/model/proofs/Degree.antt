@@ -1,16 +1,19 @@
 -- How many disks of a set lie on each stripe, how many stripes the set touches, and what repairs take from that number.
 -- Assumes nothing.
 use mathlib.Core.Path.{_≡_, refl, sym, _∙_, ap, ap₂}
-use mathlib.Core.Bool.{Bool, true, false, _&&_, _||_, or-false, or-true}
+use mathlib.Core.Bool.{Bool, true, false, not, _&&_, _||_, and-false, or-false, or-true}
 use mathlib.Core.Logic.{_⊎_, inl, inr, ⊎-elim}
-use Prim.Native.Nat.{ℕ, zero, suc, _+_, _*_, _≤_, _<_}
-use native.Mathlib.Nat.{zero-add, mul-zero, mul-add, zero-mul, one-mul, mul-comm, lt-suc-self, le-step, le-refl, eq-or-lt-of-le, le-of-suc-le-suc, not-suc-le-zero}
+use Prim.Native.Nat.{ℕ, zero, suc, _+_, _*_, _/_, _%_, _≤_, _<_, zero-le}
+use native.Mathlib.Nat.{le-of-eq, div-lt-iff-lt-mul, zero-add, mul-zero, mul-add, zero-mul, one-mul, mul-comm, lt-suc-self, le-step, le-refl, eq-or-lt-of-le, le-of-suc-le-suc, not-suc-le-zero}
 use native.Mathlib.Omega.{arith}
-use borrow.Author.Tests.{eq-eqb, ne-eqb, eqb-true}
+use borrow.Author.Tests.{eq-eqb, ne-eqb, eqb-true, eqb-false, not-true, lt-ltb, le-ltb}
 use lib.Dec.{eqb, ltb}
 use Rattle.model.specs.Fold.{bit, count}
 use Rattle.model.specs.Stripes.{Layout, TwoStripes, among, on}
-use Rattle.model.proofs.Fold.{below-suc}
+use Rattle.model.specs.Grid.{grid, rows, columns, gridOf, sizeFits}
+use Rattle.model.specs.declared.Size.{Size}
+use Rattle.model.proofs.Grid.{Fits, size-fits}
+use Rattle.model.proofs.Fold.{lt-or-le, bit-le, count-le, count-none, count-add, and-left, and-right, and-both, by-cases, below-suc, count-some, count-found, count-without}
 
 -- ---- sums of numbers
 
@@ -85,6 +88,37 @@ unfolding total count
 count-total zero t = refl
 count-total (suc n) t = ap (λ (x : ℕ). x + bit (t n)) (count-total n t)
 
+-- ---- counts of two
+
+-- Two different numbers count for two.
+pub count-two : (n : ℕ) (t : ℕ → Bool) (i j : ℕ) → i < n → t i ≡ true → j < n → t j ≡ true → (j ≡ i → ⊥) → 2 ≤ count n t
+count-two n t i j l h m k q =
+    let rest = count-without n t i l h in
+    let more = count-some n (λ a. t a && not (eqb a i)) j m (and-both k (ap not (ne-eqb j i q))) in
+    omega arith
+
+-- Where two are counted, there is just one other.
+pub record Other (n : ℕ) (t : ℕ → Bool) (i j : ℕ) : Type 0 where
+  pub inside : j < n
+  pub holds : t j ≡ true
+  pub apart : j ≡ i → ⊥
+  pub only : (k : ℕ) → k < n → t k ≡ true → (k ≡ i → ⊥) → k ≡ j
+
+pub count-other : (n : ℕ) (t : ℕ → Bool) (i : ℕ) → count n t ≡ 2 → i < n → t i ≡ true → (j : ℕ) × Other n t i j
+count-other n t i e l h =
+    let rest = count-without n t i l h in
+    let (j, m, k) = count-found n (λ a. t a && not (eqb a i)) (omega arith) in (
+      j,
+      record {
+        inside = m;
+        holds = and-left (t j) (not (eqb j i)) k;
+        apart = eqb-false j i (not-true (eqb j i) (and-right (t j) (not (eqb j i)) k));
+        only = λ a w x q.
+            by-cases (λ (b : Bool). a ≡ j) (eqb a j) (eqb-true a j)
+            (λ y. let more = count-two n (λ a. t a && not (eqb a i)) j a m k w (and-both x (ap not (ne-eqb a i q))) (eqb-false a j y) in absurd (omega arith));
+      },
+    )
+
 -- ---- disks on a stripe, stripes of a disk
 
 -- How many disks of c lie on stripe s.
@@ -94,6 +128,15 @@ degree L c s = count (L .disks) (λ d. c d && on L d s)
 -- How many stripes hold a disk of c.
 unfoldable pub touched : Layout → (ℕ → Bool) → ℕ
 touched L c = count (L .stripeBound) (λ s. ltb 0 (degree L c s))
+
+-- A stripe that holds a disk of c, and one that does not.
+pub touches : (L : Layout) (c : ℕ → Bool) (d s : ℕ) → d < L .disks → c d ≡ true → on L d s ≡ true → ltb 0 (degree L c s) ≡ true
+unfolding degree
+touches L c d s l h k = lt-ltb 0 _ (count-some (L .disks) (λ d. c d && on L d s) d l (and-both h k))
+
+pub untouched : (L : Layout) (c : ℕ → Bool) (s : ℕ) → ((d : ℕ) → d < L .disks → (c d && on L d s) ≡ false) → ltb 0 (degree L c s) ≡ false
+unfolding degree
+untouched L c s h = le-ltb 0 _ (le-of-eq (count-none (L .disks) h))
 
 -- The parts of a sum of bits.
 pub bit-and : (a b : Bool) → bit (a && b) ≡ bit a * bit b
@@ -171,3 +214,37 @@ degrees L two c =
     ∙ mul-comm (bit (c d)) 2)
     ∙ total-times (L .disks) 2 (λ d. bit (c d))
     ∙ ap (λ (x : ℕ). 2 * x) (sym (count-total (L .disks) c))
+
+-- ---- the stripes of a grid
+
+-- Where the test fails from m on, it holds of at most m numbers.
+pub count-short : (m n : ℕ) (t : ℕ → Bool) → ((i : ℕ) → m ≤ i → i < n → t i ≡ false) → count n t ≤ m
+unfolding count bit
+count-short m zero t h = zero-le
+count-short m (suc n) t h =
+    let up = count-short m n t (λ i l w. h i l (le-step w)) in
+    let all = count-le n t in
+    let one = bit-le (t n) in
+    ⊎-elim (λ l. omega arith) (λ l. let none = ap bit (h n l (lt-suc-self n)) in omega arith) (lt-or-le n m)
+
+module _ (z : Size) (fits : sizeFits z ≡ true) where
+  -- No disk lies on a stripe between the rows and the columns.
+  pub between-none : (d s : ℕ) → d < gridOf z .disks → rows z < s → s < 16 → on (gridOf z) d s ≡ false
+  unfolding on among gridOf grid
+  between-none d s l a b =
+      let row : d / (columns z + 1) < rows z + 1 = div-lt-iff-lt-mul {k = columns z + 1} (omega arith) .1 l in
+      ap₂ (λ (x y : Bool). x || (y || false)) (ne-eqb s (d / (columns z + 1)) (λ q. omega arith))
+      (ne-eqb s (16 + d % (columns z + 1)) (λ q. omega arith))
+
+  -- So no more stripes are touched than there are rows and columns.
+  pub grid-touched : (e : ℕ → Bool) → touched (gridOf z) e ≤ (rows z + 1) + (columns z + 1)
+  unfolding touched gridOf grid
+  grid-touched e =
+      let split = count-add 16 (columns z + 1) (λ s. ltb 0 (degree (gridOf z) e s)) in
+      let top : count 16 (λ s. ltb 0 (degree (gridOf z) e s)) ≤ rows z + 1 =
+      count-short (rows z + 1) 16 _ (λ s l b. untouched (gridOf z) e s (λ d w. ap (λ (t : Bool). e d && t) (between-none d s w (omega arith) b) ∙ and-false (e d))) in
+      let side = count-le (columns z + 1) (λ s. ltb 0 (degree (gridOf z) e (16 + s))) in
+      omega arith
+
+  pub grid-stripes : (e : ℕ → Bool) → touched (gridOf z) e ≤ 32
+  grid-stripes e = let f : Fits z = size-fits z fits in let up = grid-touched e in omega arith

@@ -2,6 +2,7 @@ pub mod Xor
 pub mod Fold
 pub mod Grid
 pub mod Degree
+pub mod Core
 pub mod Equations
 pub mod Refusal
 pub mod Seal
