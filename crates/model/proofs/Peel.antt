@@ -2,12 +2,17 @@
 -- Assumes nothing.
 use mathlib.Core.Path.{_≡_, refl, sym, _∙_, ap, ap₂, subst}
 use mathlib.Core.Bool.{Bool, true, false, not, _&&_, _||_, and-true, and-false, true≢false, false≢true}
-use Prim.Native.Nat.{ℕ, _<_}
+use mathlib.Core.List.{List, [], _∷_, _++_}
+use Prim.Native.Nat.{ℕ, suc, _≤_, _<_, suc-le-suc}
+use native.Mathlib.Nat.{zero-lt-suc}
+use native.Mathlib.Omega.{arith}
 use borrow.Author.Tests.{eq-eqb, ne-eqb, eqb-true, eqb-false, ltb-true, lt-ltb, not-true, not-false}
 use lib.Dec.{eqb, ltb}
+use lib.ListN.{length}
 use Rattle.model.specs.Fold.{every}
 use Rattle.model.specs.Stripes.{Layout, on}
-use Rattle.model.specs.Repair.{without, alone, allowed, Stuck}
+use Rattle.model.specs.Repair.{without, Entry, alone, allowed, Peels, Stuck, after}
+use Rattle.model.specs.Cycle.{diskOf}
 use Rattle.model.proofs.Fold.{and-left, and-right, and-both, or-left, or-right, by-cases, every-at, every-all, every-fails}
 
 -- ---- erased disks
@@ -92,3 +97,57 @@ other-stuck L c other d s =
     let (i, l, q, k, w) = other d s (a .disk) (a .erased) (a .here) in
     sym w ∙ a .only i l q k)
     (λ h. refl)
+
+-- ---- lists of repairs
+
+-- Repairs add no erased disk.
+pub after-sub : (e : ℕ → Bool) (w : List Entry) (i : ℕ) → after e w i ≡ true → e i ≡ true
+unfolding after
+after-sub e [] i h = h
+after-sub e (r ∷ rs) i h = without-sub e (r .disk) i (after-sub (without e (r .disk)) rs i h)
+
+pub after-append : (e : ℕ → Bool) (v w : List Entry) → after e (v ++ w) ≡ after (after e v) w
+unfolding after
+after-append e [] w = refl
+after-append e (r ∷ rs) w = after-append (without e (r .disk)) rs w
+
+pub after-snoc : (e : ℕ → Bool) (w : List Entry) (r : Entry) → after e (w ++ (r ∷ [])) ≡ without (after e w) (r .disk)
+unfolding after
+after-snoc e w r = after-append e w (r ∷ [])
+
+-- A disk that no repair names stays as it was.
+pub after-keeps : (e : ℕ → Bool) (w : List Entry) (d : ℕ) → ((i : ℕ) → i < length w → diskOf w i ≡ d → ⊥) → after e w d ≡ e d
+unfolding after diskOf
+after-keeps e [] d h = refl
+after-keeps e (r ∷ rs) d h =
+    after-keeps (without e (r .disk)) rs d (λ i l. h (suc i) (suc-le-suc l))
+    ∙ without-other e (r .disk) d (λ q. h 0 (zero-lt-suc (length rs)) (sym q))
+
+module _ (L : Layout) where
+  pub peels-append : (e : ℕ → Bool) (v w : List Entry) → Peels L e v → Peels L (after e v) w → Peels L e (v ++ w)
+  unfolding after
+  peels-append e [] w p q = q
+  peels-append e (r ∷ rs) w p q = (p .0, peels-append (without e (r .disk)) rs w (p .1) q)
+
+  -- Repairs name disks only.
+  pub after-outside : (e : ℕ → Bool) (w : List Entry) → Peels L e w → (d : ℕ) → L .disks ≤ d → after e w d ≡ e d
+  unfolding after
+  after-outside e [] p d h = refl
+  after-outside e (r ∷ rs) p d h =
+      let l : r .disk < L .disks = allowed-is L e (r .disk) (r .stripe) (p .0) .disk in
+      after-outside (without e (r .disk)) rs (p .1) d h ∙ without-other e (r .disk) d (λ q. omega arith)
+
+  -- No repair reaches a disk of a stuck subset.
+  stuck-apart : (c e : ℕ → Bool) → Within L c e → Stuck L c → (r : Entry) → allowed L e (r .disk) (r .stripe) ≡ true
+      → (d : ℕ) → c d ≡ true → d ≡ r .disk → ⊥
+  stuck-apart c e sub stuck r h d k q =
+      let a : Allowed L e (r .disk) (r .stripe) = allowed-is L e (r .disk) (r .stripe) h in
+      let (i, l, p, m, w) = stuck-other L c stuck (r .disk) (r .stripe) (a .disk) (ap c (sym q) ∙ k) (a .here) in
+      true≢false (sym w ∙ a .only i l p (sub i l m))
+
+  pub stuck-stays : (c e : ℕ → Bool) → Within L c e → Stuck L c → (w : List Entry) → Peels L e w → Within L c (after e w)
+  unfolding after
+  stuck-stays c e sub stuck [] p = sub
+  stuck-stays c e sub stuck (r ∷ rs) p =
+      stuck-stays c (without e (r .disk))
+      (λ d l k. without-other e (r .disk) d (stuck-apart c e sub stuck r (p .0) d k) ∙ sub d l k) stuck rs (p .1)
