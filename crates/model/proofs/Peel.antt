@@ -1,21 +1,21 @@
 -- The laws of repairs and of plan's order over any stripe system.
 -- Assumes nothing.
-use mathlib.Core.Path.{_≡_, refl, sym, _∙_, ap, ap₂, subst}
+use mathlib.Core.Path.{_≡_, refl, sym, _∙_, ap, ap₂, subst, fun-ext}
 use mathlib.Core.Bool.{Bool, true, false, cond, not, _&&_, _||_, and-true, and-false, true≢false, false≢true}
-use mathlib.Core.Logic.{⊎-elim}
+use mathlib.Core.Logic.{⊎-elim, _↔_}
 use mathlib.Core.List.{List, [], _∷_, _++_}
-use Prim.Native.Nat.{ℕ, zero, suc, _≤_, _<_, zero-le, suc-le-suc}
-use native.Mathlib.Nat.{zero-lt-suc, lt-of-le-of-lt}
+use Prim.Native.Nat.{ℕ, zero, suc, _+_, _≤_, _<_, zero-le, suc-le-suc}
+use native.Mathlib.Nat.{zero-add, zero-lt-suc, lt-of-le-of-lt}
 use native.Mathlib.Decide.{decLt}
 use native.Mathlib.Omega.{arith}
-use borrow.Author.Tests.{eq-eqb, ne-eqb, eqb-true, eqb-false, ltb-true, lt-ltb, le-ltb, not-true, not-false}
+use borrow.Author.Tests.{eq-eqb, ne-eqb, eqb-true, eqb-false, ltb-true, ltb-false, lt-ltb, le-ltb, not-true, not-false}
 use lib.Dec.{eqb, ltb}
 use lib.ListN.{length}
 use Rattle.model.specs.Fold.{every, count}
 use Rattle.model.specs.Stripes.{Layout, TwoStripes, among, on}
-use Rattle.model.specs.Repair.{without, Entry, alone, allowed, firstAllowed, someAllowed, Peels, Stuck, nextDisk, repairOf, peel, repairs, after, residual}
+use Rattle.model.specs.Repair.{without, Entry, alone, allowed, firstAllowed, someAllowed, Peels, Stuck, nextDisk, repairOf, peel, repairs, after, residual, lost, fatal}
 use Rattle.model.specs.Cycle.{diskOf}
-use Rattle.model.proofs.Fold.{and-left, and-right, and-both, or-left, or-right, by-cases, lt-or-le, every-at, every-all, every-fails, count-le, count-zero-none, count-without, lowest-is}
+use Rattle.model.proofs.Fold.{and-left, and-right, and-both, or-left, or-right, same-test, by-cases, lt-or-le, every-at, every-all, every-fails, count-le, count-none, count-zero-none, count-some, count-found, count-without, lowest-is}
 
 -- ---- erased disks
 
@@ -294,3 +294,71 @@ module _ (L : Layout) where
   pub residual-sub : (e : ℕ → Bool) (d : ℕ) → residual L e d ≡ true → e d ≡ true
   unfolding residual
   residual-sub e d h = after-sub e (repairs L e) d h
+
+-- ---- what is left
+module _ (L : Layout) where
+  -- What plan's order leaves contains every stuck subset.
+  pub residual-largest : (c e : ℕ → Bool) → Within L c e → Stuck L c → Within L c (residual L e)
+  unfolding residual
+  residual-largest c e sub stuck = stuck-stays L c e sub stuck (repairs L e) (repairs-peels L e)
+
+  -- Any order leaves the same.
+  pub order-free : (e : ℕ → Bool) (w : List Entry) → Peels L e w → Stuck L (after e w) → (d : ℕ) → after e w d ≡ residual L e d
+  order-free e w p stuck d = ⊎-elim inside outside (lt-or-le d (L .disks))
+    where
+      inside : d < L .disks → after e w d ≡ residual L e d
+      inside l =
+          same-test (after e w d) (residual L e d) (residual-largest (after e w) e (λ i m. after-sub e w i) stuck d l)
+          (stuck-stays L (residual L e) e (λ i m. residual-sub L e i) (residual-stuck L e) w p d l)
+
+      outside : L .disks ≤ d → after e w d ≡ residual L e d
+      outside l = after-outside L e w p d l ∙ sym (unfold residual in after-outside L e (repairs L e) (repairs-peels L e) d l)
+
+  pub order-free-all : (e : ℕ → Bool) (w : List Entry) → Peels L e w → Stuck L (after e w) → after e w ≡ residual L e
+  order-free-all e w p stuck = fun-ext (order-free e w p stuck)
+
+  pub not-fatal : (e : ℕ → Bool) → (fatal L e ≡ false) ↔ ((d : ℕ) → d < L .disks → residual L e d ≡ false)
+  unfolding fatal lost
+  not-fatal e = (
+    λ h. let z = ltb-false 0 (count (L .disks) (residual L e)) h in count-zero-none (L .disks) (residual L e) (omega arith),
+    λ h. let z = count-none (L .disks) h in le-ltb 0 (count (L .disks) (residual L e)) (omega arith),
+  )
+
+  pub is-fatal : (e : ℕ → Bool) → (fatal L e ≡ true) ↔ ((d : ℕ) × (d < L .disks) × (residual L e d ≡ true))
+  unfolding fatal lost
+  is-fatal e = (
+    λ h. count-found (L .disks) (residual L e) (ltb-true 0 (count (L .disks) (residual L e)) h),
+    λ h. lt-ltb 0 (count (L .disks) (residual L e)) (count-some (L .disks) (residual L e) (h .0) (h .1) (h .2)),
+  )
+
+  pub fatal-of-stuck : (c e : ℕ → Bool) → Within L c e → Stuck L c → (d : ℕ) → d < L .disks → c d ≡ true → fatal L e ≡ true
+  fatal-of-stuck c e sub stuck d l h = is-fatal e .1 (d, l, residual-largest c e sub stuck d l h)
+
+  -- The loss of more disks is fatal too.
+  pub fatal-mono : (e f : ℕ → Bool) → Within L e f → fatal L e ≡ true → fatal L f ≡ true
+  fatal-mono e f sub h =
+      let (d, l, k) = is-fatal e .0 h in
+      fatal-of-stuck (residual L e) f (λ i m w. sub i m (residual-sub L e i w)) (residual-stuck L e) d l k
+
+  -- ---- how many
+
+  -- Each repair takes one erased disk away.
+  pub peel-count : (e : ℕ → Bool) (w : List Entry) → Peels L e w → length w + count (L .disks) (after e w) ≡ count (L .disks) e
+  unfolding after without
+  peel-count e [] p = zero-add (count (L .disks) e)
+  peel-count e (r ∷ rs) p =
+      let a : Allowed L e (r .disk) (r .stripe) = allowed-is L e (r .disk) (r .stripe) (p .0) in
+      let fewer : count (L .disks) (without e (r .disk)) + 1 ≡ count (L .disks) e = count-without (L .disks) e (r .disk) (a .disk) (a .erased) in
+      let up = peel-count (without e (r .disk)) rs (p .1) in
+      omega arith
+
+  pub repairs-lost : (e : ℕ → Bool) → length (repairs L e) + lost L e ≡ count (L .disks) e
+  unfolding lost residual
+  repairs-lost e = peel-count e (repairs L e) (repairs-peels L e)
+
+  pub none-lost : (e : ℕ → Bool) → fatal L e ≡ false → lost L e ≡ 0
+  unfolding fatal
+  none-lost e h = let z = ltb-false 0 (lost L e) h in omega arith
+
+  pub repairs-count : (e : ℕ → Bool) → fatal L e ≡ false → length (repairs L e) ≡ count (L .disks) e
+  repairs-count e h = let z = none-lost e h in let all = repairs-lost e in omega arith
