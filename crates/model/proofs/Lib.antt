@@ -5,6 +5,7 @@ pub mod Degree
 pub mod Core
 pub mod Equations
 pub mod Refusal
+pub mod Peel
 pub mod Seal
 pub mod Check
 pub mod Write
