@@ -1,19 +1,23 @@
 -- How many disks of a set lie on each stripe, how many stripes the set touches, and what repairs take from that number.
 -- Assumes nothing.
 use mathlib.Core.Path.{_≡_, refl, sym, _∙_, ap, ap₂}
-use mathlib.Core.Bool.{Bool, true, false, not, _&&_, _||_, and-false, or-false, or-true}
+use mathlib.Core.Bool.{Bool, true, false, not, _&&_, _||_, and-false, or-false, or-true, true≢false}
+use mathlib.Core.List.{List, [], _∷_}
 use mathlib.Core.Logic.{_⊎_, inl, inr, ⊎-elim}
 use Prim.Native.Nat.{ℕ, zero, suc, _+_, _*_, _/_, _%_, _≤_, _<_, zero-le}
-use native.Mathlib.Nat.{le-of-eq, div-lt-iff-lt-mul, zero-add, mul-zero, mul-add, zero-mul, one-mul, mul-comm, lt-suc-self, le-step, le-refl, eq-or-lt-of-le, le-of-suc-le-suc, not-suc-le-zero}
+use native.Mathlib.Nat.{zero-lt-suc, le-of-eq, div-lt-iff-lt-mul, zero-add, mul-zero, mul-add, zero-mul, one-mul, mul-comm, lt-suc-self, le-step, le-refl, eq-or-lt-of-le, le-of-suc-le-suc, not-suc-le-zero}
 use native.Mathlib.Omega.{arith}
-use borrow.Author.Tests.{eq-eqb, ne-eqb, eqb-true, eqb-false, not-true, lt-ltb, le-ltb}
+use borrow.Author.Tests.{eq-eqb, ne-eqb, eqb-true, eqb-false, not-true, ltb-true, lt-ltb, le-ltb}
 use lib.Dec.{eqb, ltb}
+use lib.ListN.{length}
 use Rattle.model.specs.Fold.{bit, count}
 use Rattle.model.specs.Stripes.{Layout, TwoStripes, among, on}
 use Rattle.model.specs.Grid.{grid, rows, columns, gridOf, sizeFits}
+use Rattle.model.specs.Repair.{without, Entry, allowed, Peels, after}
 use Rattle.model.specs.declared.Size.{Size}
-use Rattle.model.proofs.Grid.{Fits, size-fits}
-use Rattle.model.proofs.Fold.{lt-or-le, bit-le, count-le, count-none, count-add, and-left, and-right, and-both, by-cases, below-suc, count-some, count-found, count-without}
+use Rattle.model.proofs.Grid.{Fits, size-fits, gridOf-two}
+use Rattle.model.proofs.Peel.{Within, without-sub, without-apart, Allowed, allowed-is}
+use Rattle.model.proofs.Fold.{lt-or-le, bit-le, count-le, count-none, count-add, count-mono, and-left, and-right, and-both, by-cases, below-suc, count-some, count-found, count-without}
 
 -- ---- sums of numbers
 
@@ -215,6 +219,74 @@ degrees L two c =
     ∙ total-times (L .disks) 2 (λ d. bit (c d))
     ∙ ap (λ (x : ℕ). 2 * x) (sym (count-total (L .disks) c))
 
+-- ---- along a list of repairs
+
+-- A disk of c on a stripe that is touched.
+pub touching : (L : Layout) (c : ℕ → Bool) (s : ℕ) → ltb 0 (degree L c s) ≡ true
+    → (d : ℕ) × (d < L .disks) × (c d ≡ true) × (on L d s ≡ true)
+unfolding degree
+touching L c s h =
+    let (d, l, k) = count-found (L .disks) (λ d. c d && on L d s) (ltb-true 0 _ h) in
+    (d, l, and-left (c d) (on L d s) k, and-right (c d) (on L d s) k)
+
+-- More disks touch more stripes.
+pub touched-mono : (L : Layout) (c e : ℕ → Bool) → Within L c e → touched L c ≤ touched L e
+unfolding touched
+touched-mono L c e sub =
+    count-mono (L .stripeBound) (λ s l h. let (d, w, k, m) = touching L c s h in touches L e d s w (sub d w k) m)
+
+module _ (L : Layout) (two : TwoStripes L) where
+  -- One disk touches two.
+  pub touched-two : (c : ℕ → Bool) (d : ℕ) → d < L .disks → c d ≡ true → 2 ≤ touched L c
+  unfolding touched
+  touched-two c d l h =
+      let order = two .order d l in
+      count-two (L .stripeBound) (λ s. ltb 0 (degree L c s)) (two .low d) (two .high d)
+      (low-bound L two d l) (touches L c d (two .low d) l h (on-low L two d l))
+      (two .bound d l) (touches L c d (two .high d) l h (on-high L two d l)) (λ q. omega arith)
+
+  -- A repair frees its stripe.
+  pub repair-frees : (e : ℕ → Bool) (d s : ℕ) → allowed L e d s ≡ true → touched L (without e d) + 1 ≤ touched L e
+  unfolding touched
+  repair-frees e d s h =
+      let a : Allowed L e d s = allowed-is L e d s h in
+      let one =
+      count-without (L .stripeBound) (λ i. ltb 0 (degree L e i)) s (on-bound L two d (a .disk) s (a .here))
+      (touches L e d s (a .disk) (a .erased) (a .here)) in
+      let fewer : count (L .stripeBound) (λ i. ltb 0 (degree L (without e d) i)) ≤ count (L .stripeBound) (λ i. ltb 0 (degree L e i) && not (eqb i s)) =
+      count-mono (L .stripeBound) (λ i l k.
+      let (j, w, m, n) = touching L (without e d) i k in
+      and-both (touches L e j i w (without-sub e d j m) n)
+      (ap not (ne-eqb i s (λ q.
+      true≢false (sym (ap (on L j) (sym q) ∙ n) ∙ a .only j w (without-apart e d j m) (without-sub e d j m)))))) in
+      omega arith
+
+  pub peels-touched : (e : ℕ → Bool) (w : List Entry) → Peels L e w → length w + touched L (after e w) ≤ touched L e
+  unfolding after
+  peels-touched e [] p = le-of-eq (zero-add (touched L e))
+  peels-touched e (r ∷ rs) p =
+      let here = repair-frees e (r .disk) (r .stripe) (p .0) in
+      let rest = peels-touched (without e (r .disk)) rs (p .1) in
+      omega arith
+
+  pub peels-bound : (e : ℕ → Bool) (w : List Entry) → Peels L e w → length w ≤ L .stripeBound
+  unfolding touched
+  peels-bound e w p =
+      let all = peels-touched e w p in
+      let most : touched L e ≤ L .stripeBound = count-le (L .stripeBound) (λ s. ltb 0 (degree L e s)) in
+      omega arith
+
+  -- The last repair frees two stripes.
+  pub peels-fewer : (e : ℕ → Bool) (w : List Entry) → Peels L e w → 0 < length w → length w + 1 ≤ touched L e
+  peels-fewer e [] p h = absurd (not-suc-le-zero h)
+  peels-fewer e (r ∷ []) p h =
+      let a : Allowed L e (r .disk) (r .stripe) = allowed-is L e (r .disk) (r .stripe) (p .0) in
+      touched-two e (r .disk) (a .disk) (a .erased)
+  peels-fewer e (r ∷ q ∷ rs) p h =
+      let here = repair-frees e (r .disk) (r .stripe) (p .0) in
+      let rest = peels-fewer (without e (r .disk)) (q ∷ rs) (p .1) (zero-lt-suc (length rs)) in
+      omega arith
+
 -- ---- the stripes of a grid
 
 -- Where the test fails from m on, it holds of at most m numbers.
@@ -248,3 +320,14 @@ module _ (z : Size) (fits : sizeFits z ≡ true) where
 
   pub grid-stripes : (e : ℕ → Bool) → touched (gridOf z) e ≤ 32
   grid-stripes e = let f : Fits z = size-fits z fits in let up = grid-touched e in omega arith
+
+  -- Nor are there as many repairs.
+  pub grid-repairs : (e : ℕ → Bool) (w : List Entry) → Peels (gridOf z) e w → length w < (rows z + 1) + (columns z + 1)
+  grid-repairs e [] p = omega arith
+  grid-repairs e (r ∷ rs) p =
+      let fewer = peels-fewer (gridOf z) (gridOf-two z fits) e (r ∷ rs) p (zero-lt-suc (length rs)) in
+      let most = grid-touched e in
+      omega arith
+
+  pub grid-repairs-bound : (e : ℕ → Bool) (w : List Entry) → Peels (gridOf z) e w → length w < 32
+  grid-repairs-bound e w p = let f : Fits z = size-fits z fits in let all = grid-repairs e w p in omega arith

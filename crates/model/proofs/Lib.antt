@@ -1,11 +1,11 @@
 pub mod Xor
 pub mod Fold
 pub mod Grid
-pub mod Degree
-pub mod Core
 pub mod Equations
 pub mod Refusal
 pub mod Peel
+pub mod Degree
+pub mod Core
 pub mod Seal
 pub mod Check
 pub mod Write
