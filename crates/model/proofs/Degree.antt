@@ -2,12 +2,12 @@
 -- Assumes nothing.
 use mathlib.Core.Path.{_≡_, refl, sym, _∙_, ap, ap₂}
 use mathlib.Core.Bool.{Bool, true, false, not, _&&_, _||_, and-false, or-false, or-true, true≢false}
-use mathlib.Core.List.{List, [], _∷_}
 use mathlib.Core.Logic.{_⊎_, inl, inr, ⊎-elim}
+use mathlib.Core.List.{List, [], _∷_}
 use Prim.Native.Nat.{ℕ, zero, suc, _+_, _*_, _/_, _%_, _≤_, _<_, zero-le}
-use native.Mathlib.Nat.{zero-lt-suc, le-of-eq, div-lt-iff-lt-mul, zero-add, mul-zero, mul-add, zero-mul, one-mul, mul-comm, lt-suc-self, le-step, le-refl, eq-or-lt-of-le, le-of-suc-le-suc, not-suc-le-zero}
+use native.Mathlib.Nat.{zero-add, zero-mul, one-mul, mul-zero, mul-comm, mul-add, le-refl, le-of-eq, le-step, le-of-suc-le-suc, lt-suc-self, zero-lt-suc, not-suc-le-zero, eq-or-lt-of-le, div-lt-iff-lt-mul}
 use native.Mathlib.Omega.{arith}
-use borrow.Author.Tests.{eq-eqb, ne-eqb, eqb-true, eqb-false, not-true, ltb-true, lt-ltb, le-ltb}
+use borrow.Author.Tests.{eq-eqb, ne-eqb, eqb-true, eqb-false, ltb-true, lt-ltb, le-ltb, not-true}
 use lib.Dec.{eqb, ltb}
 use lib.ListN.{length}
 use Rattle.model.specs.Fold.{bit, count}
@@ -15,9 +15,9 @@ use Rattle.model.specs.Stripes.{Layout, TwoStripes, among, on}
 use Rattle.model.specs.Grid.{grid, rows, columns, gridOf, sizeFits}
 use Rattle.model.specs.Repair.{without, Entry, allowed, Peels, after}
 use Rattle.model.specs.declared.Size.{Size}
+use Rattle.model.proofs.Fold.{and-left, and-right, and-both, by-cases, lt-or-le, below-suc, bit-le, count-le, count-mono, count-none, count-some, count-found, count-add, count-without}
 use Rattle.model.proofs.Grid.{Fits, size-fits, gridOf-two}
 use Rattle.model.proofs.Peel.{Within, without-sub, without-apart, Allowed, allowed-is}
-use Rattle.model.proofs.Fold.{lt-or-le, bit-le, count-le, count-none, count-add, count-mono, and-left, and-right, and-both, by-cases, below-suc, count-some, count-found, count-without}
 
 -- ---- sums of numbers
 
@@ -143,7 +143,7 @@ unfolding degree
 untouched L c s h = le-ltb 0 _ (le-of-eq (count-none (L .disks) h))
 
 -- The parts of a sum of bits.
-pub bit-and : (a b : Bool) → bit (a && b) ≡ bit a * bit b
+bit-and : (a b : Bool) → bit (a && b) ≡ bit a * bit b
 unfolding bit
 bit-and true b = sym (one-mul (bit b))
 bit-and false b = sym (zero-mul (bit b))
@@ -154,7 +154,7 @@ bit-or true b h = sym (ap (λ (x : Bool). 1 + bit x) (h refl))
 bit-or false b h = sym (zero-add (bit b))
 
 -- Just one number equals k.
-pub total-equal : (n k : ℕ) → k < n → total n (λ s. bit (eqb s k)) ≡ 1
+total-equal : (n k : ℕ) → k < n → total n (λ s. bit (eqb s k)) ≡ 1
 unfolding bit
 total-equal n k l = total-only n k l (λ i h q. ap bit (ne-eqb i k q)) ∙ ap bit (eq-eqb k k refl)
 
@@ -261,6 +261,7 @@ module _ (L : Layout) (two : TwoStripes L) where
       true≢false (sym (ap (on L j) (sym q) ∙ n) ∙ a .only j w (without-apart e d j m) (without-sub e d j m)))))) in
       omega arith
 
+  -- So there are no more repairs than stripes that are touched.
   pub peels-touched : (e : ℕ → Bool) (w : List Entry) → Peels L e w → length w + touched L (after e w) ≤ touched L e
   unfolding after
   peels-touched e [] p = le-of-eq (zero-add (touched L e))
@@ -276,7 +277,7 @@ module _ (L : Layout) (two : TwoStripes L) where
       let most : touched L e ≤ L .stripeBound = count-le (L .stripeBound) (λ s. ltb 0 (degree L e s)) in
       omega arith
 
-  -- The last repair frees two stripes.
+  -- Before the last repair its disk still touches two stripes.
   pub peels-fewer : (e : ℕ → Bool) (w : List Entry) → Peels L e w → 0 < length w → length w + 1 ≤ touched L e
   peels-fewer e [] p h = absurd (not-suc-le-zero h)
   peels-fewer e (r ∷ []) p h =
@@ -299,7 +300,7 @@ count-short m (suc n) t h =
     let one = bit-le (t n) in
     ⊎-elim (λ l. omega arith) (λ l. let none = ap bit (h n l (lt-suc-self n)) in omega arith) (lt-or-le n m)
 
-module _ (z : Size) (fits : sizeFits z ≡ true) where
+module _ (z : Size) where
   -- No disk lies on a stripe between the rows and the columns.
   pub between-none : (d s : ℕ) → d < gridOf z .disks → rows z < s → s < 16 → on (gridOf z) d s ≡ false
   unfolding on among gridOf grid
@@ -318,15 +319,16 @@ module _ (z : Size) (fits : sizeFits z ≡ true) where
       let side = count-le (columns z + 1) (λ s. ltb 0 (degree (gridOf z) e (16 + s))) in
       omega arith
 
+module _ (z : Size) (fits : sizeFits z ≡ true) where
   pub grid-stripes : (e : ℕ → Bool) → touched (gridOf z) e ≤ 32
-  grid-stripes e = let f : Fits z = size-fits z fits in let up = grid-touched e in omega arith
+  grid-stripes e = let f : Fits z = size-fits z fits in let up = grid-touched z e in omega arith
 
-  -- Nor are there as many repairs.
+  -- There are fewer repairs than that.
   pub grid-repairs : (e : ℕ → Bool) (w : List Entry) → Peels (gridOf z) e w → length w < (rows z + 1) + (columns z + 1)
   grid-repairs e [] p = omega arith
   grid-repairs e (r ∷ rs) p =
       let fewer = peels-fewer (gridOf z) (gridOf-two z fits) e (r ∷ rs) p (zero-lt-suc (length rs)) in
-      let most = grid-touched e in
+      let most = grid-touched z e in
       omega arith
 
   pub grid-repairs-bound : (e : ℕ → Bool) (w : List Entry) → Peels (gridOf z) e w → length w < 32
