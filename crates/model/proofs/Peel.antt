@@ -5,17 +5,20 @@ use mathlib.Core.Bool.{Bool, true, false, cond, not, _&&_, _||_, and-true, and-f
 use mathlib.Core.Logic.{⊎-elim, _↔_}
 use mathlib.Core.List.{List, [], _∷_, _++_}
 use Prim.Native.Nat.{ℕ, zero, suc, _+_, _≤_, _<_, zero-le, suc-le-suc}
-use native.Mathlib.Nat.{zero-add, zero-lt-suc, lt-of-le-of-lt}
+use native.Mathlib.Nat.{zero-add, le-of-suc-le-suc, eq-or-lt-of-le, not-suc-le-zero, zero-lt-suc, lt-of-le-of-lt}
 use native.Mathlib.Decide.{decLt}
+use native.Mathlib.Numerals.{add-one}
 use native.Mathlib.Omega.{arith}
 use borrow.Author.Tests.{eq-eqb, ne-eqb, eqb-true, eqb-false, ltb-true, ltb-false, lt-ltb, le-ltb, not-true, not-false}
 use lib.Dec.{eqb, ltb}
-use lib.ListN.{length}
-use Rattle.model.specs.Fold.{every, count}
+use lib.ListN.{length, take, getD}
+use lib.Seq.{take-length, take-suc}
+use Rattle.model.specs.Fold.{every, bit, count}
 use Rattle.model.specs.Stripes.{Layout, TwoStripes, among, on}
 use Rattle.model.specs.Repair.{without, Entry, alone, allowed, firstAllowed, someAllowed, Peels, Stuck, nextDisk, repairOf, peel, repairs, after, residual, lost, fatal}
-use Rattle.model.specs.Cycle.{diskOf}
-use Rattle.model.proofs.Fold.{and-left, and-right, and-both, or-left, or-right, same-test, by-cases, lt-or-le, every-at, every-all, every-fails, count-le, count-none, count-zero-none, count-some, count-found, count-without, lowest-is}
+use Rattle.model.specs.Cycle.{diskOf, stripeOf}
+use Rattle.model.specs.Demand3.{InOrder}
+use Rattle.model.proofs.Fold.{and-left, and-right, and-both, or-left, or-right, same-test, by-cases, lt-or-le, every-at, every-all, every-fails, count-le, count-none, count-zero-none, count-some, count-found, count-first, count-without, lowest-is}
 
 -- ---- erased disks
 
@@ -38,6 +41,18 @@ without-sub e d i h = and-left (e i) (not (eqb i d)) h
 pub without-apart : (e : ℕ → Bool) (d i : ℕ) → without e d i ≡ true → i ≡ d → ⊥
 unfolding without
 without-apart e d i h = eqb-false i d (not-true (eqb i d) (and-right (e i) (not (eqb i d)) h))
+
+-- An erased disk that is taken away, and the others.
+without-bit : (e : ℕ → Bool) (d i : ℕ) → e d ≡ true → bit (eqb d i) + bit (without e d i) ≡ bit (e i)
+unfolding bit
+without-bit e d i h = go (eqb d i) refl
+  where
+    go : (b : Bool) → eqb d i ≡ b → bit b + bit (without e d i) ≡ bit (e i)
+    go true q =
+        let gone : bit (without e d i) ≡ 0 = ap bit (ap (without e d) (sym (eqb-true d i q)) ∙ without-at e d) in
+        let here : bit (e i) ≡ 1 = ap bit (ap e (sym (eqb-true d i q)) ∙ h) in
+        omega arith
+    go false q = let same = ap bit (without-other e d i (λ k. eqb-false d i q (sym k))) in omega arith
 
 -- ---- repairs that are allowed
 
@@ -362,3 +377,91 @@ module _ (L : Layout) where
 
   pub repairs-count : (e : ℕ → Bool) → fatal L e ≡ false → length (repairs L e) ≡ count (L .disks) e
   repairs-count e h = let z = none-lost e h in let all = repairs-lost e in omega arith
+
+-- ---- turn by turn
+
+-- The disks that are still erased when repair number i has its turn.
+abbrev pub atTurn : (ℕ → Bool) → List Entry → ℕ → ℕ → Bool
+atTurn e w i = after e (take i w)
+
+module _ (L : Layout) where
+  pub peels-at : (e : ℕ → Bool) (w : List Entry) → Peels L e w
+      → (i : ℕ) → i < length w → allowed L (atTurn e w i) (diskOf w i) (stripeOf w i) ≡ true
+  unfolding after diskOf stripeOf
+  peels-at e [] p i l = absurd (not-suc-le-zero l)
+  peels-at e (r ∷ rs) p zero l = p .0
+  peels-at e (r ∷ rs) p (suc i) l = peels-at (without e (r .disk)) rs (p .1) i (le-of-suc-le-suc l)
+
+  -- Each repair of plan's order is the next one at its turn.
+  pub peel-turn : (k : ℕ) (e : ℕ → Bool) (i : ℕ) → i < length (peel L k e)
+      → (nextDisk L (atTurn e (peel L k e) i) < L .disks)
+      × (getD (peel L k e) i (record { disk = 0; stripe = 0 })
+      ≡ repairOf L (atTurn e (peel L k e) i) (nextDisk L (atTurn e (peel L k e) i)))
+  unfolding after repairOf
+  peel-turn =
+      by-peel L Turn (λ e i l. absurd (not-suc-le-zero l)) (λ k e n i l. absurd (not-suc-le-zero l))
+      (λ k e w l up. elim [ zero ↦ (λ h. (l, refl)) | suc i ↦ (λ h. up i (le-of-suc-le-suc h)) ])
+    where
+      Turn : ℕ → (ℕ → Bool) → List Entry → Type 0
+      Turn k e w =
+          (i : ℕ) → i < length w
+          → (nextDisk L (atTurn e w i) < L .disks)
+          × (getD w i (record { disk = 0; stripe = 0 }) ≡ repairOf L (atTurn e w i) (nextDisk L (atTurn e w i)))
+
+  module _ (k : ℕ) (e : ℕ → Bool) (enough : count (L .disks) e ≤ k) (i : ℕ) (within : i ≤ length (peel L k e)) where
+    -- Plan's order goes on as long as there is a next repair,
+    peel-more : nextDisk L (atTurn e (peel L k e) i) < L .disks → i < length (peel L k e)
+    peel-more l = ⊎-elim (λ q. absurd (ended q)) (λ h. h) (eq-or-lt-of-le within)
+      where
+        ended : i ≡ length (peel L k e) → ⊥
+        ended q =
+            stuck-none L (after e (peel L k e)) (peel-ends L k e enough)
+            (subst (λ (w : List Entry). nextDisk L (after e w) < L .disks)
+            (ap (λ (j : ℕ). take j (peel L k e)) q ∙ take-length (peel L k e)) l)
+
+    pub peel-goes : nextDisk L (atTurn e (peel L k e) i) < L .disks
+        → (i < length (peel L k e))
+        × (take (i + 1) (peel L k e)
+        ≡ take i (peel L k e) ++ (repairOf L (atTurn e (peel L k e) i) (nextDisk L (atTurn e (peel L k e) i)) ∷ []))
+    peel-goes l =
+        let h : i < length (peel L k e) = peel-more l in (
+          h,
+          ap (λ (j : ℕ). take j (peel L k e)) (add-one i) ∙ take-suc (peel L k e) i (record { disk = 0; stripe = 0 }) h
+              ∙ ap (λ (r : Entry). take i (peel L k e) ++ (r ∷ [])) (peel-turn k e i h .1),
+        )
+
+    -- and ends where there is none.
+    pub peel-stops : ¬ (nextDisk L (atTurn e (peel L k e) i) < L .disks) → i ≡ length (peel L k e)
+    peel-stops n = ⊎-elim (λ q. q) (λ h. absurd (n (peel-turn k e i h .0))) (eq-or-lt-of-le within)
+
+  -- A list of repairs names each disk that it takes away once, and no other.
+  pub named-count : (e : ℕ → Bool) (w : List Entry) → Peels L e w
+      → (d : ℕ) → count (length w) (λ i. eqb (diskOf w i) d) + bit (after e w d) ≡ bit (e d)
+  unfolding after diskOf count
+  named-count e [] p d = zero-add (bit (e d))
+  named-count e (r ∷ rs) p d =
+      let front : count (suc (length rs)) (λ i. eqb (diskOf (r ∷ rs) i) d) ≡ bit (eqb (r .disk) d) + count (length rs) (λ i. eqb (diskOf rs i) d) =
+      count-first (length rs) (λ i. eqb (diskOf (r ∷ rs) i) d) in
+      let up = named-count (without e (r .disk)) rs (p .1) d in
+      let here = without-bit e (r .disk) d (allowed-is L e (r .disk) (r .stripe) (p .0) .erased) in
+      omega arith
+
+  -- The repairs of a loss that is not fatal are in plan's order.
+  pub in-order : TwoStripes L → (e : ℕ → Bool) → fatal L e ≡ false → InOrder L e (repairs L e)
+  unfolding repairs repairOf diskOf stripeOf residual bit
+  in-order two e h =
+      record {
+        allowedThen = peels-at e (repairs L e) (repairs-peels L e);
+        lowestThen = λ i l d s a.
+            let f : ℕ → Bool = atTurn e (repairs L e) i in
+            let turn : getD (repairs L e) i (record { disk = 0; stripe = 0 }) ≡ repairOf L f (nextDisk L f) = peel-turn (L .disks) e i l .1 in
+            let disk : diskOf (repairs L e) i ≡ nextDisk L f = ap (λ (r : Entry). r .disk) turn in (
+              subst (λ (n : ℕ). n ≤ d) (sym disk) (next-lowest L f d s a),
+              λ q.
+                  subst (λ (r : Entry). r .stripe ≤ s) (ap (repairOf L f) (q ∙ disk) ∙ sym turn) (next-stripe L f two d s a),
+            );
+        named = λ d l.
+            let all = named-count e (repairs L e) (repairs-peels L e) d in
+            let none : bit (after e (repairs L e) d) ≡ 0 = ap bit (not-fatal L e .0 h d l) in
+            omega arith;
+      }
