@@ -13,12 +13,12 @@ use borrow.Author.Tests.{eq-eqb, ne-eqb, eqb-true, eqb-false, ltb-true, ltb-fals
 use lib.Dec.{eqb, ltb}
 use lib.ListN.{length, take, getD}
 use lib.Seq.{take-length, take-suc}
-use Rattle.model.specs.Fold.{every, bit, count}
+use Rattle.model.specs.Fold.{bit, count}
 use Rattle.model.specs.Stripes.{Layout, TwoStripes, among, on}
 use Rattle.model.specs.Repair.{without, Entry, alone, allowed, firstAllowed, someAllowed, Peels, Stuck, nextDisk, repairOf, peel, repairs, after, residual, lost, fatal}
 use Rattle.model.specs.Cycle.{diskOf, stripeOf}
 use Rattle.model.specs.Demand3.{InOrder}
-use Rattle.model.proofs.Fold.{and-left, and-right, and-both, or-left, or-right, same-test, by-cases, lt-or-le, every-at, every-all, every-fails, count-le, count-none, count-zero-none, count-some, count-found, count-first, count-without, lowest-is}
+use Rattle.model.proofs.Fold.{and-left, and-right, and-both, or-left, or-right, same-test, by-cases, lt-or-le, every-at, every-all, every-fails, count-ext, count-le, count-none, count-zero-none, count-some, count-found, count-first, count-without, lowest-is, lowest-ext}
 
 -- ---- erased disks
 
@@ -43,7 +43,7 @@ unfolding without
 without-apart e d i h = eqb-false i d (not-true (eqb i d) (and-right (e i) (not (eqb i d)) h))
 
 -- An erased disk that is taken away, and the others.
-without-bit : (e : ℕ → Bool) (d i : ℕ) → e d ≡ true → bit (eqb d i) + bit (without e d i) ≡ bit (e i)
+pub without-bit : (e : ℕ → Bool) (d i : ℕ) → e d ≡ true → bit (eqb d i) + bit (without e d i) ≡ bit (e i)
 unfolding bit
 without-bit e d i h = go (eqb d i) refl
   where
@@ -103,6 +103,7 @@ stuck-other L c stuck d s l h k =
     let both : (c i && on L i s) ≡ true = not-false (c i && on L i s) (or-right (eqb i d) (not (c i && on L i s)) fails) in
     (i, w, eqb-false i d (or-left (eqb i d) (not (c i && on L i s)) fails), and-left (c i) (on L i s) both, and-right (c i) (on L i s) both)
 
+-- And where that is so, no repair is allowed.
 pub other-stuck : (L : Layout) (c : ℕ → Bool)
     → ((d s : ℕ) → d < L .disks → c d ≡ true → on L d s ≡ true
     → (i : ℕ) × (i < L .disks) × (i ≡ d → ⊥) × (c i ≡ true) × (on L i s ≡ true))
@@ -209,6 +210,7 @@ module _ (L : Layout) (e : ℕ → Bool) where
           none-allowed d (L .through d) (lowest-is (L .disks) (λ d. someAllowed L e d (L .through d)) .none d l) s
           (allowed-is L e d s h .here)
 
+  -- Where there is no next repair, none is allowed, and the other way round.
   pub next-none : ¬ (nextDisk L e < L .disks) → Stuck L e
   next-none n d s =
       by-cases (λ (b : Bool). b ≡ false) (allowed L e d s)
@@ -230,14 +232,17 @@ module _ (L : Layout) (e : ℕ → Bool) where
       at : (t : ℕ) → eqb s t ≡ true → allowed L e d t ≡ false → ⊥
       at t q n = true≢false (sym h ∙ ap (allowed L e d) (eqb-true s t q) ∙ n)
 
+      neither : eqb s low ≡ false → eqb s high ≡ false → ⊥
+      neither v w = false≢true (ap₂ (λ (a b : Bool). a || (b || false)) (sym v) (sym w) ∙ k)
+
       go : (x : Bool) → allowed L e d low ≡ x → (y : Bool) → allowed L e d high ≡ y
           → (i : Bool) → eqb s low ≡ i → (j : Bool) → eqb s high ≡ j → cond x low (cond y high 0) ≤ s
       go true p y q true v j w = let same = eqb-true s low v in omega arith
       go true p y q false v true w = let same = eqb-true s high w in omega arith
-      go true p y q false v false w = absurd (false≢true (ap₂ (λ (a b : Bool). a || (b || false)) (sym v) (sym w) ∙ k))
+      go true p y q false v false w = absurd (neither v w)
       go false p true q true v j w = absurd (at low v p)
       go false p true q false v true w = let same = eqb-true s high w in omega arith
-      go false p true q false v false w = absurd (false≢true (ap₂ (λ (a b : Bool). a || (b || false)) (sym v) (sym w) ∙ k))
+      go false p true q false v false w = absurd (neither v w)
       go false p false q i v j w = zero-le
 
   pub next-stripe : TwoStripes L → (d s : ℕ) → allowed L e d s ≡ true → repairOf L e d .stripe ≤ s
@@ -287,6 +292,7 @@ module _ (L : Layout) where
   none-stuck e z =
       other-stuck L e (λ d s l h k. absurd (true≢false (sym h ∙ count-zero-none (L .disks) e z d l)))
 
+  -- With as many steps as there are erased disks, no repair is left.
   pub peel-ends : (k : ℕ) (e : ℕ → Bool) → count (L .disks) e ≤ k → Stuck L (after e (peel L k e))
   unfolding after repairOf without
   peel-ends =
@@ -440,8 +446,7 @@ module _ (L : Layout) where
   unfolding after diskOf count
   named-count e [] p d = zero-add (bit (e d))
   named-count e (r ∷ rs) p d =
-      let front : count (suc (length rs)) (λ i. eqb (diskOf (r ∷ rs) i) d) ≡ bit (eqb (r .disk) d) + count (length rs) (λ i. eqb (diskOf rs i) d) =
-      count-first (length rs) (λ i. eqb (diskOf (r ∷ rs) i) d) in
+      let front = count-first (length rs) (λ i. eqb (diskOf (r ∷ rs) i) d) in
       let up = named-count (without e (r .disk)) rs (p .1) d in
       let here = without-bit e (r .disk) d (allowed-is L e (r .disk) (r .stripe) (p .0) .erased) in
       omega arith
@@ -465,3 +470,88 @@ module _ (L : Layout) where
             let none : bit (after e (repairs L e) d) ≡ 0 = ap bit (not-fatal L e .0 h d l) in
             omega arith;
       }
+
+-- ---- erasures that agree on the disks
+
+-- Only the disks count.
+abbrev pub Same : Layout → (e f : ℕ → Bool) → Type 0
+Same L e f = (d : ℕ) → d < L .disks → e d ≡ f d
+
+module _ (L : Layout) where
+  pub without-ext : (e f : ℕ → Bool) → Same L e f → (d : ℕ) → Same L (without e d) (without f d)
+  unfolding without
+  without-ext e f same d i l = ap (λ (b : Bool). b && not (eqb i d)) (same i l)
+
+  pub after-ext : (e f : ℕ → Bool) → Same L e f → (w : List Entry) → Same L (after e w) (after f w)
+  unfolding after
+  after-ext e f same [] = same
+  after-ext e f same (r ∷ rs) =
+      after-ext (without e (r .disk)) (without f (r .disk)) (without-ext e f same (r .disk)) rs
+
+  pub allowed-ext : (e f : ℕ → Bool) → Same L e f → (d s : ℕ) → allowed L e d s ≡ allowed L f d s
+  allowed-ext e f same d s = same-test (allowed L e d s) (allowed L f d s) (kept e f same) (kept f e (λ i l. sym (same i l)))
+    where
+      kept : (e f : ℕ → Bool) → Same L e f → allowed L e d s ≡ true → allowed L f d s ≡ true
+      kept e f same h =
+          let a : Allowed L e d s = allowed-is L e d s h in
+          is-allowed L f d s
+          (record {
+            disk = a .disk;
+            erased = sym (same d (a .disk)) ∙ a .erased;
+            here = a .here;
+            only = λ i l q k. a .only i l q (same i l ∙ k);
+          })
+
+  stripes-ext : (e f : ℕ → Bool) → Same L e f → (d : ℕ) (ss : List ℕ)
+      → (someAllowed L e d ss ≡ someAllowed L f d ss) × (firstAllowed L e d ss ≡ firstAllowed L f d ss)
+  unfolding someAllowed firstAllowed
+  stripes-ext e f same d [] = (refl, refl)
+  stripes-ext e f same d (s ∷ ss) =
+      let here : allowed L e d s ≡ allowed L f d s = allowed-ext e f same d s in
+      let up = stripes-ext e f same d ss in
+      (ap₂ (λ (x y : Bool). x || y) here (up .0), ap₂ (λ (b : Bool) (t : ℕ). cond b s t) here (up .1))
+
+  pub next-ext : (e f : ℕ → Bool) → Same L e f → nextDisk L e ≡ nextDisk L f
+  unfolding nextDisk
+  next-ext e f same = lowest-ext (L .disks) (λ d l. stripes-ext e f same d (L .through d) .0)
+
+  pub repairOf-ext : (e f : ℕ → Bool) → Same L e f → (d : ℕ) → repairOf L e d ≡ repairOf L f d
+  unfolding repairOf
+  repairOf-ext e f same d = λ i. record { disk = d; stripe = stripes-ext e f same d (L .through d) .1 i }
+
+  pub peel-ext : (k : ℕ) (e f : ℕ → Bool) → Same L e f → peel L k e ≡ peel L k f
+  peel-ext k e = by-peel L (λ k e w. (f : ℕ → Bool) → Same L e f → w ≡ peel L k f) start stop step k e
+    where
+      start : (e f : ℕ → Bool) → Same L e f → [] ≡ peel L 0 f
+      start e f same = unfold peel in refl
+
+      stop : (k : ℕ) (e : ℕ → Bool) → ¬ (nextDisk L e < L .disks) → (f : ℕ → Bool) → Same L e f → [] ≡ peel L (suc k) f
+      stop k e n f same = sym (peel-none L (suc k) f (subst (λ (d : ℕ). ¬ (d < L .disks)) (next-ext e f same) n))
+
+      step : (k : ℕ) (e : ℕ → Bool) (w : List Entry) → nextDisk L e < L .disks
+          → ((f : ℕ → Bool) → Same L (without e (nextDisk L e)) f → w ≡ peel L k f)
+          → (f : ℕ → Bool) → Same L e f → repairOf L e (nextDisk L e) ∷ w ≡ peel L (suc k) f
+      step k e w l up f same =
+          let next : nextDisk L e ≡ nextDisk L f = next-ext e f same in
+          let rest : w ≡ peel L k (without f (nextDisk L e)) =
+          up (without f (nextDisk L e)) (without-ext e f same (nextDisk L e)) in
+          ap₂ (λ (r : Entry) (v : List Entry). r ∷ v) (repairOf-ext e f same (nextDisk L e)) rest
+          ∙ ap (λ (d : ℕ). repairOf L f d ∷ peel L k (without f d)) next
+          ∙ sym (peel-next L k f (subst (λ (d : ℕ). d < L .disks) next l))
+
+  pub repairs-ext : (e f : ℕ → Bool) → Same L e f → repairs L e ≡ repairs L f
+  unfolding repairs
+  repairs-ext e f same = peel-ext (L .disks) e f same
+
+  pub residual-ext : (e f : ℕ → Bool) → Same L e f → Same L (residual L e) (residual L f)
+  unfolding residual
+  residual-ext e f same d l =
+      after-ext e f same (repairs L e) d l ∙ ap (λ (w : List Entry). after f w d) (repairs-ext e f same)
+
+  pub lost-ext : (e f : ℕ → Bool) → Same L e f → lost L e ≡ lost L f
+  unfolding lost
+  lost-ext e f same = count-ext (L .disks) (residual-ext e f same)
+
+  pub fatal-ext : (e f : ℕ → Bool) → Same L e f → fatal L e ≡ fatal L f
+  unfolding fatal
+  fatal-ext e f same = ap (λ (n : ℕ). ltb 0 n) (lost-ext e f same)
