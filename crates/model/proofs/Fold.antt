@@ -5,7 +5,7 @@ use mathlib.Core.Bool.{Bool, true, false, cond, not, _&&_, _||_, and-assoc, and-
 use mathlib.Core.Logic.{_⊎_, inl, inr, ⊎-elim}
 use mathlib.Core.List.{List}
 use Prim.Native.Nat.{ℕ, zero, suc, _+_, _*_, _≤_, _<_, zero-le, suc-le-suc}
-use native.Mathlib.Nat.{add-zero, add-suc, zero-mul, suc-mul, eq-or-lt-of-le, le-of-suc-le-suc, lt-suc-self, le-step, not-suc-le-zero, lt-of-lt-of-le, zero-lt-suc, pos-of-ne-zero}
+use native.Mathlib.Nat.{add-zero, add-comm, add-suc, zero-mul, suc-mul, eq-or-lt-of-le, le-of-suc-le-suc, lt-suc-self, le-step, not-suc-le-zero, lt-of-lt-of-le, zero-lt-suc, pos-of-ne-zero}
 use native.Mathlib.Numerals.{add-one}
 use native.Mathlib.Omega.{arith}
 use borrow.Author.Tests.{ltb-true, ltb-false, eq-eqb, ne-eqb}
@@ -225,6 +225,12 @@ count-add m (suc n) t =
     let step : count (m + suc n) t ≡ count (m + n) t + bit (t (m + n)) = ap (λ (k : ℕ). count k t) (add-suc m n) in
     let up = count-add m n t in
     omega arith
+
+-- A count from its first number on.
+pub count-first : (n : ℕ) (t : ℕ → Bool) → count (suc n) t ≡ bit (t 0) + count n (λ i. t (suc i))
+unfolding count
+count-first zero t = add-comm 0 (bit (t 0))
+count-first (suc n) t = let up = count-first n t in omega arith
 
 -- One number taken out of those that are counted.
 pub count-without : (n : ℕ) (t : ℕ → Bool) (i : ℕ) → i < n → t i ≡ true → count n (λ j. t j && not (eqb j i)) + 1 ≡ count n t

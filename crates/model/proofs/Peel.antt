@@ -5,17 +5,20 @@ use mathlib.Core.Bool.{Bool, true, false, cond, not, _&&_, _||_, and-true, and-f
 use mathlib.Core.Logic.{⊎-elim, _↔_}
 use mathlib.Core.List.{List, [], _∷_, _++_}
 use Prim.Native.Nat.{ℕ, zero, suc, _+_, _≤_, _<_, zero-le, suc-le-suc}
-use native.Mathlib.Nat.{zero-add, zero-lt-suc, lt-of-le-of-lt}
+use native.Mathlib.Nat.{zero-add, le-of-suc-le-suc, eq-or-lt-of-le, not-suc-le-zero, zero-lt-suc, lt-of-le-of-lt}
 use native.Mathlib.Decide.{decLt}
+use native.Mathlib.Numerals.{add-one}
 use native.Mathlib.Omega.{arith}
 use borrow.Author.Tests.{eq-eqb, ne-eqb, eqb-true, eqb-false, ltb-true, ltb-false, lt-ltb, le-ltb, not-true, not-false}
 use lib.Dec.{eqb, ltb}
-use lib.ListN.{length}
-use Rattle.model.specs.Fold.{every, count}
+use lib.ListN.{length, take, getD}
+use lib.Seq.{take-length, take-suc}
+use Rattle.model.specs.Fold.{bit, count}
 use Rattle.model.specs.Stripes.{Layout, TwoStripes, among, on}
 use Rattle.model.specs.Repair.{without, Entry, alone, allowed, firstAllowed, someAllowed, Peels, Stuck, nextDisk, repairOf, peel, repairs, after, residual, lost, fatal}
-use Rattle.model.specs.Cycle.{diskOf}
-use Rattle.model.proofs.Fold.{and-left, and-right, and-both, or-left, or-right, same-test, by-cases, lt-or-le, every-at, every-all, every-fails, count-le, count-none, count-zero-none, count-some, count-found, count-without, lowest-is}
+use Rattle.model.specs.Cycle.{diskOf, stripeOf}
+use Rattle.model.specs.Demand3.{InOrder}
+use Rattle.model.proofs.Fold.{and-left, and-right, and-both, or-left, or-right, same-test, by-cases, lt-or-le, every-at, every-all, every-fails, count-ext, count-le, count-none, count-zero-none, count-some, count-found, count-first, count-without, lowest-is, lowest-ext}
 
 -- ---- erased disks
 
@@ -38,6 +41,18 @@ without-sub e d i h = and-left (e i) (not (eqb i d)) h
 pub without-apart : (e : ℕ → Bool) (d i : ℕ) → without e d i ≡ true → i ≡ d → ⊥
 unfolding without
 without-apart e d i h = eqb-false i d (not-true (eqb i d) (and-right (e i) (not (eqb i d)) h))
+
+-- An erased disk that is taken away, and the others.
+pub without-bit : (e : ℕ → Bool) (d i : ℕ) → e d ≡ true → bit (eqb d i) + bit (without e d i) ≡ bit (e i)
+unfolding bit
+without-bit e d i h = go (eqb d i) refl
+  where
+    go : (b : Bool) → eqb d i ≡ b → bit b + bit (without e d i) ≡ bit (e i)
+    go true q =
+        let gone : bit (without e d i) ≡ 0 = ap bit (ap (without e d) (sym (eqb-true d i q)) ∙ without-at e d) in
+        let here : bit (e i) ≡ 1 = ap bit (ap e (sym (eqb-true d i q)) ∙ h) in
+        omega arith
+    go false q = let same = ap bit (without-other e d i (λ k. eqb-false d i q (sym k))) in omega arith
 
 -- ---- repairs that are allowed
 
@@ -88,6 +103,7 @@ stuck-other L c stuck d s l h k =
     let both : (c i && on L i s) ≡ true = not-false (c i && on L i s) (or-right (eqb i d) (not (c i && on L i s)) fails) in
     (i, w, eqb-false i d (or-left (eqb i d) (not (c i && on L i s)) fails), and-left (c i) (on L i s) both, and-right (c i) (on L i s) both)
 
+-- And where that is so, no repair is allowed.
 pub other-stuck : (L : Layout) (c : ℕ → Bool)
     → ((d s : ℕ) → d < L .disks → c d ≡ true → on L d s ≡ true
     → (i : ℕ) × (i < L .disks) × (i ≡ d → ⊥) × (c i ≡ true) × (on L i s ≡ true))
@@ -194,6 +210,7 @@ module _ (L : Layout) (e : ℕ → Bool) where
           none-allowed d (L .through d) (lowest-is (L .disks) (λ d. someAllowed L e d (L .through d)) .none d l) s
           (allowed-is L e d s h .here)
 
+  -- Where there is no next repair, none is allowed, and the other way round.
   pub next-none : ¬ (nextDisk L e < L .disks) → Stuck L e
   next-none n d s =
       by-cases (λ (b : Bool). b ≡ false) (allowed L e d s)
@@ -215,14 +232,17 @@ module _ (L : Layout) (e : ℕ → Bool) where
       at : (t : ℕ) → eqb s t ≡ true → allowed L e d t ≡ false → ⊥
       at t q n = true≢false (sym h ∙ ap (allowed L e d) (eqb-true s t q) ∙ n)
 
+      neither : eqb s low ≡ false → eqb s high ≡ false → ⊥
+      neither v w = false≢true (ap₂ (λ (a b : Bool). a || (b || false)) (sym v) (sym w) ∙ k)
+
       go : (x : Bool) → allowed L e d low ≡ x → (y : Bool) → allowed L e d high ≡ y
           → (i : Bool) → eqb s low ≡ i → (j : Bool) → eqb s high ≡ j → cond x low (cond y high 0) ≤ s
       go true p y q true v j w = let same = eqb-true s low v in omega arith
       go true p y q false v true w = let same = eqb-true s high w in omega arith
-      go true p y q false v false w = absurd (false≢true (ap₂ (λ (a b : Bool). a || (b || false)) (sym v) (sym w) ∙ k))
+      go true p y q false v false w = absurd (neither v w)
       go false p true q true v j w = absurd (at low v p)
       go false p true q false v true w = let same = eqb-true s high w in omega arith
-      go false p true q false v false w = absurd (false≢true (ap₂ (λ (a b : Bool). a || (b || false)) (sym v) (sym w) ∙ k))
+      go false p true q false v false w = absurd (neither v w)
       go false p false q i v j w = zero-le
 
   pub next-stripe : TwoStripes L → (d s : ℕ) → allowed L e d s ≡ true → repairOf L e d .stripe ≤ s
@@ -272,6 +292,7 @@ module _ (L : Layout) where
   none-stuck e z =
       other-stuck L e (λ d s l h k. absurd (true≢false (sym h ∙ count-zero-none (L .disks) e z d l)))
 
+  -- With as many steps as there are erased disks, no repair is left.
   pub peel-ends : (k : ℕ) (e : ℕ → Bool) → count (L .disks) e ≤ k → Stuck L (after e (peel L k e))
   unfolding after repairOf without
   peel-ends =
@@ -362,3 +383,175 @@ module _ (L : Layout) where
 
   pub repairs-count : (e : ℕ → Bool) → fatal L e ≡ false → length (repairs L e) ≡ count (L .disks) e
   repairs-count e h = let z = none-lost e h in let all = repairs-lost e in omega arith
+
+-- ---- turn by turn
+
+-- The disks that are still erased when repair number i has its turn.
+abbrev pub atTurn : (ℕ → Bool) → List Entry → ℕ → ℕ → Bool
+atTurn e w i = after e (take i w)
+
+module _ (L : Layout) where
+  pub peels-at : (e : ℕ → Bool) (w : List Entry) → Peels L e w
+      → (i : ℕ) → i < length w → allowed L (atTurn e w i) (diskOf w i) (stripeOf w i) ≡ true
+  unfolding after diskOf stripeOf
+  peels-at e [] p i l = absurd (not-suc-le-zero l)
+  peels-at e (r ∷ rs) p zero l = p .0
+  peels-at e (r ∷ rs) p (suc i) l = peels-at (without e (r .disk)) rs (p .1) i (le-of-suc-le-suc l)
+
+  -- Each repair of plan's order is the next one at its turn.
+  pub peel-turn : (k : ℕ) (e : ℕ → Bool) (i : ℕ) → i < length (peel L k e)
+      → (nextDisk L (atTurn e (peel L k e) i) < L .disks)
+      × (getD (peel L k e) i (record { disk = 0; stripe = 0 })
+      ≡ repairOf L (atTurn e (peel L k e) i) (nextDisk L (atTurn e (peel L k e) i)))
+  unfolding after repairOf
+  peel-turn =
+      by-peel L Turn (λ e i l. absurd (not-suc-le-zero l)) (λ k e n i l. absurd (not-suc-le-zero l))
+      (λ k e w l up. elim [ zero ↦ (λ h. (l, refl)) | suc i ↦ (λ h. up i (le-of-suc-le-suc h)) ])
+    where
+      Turn : ℕ → (ℕ → Bool) → List Entry → Type 0
+      Turn k e w =
+          (i : ℕ) → i < length w
+          → (nextDisk L (atTurn e w i) < L .disks)
+          × (getD w i (record { disk = 0; stripe = 0 }) ≡ repairOf L (atTurn e w i) (nextDisk L (atTurn e w i)))
+
+  module _ (k : ℕ) (e : ℕ → Bool) (enough : count (L .disks) e ≤ k) (i : ℕ) (within : i ≤ length (peel L k e)) where
+    -- Plan's order goes on as long as there is a next repair,
+    peel-more : nextDisk L (atTurn e (peel L k e) i) < L .disks → i < length (peel L k e)
+    peel-more l = ⊎-elim (λ q. absurd (ended q)) (λ h. h) (eq-or-lt-of-le within)
+      where
+        ended : i ≡ length (peel L k e) → ⊥
+        ended q =
+            stuck-none L (after e (peel L k e)) (peel-ends L k e enough)
+            (subst (λ (w : List Entry). nextDisk L (after e w) < L .disks)
+            (ap (λ (j : ℕ). take j (peel L k e)) q ∙ take-length (peel L k e)) l)
+
+    pub peel-goes : nextDisk L (atTurn e (peel L k e) i) < L .disks
+        → (i < length (peel L k e))
+        × (take (i + 1) (peel L k e)
+        ≡ take i (peel L k e) ++ (repairOf L (atTurn e (peel L k e) i) (nextDisk L (atTurn e (peel L k e) i)) ∷ []))
+    peel-goes l =
+        let h : i < length (peel L k e) = peel-more l in (
+          h,
+          ap (λ (j : ℕ). take j (peel L k e)) (add-one i) ∙ take-suc (peel L k e) i (record { disk = 0; stripe = 0 }) h
+              ∙ ap (λ (r : Entry). take i (peel L k e) ++ (r ∷ [])) (peel-turn k e i h .1),
+        )
+
+    -- and ends where there is none.
+    pub peel-stops : ¬ (nextDisk L (atTurn e (peel L k e) i) < L .disks) → i ≡ length (peel L k e)
+    peel-stops n = ⊎-elim (λ q. q) (λ h. absurd (n (peel-turn k e i h .0))) (eq-or-lt-of-le within)
+
+  -- A list of repairs names each disk that it takes away once, and no other.
+  pub named-count : (e : ℕ → Bool) (w : List Entry) → Peels L e w
+      → (d : ℕ) → count (length w) (λ i. eqb (diskOf w i) d) + bit (after e w d) ≡ bit (e d)
+  unfolding after diskOf count
+  named-count e [] p d = zero-add (bit (e d))
+  named-count e (r ∷ rs) p d =
+      let front = count-first (length rs) (λ i. eqb (diskOf (r ∷ rs) i) d) in
+      let up = named-count (without e (r .disk)) rs (p .1) d in
+      let here = without-bit e (r .disk) d (allowed-is L e (r .disk) (r .stripe) (p .0) .erased) in
+      omega arith
+
+  -- The repairs of a loss that is not fatal are in plan's order.
+  pub in-order : TwoStripes L → (e : ℕ → Bool) → fatal L e ≡ false → InOrder L e (repairs L e)
+  unfolding repairs repairOf diskOf stripeOf residual bit
+  in-order two e h =
+      record {
+        allowedThen = peels-at e (repairs L e) (repairs-peels L e);
+        lowestThen = λ i l d s a.
+            let f : ℕ → Bool = atTurn e (repairs L e) i in
+            let turn : getD (repairs L e) i (record { disk = 0; stripe = 0 }) ≡ repairOf L f (nextDisk L f) = peel-turn (L .disks) e i l .1 in
+            let disk : diskOf (repairs L e) i ≡ nextDisk L f = ap (λ (r : Entry). r .disk) turn in (
+              subst (λ (n : ℕ). n ≤ d) (sym disk) (next-lowest L f d s a),
+              λ q.
+                  subst (λ (r : Entry). r .stripe ≤ s) (ap (repairOf L f) (q ∙ disk) ∙ sym turn) (next-stripe L f two d s a),
+            );
+        named = λ d l.
+            let all = named-count e (repairs L e) (repairs-peels L e) d in
+            let none : bit (after e (repairs L e) d) ≡ 0 = ap bit (not-fatal L e .0 h d l) in
+            omega arith;
+      }
+
+-- ---- erasures that agree on the disks
+
+-- Only the disks count.
+abbrev pub Same : Layout → (e f : ℕ → Bool) → Type 0
+Same L e f = (d : ℕ) → d < L .disks → e d ≡ f d
+
+module _ (L : Layout) where
+  pub without-ext : (e f : ℕ → Bool) → Same L e f → (d : ℕ) → Same L (without e d) (without f d)
+  unfolding without
+  without-ext e f same d i l = ap (λ (b : Bool). b && not (eqb i d)) (same i l)
+
+  pub after-ext : (e f : ℕ → Bool) → Same L e f → (w : List Entry) → Same L (after e w) (after f w)
+  unfolding after
+  after-ext e f same [] = same
+  after-ext e f same (r ∷ rs) =
+      after-ext (without e (r .disk)) (without f (r .disk)) (without-ext e f same (r .disk)) rs
+
+  pub allowed-ext : (e f : ℕ → Bool) → Same L e f → (d s : ℕ) → allowed L e d s ≡ allowed L f d s
+  allowed-ext e f same d s = same-test (allowed L e d s) (allowed L f d s) (kept e f same) (kept f e (λ i l. sym (same i l)))
+    where
+      kept : (e f : ℕ → Bool) → Same L e f → allowed L e d s ≡ true → allowed L f d s ≡ true
+      kept e f same h =
+          let a : Allowed L e d s = allowed-is L e d s h in
+          is-allowed L f d s
+          (record {
+            disk = a .disk;
+            erased = sym (same d (a .disk)) ∙ a .erased;
+            here = a .here;
+            only = λ i l q k. a .only i l q (same i l ∙ k);
+          })
+
+  stripes-ext : (e f : ℕ → Bool) → Same L e f → (d : ℕ) (ss : List ℕ)
+      → (someAllowed L e d ss ≡ someAllowed L f d ss) × (firstAllowed L e d ss ≡ firstAllowed L f d ss)
+  unfolding someAllowed firstAllowed
+  stripes-ext e f same d [] = (refl, refl)
+  stripes-ext e f same d (s ∷ ss) =
+      let here : allowed L e d s ≡ allowed L f d s = allowed-ext e f same d s in
+      let up = stripes-ext e f same d ss in
+      (ap₂ (λ (x y : Bool). x || y) here (up .0), ap₂ (λ (b : Bool) (t : ℕ). cond b s t) here (up .1))
+
+  pub next-ext : (e f : ℕ → Bool) → Same L e f → nextDisk L e ≡ nextDisk L f
+  unfolding nextDisk
+  next-ext e f same = lowest-ext (L .disks) (λ d l. stripes-ext e f same d (L .through d) .0)
+
+  pub repairOf-ext : (e f : ℕ → Bool) → Same L e f → (d : ℕ) → repairOf L e d ≡ repairOf L f d
+  unfolding repairOf
+  repairOf-ext e f same d = λ i. record { disk = d; stripe = stripes-ext e f same d (L .through d) .1 i }
+
+  pub peel-ext : (k : ℕ) (e f : ℕ → Bool) → Same L e f → peel L k e ≡ peel L k f
+  peel-ext k e = by-peel L (λ k e w. (f : ℕ → Bool) → Same L e f → w ≡ peel L k f) start stop step k e
+    where
+      start : (e f : ℕ → Bool) → Same L e f → [] ≡ peel L 0 f
+      start e f same = unfold peel in refl
+
+      stop : (k : ℕ) (e : ℕ → Bool) → ¬ (nextDisk L e < L .disks) → (f : ℕ → Bool) → Same L e f → [] ≡ peel L (suc k) f
+      stop k e n f same = sym (peel-none L (suc k) f (subst (λ (d : ℕ). ¬ (d < L .disks)) (next-ext e f same) n))
+
+      step : (k : ℕ) (e : ℕ → Bool) (w : List Entry) → nextDisk L e < L .disks
+          → ((f : ℕ → Bool) → Same L (without e (nextDisk L e)) f → w ≡ peel L k f)
+          → (f : ℕ → Bool) → Same L e f → repairOf L e (nextDisk L e) ∷ w ≡ peel L (suc k) f
+      step k e w l up f same =
+          let next : nextDisk L e ≡ nextDisk L f = next-ext e f same in
+          let rest : w ≡ peel L k (without f (nextDisk L e)) =
+          up (without f (nextDisk L e)) (without-ext e f same (nextDisk L e)) in
+          ap₂ (λ (r : Entry) (v : List Entry). r ∷ v) (repairOf-ext e f same (nextDisk L e)) rest
+          ∙ ap (λ (d : ℕ). repairOf L f d ∷ peel L k (without f d)) next
+          ∙ sym (peel-next L k f (subst (λ (d : ℕ). d < L .disks) next l))
+
+  pub repairs-ext : (e f : ℕ → Bool) → Same L e f → repairs L e ≡ repairs L f
+  unfolding repairs
+  repairs-ext e f same = peel-ext (L .disks) e f same
+
+  pub residual-ext : (e f : ℕ → Bool) → Same L e f → Same L (residual L e) (residual L f)
+  unfolding residual
+  residual-ext e f same d l =
+      after-ext e f same (repairs L e) d l ∙ ap (λ (w : List Entry). after f w d) (repairs-ext e f same)
+
+  pub lost-ext : (e f : ℕ → Bool) → Same L e f → lost L e ≡ lost L f
+  unfolding lost
+  lost-ext e f same = count-ext (L .disks) (residual-ext e f same)
+
+  pub fatal-ext : (e f : ℕ → Bool) → Same L e f → fatal L e ≡ fatal L f
+  unfolding fatal
+  fatal-ext e f same = ap (λ (n : ℕ). ltb 0 n) (lost-ext e f same)
