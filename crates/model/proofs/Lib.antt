@@ -6,6 +6,7 @@ pub mod Refusal
 pub mod Seal
 pub mod Check
 pub mod Write
+pub mod Restore
 pub mod Accept
 pub mod Demand2
 pub mod Cases
