@@ -7,17 +7,20 @@ use mathlib.Core.List.{List, [], _∷_}
 use Prim.Native.Nat.{ℕ, _+_, _*_, _/_, _%_, _-_, _≤_, _<_}
 use native.Mathlib.Nat.{mul-zero, add-sub-of-le, add-sub-cancel-left, sub-lt-left-of-lt-add, div-add-mod', div-lt-iff-lt-mul, pos-of-ne-zero}
 use native.Mathlib.Omega.{arith}
-use borrow.Author.Tests.{le-leb, lt-ltb, leb-true, ltb-true}
+use borrow.Author.Tests.{eq-eqb, ne-eqb, eqb-true, eqb-false, le-leb, lt-ltb, leb-true, ltb-true}
 use lib.Arith.{digits-div, digits-mod, digits-lt}
-use lib.Dec.{leb, ltb}
+use lib.Dec.{eqb, leb, ltb}
 use lib.ListN.{length, getD, List·getD-eq-default}
 use lib.Seq.{ext-getD}
-use Rattle.model.specs.Stripes.{Stretch, whole, byte}
+use Rattle.model.specs.Fold.{_⊕_, gate}
+use Rattle.model.specs.Stripes.{Layout, on, Stretch, whole, byte, sumOver, stripeSum, Codeword}
 use Rattle.model.specs.Grid.{disks, arrayBytes, arrayOf}
-use Rattle.model.specs.Repair.{changed}
+use Rattle.model.specs.Repair.{Entry, changed, sumOfOthers, repaired, rebuilt}
 use Rattle.model.specs.declared.Size.{Size}
-use Rattle.model.proofs.Fold.{and-left, and-right, and-both, by-cases, lt-or-le, length-tabulate, getD-tabulate}
-use Rattle.model.proofs.Grid.{byte-whole, array-is}
+use Rattle.model.proofs.Xor.{⊕-zero, zero-⊕, equal-of-zero}
+use Rattle.model.proofs.Fold.{and-left, and-right, by-cases, lt-or-le, xsum-ext, xsum-only, xsum-byte, length-tabulate, getD-tabulate}
+use Rattle.model.proofs.Grid.{byte-whole, small-byte, array-is}
+use Rattle.model.proofs.Write.{sumOver-ext, sumOver-⊕}
 
 -- All bytes of an array are below 256.
 abbrev pub Small : List ℕ → Type 0
@@ -110,3 +113,99 @@ unfolding whole arrayBytes
 changed-whole z B a f long =
     array-is z B f (changed (whole B) a f) (length-changed (whole B) a f ∙ long)
     (λ d p l h. sym (byte-whole B (changed (whole B) a f) d p) ∙ byte-changed (whole B) (whole-inside B) (disks z) a long f d p l h)
+
+-- ---- repairs
+
+gate-small : (b : Bool) {v : ℕ} → v < 256 → gate b v < 256
+unfolding gate
+gate-small true h = h
+gate-small false h = omega arith
+
+-- Repairs keep the array's length, and bytes below 256.
+module _ (L : Layout) (x : Stretch) where
+  pub length-repaired : (a : List ℕ) (r : Entry) → length (repaired L x a r) ≡ length a
+  unfolding repaired
+  length-repaired a r = length-changed x a _
+
+  pub length-rebuilt : (a : List ℕ) (w : List Entry) → length (rebuilt L x a w) ≡ length a
+  unfolding rebuilt
+  length-rebuilt a [] = refl
+  length-rebuilt a (r ∷ rs) = length-rebuilt (repaired L x a r) rs ∙ length-repaired a r
+
+  others-small : (a : List ℕ) → Small a → (r : Entry) (p : ℕ) → sumOfOthers L x a r p < 256
+  unfolding sumOfOthers sumOver
+  others-small a small r p = xsum-byte (L .disks) (λ d l. gate-small _ (gate-small _ (small-byte a small x d p)))
+
+  pub repaired-small : (a : List ℕ) (r : Entry) → Small a → Small (repaired L x a r)
+  unfolding repaired
+  repaired-small a r small =
+      changed-small x a _
+      (λ d p.
+      by-cases (λ (t : Bool). cond t (sumOfOthers L x a r p) (byte x a d p) < 256) (eqb d (r .disk)) (λ e. others-small a small r p) (λ e. small-byte a small x d p))
+      small
+
+  pub rebuilt-small : (a : List ℕ) (w : List Entry) → Small a → Small (rebuilt L x a w)
+  unfolding rebuilt
+  rebuilt-small a [] small = small
+  rebuilt-small a (r ∷ rs) small = rebuilt-small (repaired L x a r) rs (repaired-small a r small)
+
+-- A repair sets the block of its disk to the sum of the others, and leaves the other disks.
+module _ (L : Layout) (x : Stretch) (inside : x .offset + x .width ≤ x .block) (a : List ℕ) (sized : length a ≡ L .disks * x .block) (r : Entry) where
+  pub byte-repaired : (d p : ℕ) → d < L .disks → p < x .width
+      → byte x (repaired L x a r) d p ≡ cond (eqb d (r .disk)) (sumOfOthers L x a r p) (byte x a d p)
+  unfolding repaired
+  byte-repaired d p l h = byte-changed x inside (L .disks) a sized _ d p l h
+
+  pub repaired-disk : r .disk < L .disks → (p : ℕ) → p < x .width → byte x (repaired L x a r) (r .disk) p ≡ sumOfOthers L x a r p
+  repaired-disk l p h = byte-repaired (r .disk) p l h ∙ (rw (eq-eqb (r .disk) (r .disk) refl))
+
+  pub repaired-others : (d : ℕ) → d < L .disks → (d ≡ r .disk → ⊥) → (p : ℕ) → p < x .width
+      → byte x (repaired L x a r) d p ≡ byte x a d p
+  repaired-others d l other p h = byte-repaired d p l h ∙ (rw (ne-eqb d (r .disk) other))
+
+-- ---- the sum of the others
+
+gate-zero : (b : Bool) → gate b 0 ≡ 0
+unfolding gate
+gate-zero true = refl
+gate-zero false = refl
+
+gate-split : (b : Bool) (v : ℕ) → v ≡ gate (not b) v ⊕ gate b v
+unfolding gate
+gate-split true v = sym (zero-⊕ v)
+gate-split false v = sym (⊕-zero v)
+
+-- The sum over a stripe is that of the others and what the disk itself has.
+module _ (L : Layout) (f : ℕ → ℕ) (d s : ℕ) (below : d < L .disks) (there : on L d s ≡ true) where
+  own : sumOver L (λ i. gate (eqb i d) (f i)) s ≡ f d
+  unfolding sumOver gate
+  own =
+      xsum-only (L .disks) d below (λ i w q. ap (λ (b : Bool). gate (on L i s) (gate b (f i))) (ne-eqb i d q) ∙ gate-zero (on L i s))
+      ∙ ap₂ (λ (b c : Bool). gate b (gate c (f d))) there (eq-eqb d d refl)
+
+  others-and-own : sumOver L f s ≡ sumOver L (λ i. gate (not (eqb i d)) (f i)) s ⊕ f d
+  others-and-own =
+      sumOver-ext L (λ i l. gate-split (eqb i d) (f i)) s ∙ sumOver-⊕ L _ _ s
+      ∙ ap (λ (v : ℕ). sumOver L (λ i. gate (not (eqb i d)) (f i)) s ⊕ v) own
+
+-- In a codeword the sum of the others is the byte of the disk itself.
+others-of-codeword : (L : Layout) (x : Stretch) (b : List ℕ) → Codeword L x b → (r : Entry) → r .disk < L .disks
+    → on L (r .disk) (r .stripe) ≡ true → r .stripe < L .stripeBound → (p : ℕ) → p < x .width
+    → sumOfOthers L x b r p ≡ byte x b (r .disk) p
+unfolding sumOfOthers stripeSum
+others-of-codeword L x b word r below there bound p h =
+    equal-of-zero _ _
+    (sym (others-and-own L (λ i. byte x b i p) (r .disk) (r .stripe) below there) ∙ word .sums (r .stripe) bound p h)
+
+-- The sum of the others is the same where their bytes are.
+others-same : (L : Layout) (x : Stretch) (a b : List ℕ) (r : Entry) (p : ℕ)
+    → ((i : ℕ) → i < L .disks → on L i (r .stripe) ≡ true → (i ≡ r .disk → ⊥) → byte x a i p ≡ byte x b i p)
+    → sumOfOthers L x a r p ≡ sumOfOthers L x b r p
+unfolding sumOfOthers sumOver gate
+others-same L x a b r p same = xsum-ext (L .disks) (λ i l. go i l (on L i (r .stripe)) (eqb i (r .disk)) refl refl)
+  where
+    go : (i : ℕ) → i < L .disks → (u v : Bool) → on L i (r .stripe) ≡ u → eqb i (r .disk) ≡ v
+        → gate u (gate (not v) (byte x a i p)) ≡ gate u (gate (not v) (byte x b i p))
+    go i l true true o e = refl
+    go i l true false o e = same i l o (eqb-false i (r .disk) e)
+    go i l false v o e = refl
