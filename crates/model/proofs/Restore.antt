@@ -1,8 +1,8 @@
 -- What repairs do to an array: they restore the codeword that the survivors belong to, and tell whether there is one.
 -- Assumes nothing.
 use mathlib.Core.Path.{_≡_, refl, sym, _∙_, ap, ap₂, subst}
-use mathlib.Core.Bool.{Bool, true, false, cond, not, _&&_}
-use mathlib.Core.Logic.{⊎-elim}
+use mathlib.Core.Bool.{Bool, true, false, cond, not, _&&_, _||_, true≢false, false≢true}
+use mathlib.Core.Logic.{_↔_, ⊎-elim}
 use mathlib.Core.List.{List, [], _∷_}
 use Prim.Native.Nat.{ℕ, _+_, _*_, _/_, _%_, _-_, _≤_, _<_}
 use native.Mathlib.Nat.{mul-zero, add-sub-of-le, add-sub-cancel-left, sub-lt-left-of-lt-add, div-add-mod', div-lt-iff-lt-mul, pos-of-ne-zero}
@@ -13,14 +13,15 @@ use lib.Dec.{eqb, leb, ltb}
 use lib.ListN.{length, getD, List·getD-eq-default}
 use lib.Seq.{ext-getD}
 use Rattle.model.specs.Fold.{_⊕_, gate}
-use Rattle.model.specs.Stripes.{Layout, on, Stretch, whole, byte, sumOver, stripeSum, Codeword}
+use Rattle.model.specs.Stripes.{Layout, TwoStripes, among, on, Stretch, whole, byte, sumOver, stripeSum, Codeword}
 use Rattle.model.specs.Grid.{disks, arrayBytes, arrayOf}
-use Rattle.model.specs.Repair.{Entry, changed, sumOfOthers, repaired, rebuilt}
+use Rattle.model.specs.Repair.{without, Entry, allowed, Peels, after, changed, sumOfOthers, repaired, rebuilt, zeroed, Agree}
 use Rattle.model.specs.declared.Size.{Size}
 use Rattle.model.proofs.Xor.{⊕-zero, zero-⊕, equal-of-zero}
 use Rattle.model.proofs.Fold.{and-left, and-right, by-cases, lt-or-le, xsum-ext, xsum-only, xsum-byte, length-tabulate, getD-tabulate}
 use Rattle.model.proofs.Grid.{byte-whole, small-byte, array-is}
 use Rattle.model.proofs.Write.{sumOver-ext, sumOver-⊕}
+use Rattle.model.proofs.Peel.{without-other, Allowed, allowed-is}
 
 -- All bytes of an array are below 256.
 abbrev pub Small : List ℕ → Type 0
@@ -209,3 +210,77 @@ others-same L x a b r p same = xsum-ext (L .disks) (λ i l. go i l (on L i (r .s
     go i l true true o e = refl
     go i l true false o e = same i l o (eqb-false i (r .disk) e)
     go i l false v o e = refl
+
+-- ---- restoration
+
+-- The stripes of every disk lie below the bound on stripe numbers.
+abbrev pub Bounded : Layout → Type 0
+Bounded L = (d s : ℕ) → d < L .disks → on L d s ≡ true → s < L .stripeBound
+
+pub two-bounded : (L : Layout) → TwoStripes L → Bounded L
+unfolding on among
+two-bounded L two d s l h =
+    go (eqb s (two .low d)) (eqb s (two .high d)) refl refl (sym (ap (among s) (two .two d l)) ∙ h)
+  where
+    go : (u v : Bool) → eqb s (two .low d) ≡ u → eqb s (two .high d) ≡ v → (u || (v || false)) ≡ true → s < L .stripeBound
+    go true v p q e =
+        let low : s ≡ two .low d = eqb-true s (two .low d) p in
+        let order : two .low d < two .high d = two .order d l in
+        let bound : two .high d < L .stripeBound = two .bound d l in
+        omega arith
+    go false true p q e =
+        let high : s ≡ two .high d = eqb-true s (two .high d) q in
+        let bound : two .high d < L .stripeBound = two .bound d l in
+        omega arith
+    go false false p q e = absurd (false≢true e)
+
+-- A disk that is not erased is not erased either without another.
+without-none : (e : ℕ → Bool) (d i : ℕ) → e i ≡ false → without e d i ≡ false
+unfolding without
+without-none e d i h = ap (λ (b : Bool). b && not (eqb i d)) h
+
+module _ (L : Layout) (x : Stretch) (inside : x .offset + x .width ≤ x .block) where
+  -- Repairs leave the survivors.
+  repaired-keeps : (e : ℕ → Bool) (a : List ℕ) → length a ≡ L .disks * x .block → (r : Entry) → allowed L e (r .disk) (r .stripe) ≡ true
+      → Agree L x e a (repaired L x a r)
+  repaired-keeps e a sized r ok d l k p h =
+      let may : Allowed L e (r .disk) (r .stripe) = allowed-is L e (r .disk) (r .stripe) ok in
+      sym (repaired-others L x inside a sized r d l (λ q. true≢false (sym (may .erased) ∙ ap e (sym q) ∙ k)) p h)
+
+  pub rebuilt-keeps : (e : ℕ → Bool) (a : List ℕ) → length a ≡ L .disks * x .block → (w : List Entry) → Peels L e w
+      → Agree L x e a (rebuilt L x a w)
+  unfolding rebuilt
+  rebuilt-keeps e a sized [] peels d l k p h = refl
+  rebuilt-keeps e a sized (r ∷ rs) peels d l k p h =
+      repaired-keeps e a sized r (peels .0) d l k p h
+      ∙ rebuilt-keeps (without e (r .disk)) (repaired L x a r) (length-repaired L x a r ∙ sized) rs (peels .1) d l (without-none e (r .disk) d k) p h
+
+  -- Repairs on survivors of a codeword give that codeword's bytes.
+  module _ (bounded : Bounded L) (b : List ℕ) (word : Codeword L x b) where
+    pub restore-step : (e : ℕ → Bool) (a : List ℕ) → length a ≡ L .disks * x .block → (r : Entry)
+        → allowed L e (r .disk) (r .stripe) ≡ true → Agree L x e a b → Agree L x (without e (r .disk)) (repaired L x a r) b
+    restore-step e a sized r ok same d l k p h = go (eqb d (r .disk)) refl
+      where
+        may : Allowed L e (r .disk) (r .stripe)
+        may = allowed-is L e (r .disk) (r .stripe) ok
+
+        -- The other disks of the stripe survive.
+        survives : (i : ℕ) → i < L .disks → on L i (r .stripe) ≡ true → (i ≡ r .disk → ⊥) → e i ≡ false
+        survives i w o q = by-cases (λ (t : Bool). t ≡ false) (e i) (λ y. sym o ∙ may .only i w q y) (λ y. refl)
+
+        go : (t : Bool) → eqb d (r .disk) ≡ t → byte x (repaired L x a r) d p ≡ byte x b d p
+        go true q =
+            subst (λ (i : ℕ). byte x (repaired L x a r) i p ≡ byte x b i p) (sym (eqb-true d (r .disk) q))
+            (repaired-disk L x inside a sized r (may .disk) p h
+            ∙ others-same L x a b r p (λ i w o n. same i w (survives i w o n) p h)
+            ∙ others-of-codeword L x b word r (may .disk) (may .here) (bounded (r .disk) (r .stripe) (may .disk) (may .here)) p h)
+        go false q =
+            let other : d ≡ r .disk → ⊥ = eqb-false d (r .disk) q in
+            repaired-others L x inside a sized r d l other p h ∙ same d l (sym (without-other e (r .disk) d other) ∙ k) p h
+
+    pub restore : (e : ℕ → Bool) (a : List ℕ) → length a ≡ L .disks * x .block → (w : List Entry) → Peels L e w
+        → Agree L x e a b → Agree L x (after e w) (rebuilt L x a w) b
+    unfolding rebuilt after
+    restore e a sized [] peels same = same
+    restore e a sized (r ∷ rs) peels same =
+        restore (without e (r .disk)) (repaired L x a r) (length-repaired L x a r ∙ sized) rs (peels .1) (restore-step e a sized r (peels .0) same)
