@@ -284,3 +284,27 @@ module _ (L : Layout) (x : Stretch) (inside : x .offset + x .width ≤ x .block)
     restore e a sized [] peels same = same
     restore e a sized (r ∷ rs) peels same =
         restore (without e (r .disk)) (repaired L x a r) (length-repaired L x a r ∙ sized) rs (peels .1) (restore-step e a sized r (peels .0) same)
+
+-- ---- zeros on the erased disks
+
+module _ (L : Layout) (x : Stretch) where
+  -- Repairs leave what stands outside the stretch.
+  rebuilt-outside : (a : List ℕ) (w : List Entry) (i : ℕ) → within x i ≡ false → getD (rebuilt L x a w) i 0 ≡ getD a i 0
+  unfolding rebuilt repaired
+  rebuilt-outside a [] i k = refl
+  rebuilt-outside a (r ∷ rs) i k = rebuilt-outside (repaired L x a r) rs i k ∙ changed-outside x a _ i k
+
+  -- With zeros on the erased disks nothing is left of the repairs.
+  pub zeroed-rebuilt : x .offset + x .width ≤ x .block → (e : ℕ → Bool) (a : List ℕ) → length a ≡ L .disks * x .block
+      → (w : List Entry) → Peels L e w → zeroed x (rebuilt L x a w) e ≡ zeroed x a e
+  unfolding zeroed gate
+  zeroed-rebuilt inside e a sized w peels =
+      changed-is x inside (L .disks) a sized _ (zeroed x (rebuilt L x a w) e) (length-changed x (rebuilt L x a w) _ ∙ length-rebuilt L x a w)
+      (λ d p l h.
+      byte-changed x inside (L .disks) (rebuilt L x a w) (length-rebuilt L x a w ∙ sized) _ d p l h ∙ same d p l h (e d) refl)
+      (λ i k. changed-outside x (rebuilt L x a w) _ i k ∙ rebuilt-outside a w i k)
+    where
+      same : (d p : ℕ) → d < L .disks → p < x .width → (t : Bool) → e d ≡ t
+          → gate (not t) (byte x (rebuilt L x a w) d p) ≡ gate (not t) (byte x a d p)
+      same d p l h true k = refl
+      same d p l h false k = sym (rebuilt-keeps L x inside e a sized w peels d l k p h)
