@@ -1,19 +1,21 @@
 -- The laws of repairs and of plan's order over any stripe system.
 -- Assumes nothing.
-use mathlib.Core.Path.{_≡_, refl, sym, _∙_, ap, ap₂, subst}
-use mathlib.Core.Bool.{Bool, true, false, not, _&&_, _||_, and-true, and-false, true≢false, false≢true}
+use mathlib.Core.Path.{_≡_, refl, sym, _∙_, ap, ap₂, subst, fun-ext}
+use mathlib.Core.Bool.{Bool, true, false, cond, not, _&&_, _||_, and-true, and-false, true≢false, false≢true}
+use mathlib.Core.Logic.{⊎-elim, _↔_}
 use mathlib.Core.List.{List, [], _∷_, _++_}
-use Prim.Native.Nat.{ℕ, suc, _≤_, _<_, suc-le-suc}
-use native.Mathlib.Nat.{zero-lt-suc}
+use Prim.Native.Nat.{ℕ, zero, suc, _+_, _≤_, _<_, zero-le, suc-le-suc}
+use native.Mathlib.Nat.{zero-add, zero-lt-suc, lt-of-le-of-lt}
+use native.Mathlib.Decide.{decLt}
 use native.Mathlib.Omega.{arith}
-use borrow.Author.Tests.{eq-eqb, ne-eqb, eqb-true, eqb-false, ltb-true, lt-ltb, not-true, not-false}
+use borrow.Author.Tests.{eq-eqb, ne-eqb, eqb-true, eqb-false, ltb-true, ltb-false, lt-ltb, le-ltb, not-true, not-false}
 use lib.Dec.{eqb, ltb}
 use lib.ListN.{length}
-use Rattle.model.specs.Fold.{every}
-use Rattle.model.specs.Stripes.{Layout, on}
-use Rattle.model.specs.Repair.{without, Entry, alone, allowed, Peels, Stuck, after}
+use Rattle.model.specs.Fold.{every, count}
+use Rattle.model.specs.Stripes.{Layout, TwoStripes, among, on}
+use Rattle.model.specs.Repair.{without, Entry, alone, allowed, firstAllowed, someAllowed, Peels, Stuck, nextDisk, repairOf, peel, repairs, after, residual, lost, fatal}
 use Rattle.model.specs.Cycle.{diskOf}
-use Rattle.model.proofs.Fold.{and-left, and-right, and-both, or-left, or-right, by-cases, every-at, every-all, every-fails}
+use Rattle.model.proofs.Fold.{and-left, and-right, and-both, or-left, or-right, same-test, by-cases, lt-or-le, every-at, every-all, every-fails, count-le, count-none, count-zero-none, count-some, count-found, count-without, lowest-is}
 
 -- ---- erased disks
 
@@ -151,3 +153,212 @@ module _ (L : Layout) where
   stuck-stays c e sub stuck (r ∷ rs) p =
       stuck-stays c (without e (r .disk))
       (λ d l k. without-other e (r .disk) d (stuck-apart c e sub stuck r (p .0) d k) ∙ sub d l k) stuck rs (p .1)
+
+-- ---- the next repair
+module _ (L : Layout) (e : ℕ → Bool) where
+  some-allowed : (d : ℕ) (ss : List ℕ) → someAllowed L e d ss ≡ true → allowed L e d (firstAllowed L e d ss) ≡ true
+  unfolding someAllowed firstAllowed
+  some-allowed d [] h = absurd (false≢true h)
+  some-allowed d (s ∷ ss) h = go (allowed L e d s) refl (some-allowed d ss)
+    where
+      go : (b : Bool) → allowed L e d s ≡ b → (someAllowed L e d ss ≡ true → allowed L e d (firstAllowed L e d ss) ≡ true)
+          → allowed L e d (cond b s (firstAllowed L e d ss)) ≡ true
+      go true q up = q
+      go false q up = up (ap (λ (b : Bool). b || someAllowed L e d ss) (sym q) ∙ h)
+
+  none-allowed : (d : ℕ) (ss : List ℕ) → someAllowed L e d ss ≡ false → (s : ℕ) → among s ss ≡ true → allowed L e d s ≡ false
+  unfolding someAllowed among
+  none-allowed d [] h s k = absurd (false≢true k)
+  none-allowed d (t ∷ ts) h s k = go (eqb s t) refl (none-allowed d ts (or-right (allowed L e d t) (someAllowed L e d ts) h) s)
+    where
+      go : (b : Bool) → eqb s t ≡ b → (among s ts ≡ true → allowed L e d s ≡ false) → allowed L e d s ≡ false
+      go true q up = ap (allowed L e d) (eqb-true s t q) ∙ or-left (allowed L e d t) (someAllowed L e d ts) h
+      go false q up = up (ap (λ (b : Bool). b || among s ts) (sym q) ∙ k)
+
+  pub next-within : nextDisk L e ≤ L .disks
+  unfolding nextDisk
+  next-within = lowest-is (L .disks) (λ d. someAllowed L e d (L .through d)) .within
+
+  pub next-allowed : nextDisk L e < L .disks → allowed L e (nextDisk L e) (repairOf L e (nextDisk L e) .stripe) ≡ true
+  unfolding nextDisk repairOf
+  next-allowed l =
+      some-allowed (nextDisk L e) (L .through (nextDisk L e)) (lowest-is (L .disks) (λ d. someAllowed L e d (L .through d)) .found l)
+
+  -- No disk with a lower number can be repaired.
+  pub next-lowest : (d s : ℕ) → allowed L e d s ≡ true → nextDisk L e ≤ d
+  unfolding nextDisk on
+  next-lowest d s h = ⊎-elim (λ l. absurd (true≢false (sym h ∙ earlier l))) (λ l. l) (lt-or-le d (nextDisk L e))
+    where
+      earlier : d < nextDisk L e → allowed L e d s ≡ false
+      earlier l =
+          none-allowed d (L .through d) (lowest-is (L .disks) (λ d. someAllowed L e d (L .through d)) .none d l) s
+          (allowed-is L e d s h .here)
+
+  pub next-none : ¬ (nextDisk L e < L .disks) → Stuck L e
+  next-none n d s =
+      by-cases (λ (b : Bool). b ≡ false) (allowed L e d s)
+      (λ h.
+      let low : nextDisk L e ≤ d = next-lowest d s h in
+      let l : d < L .disks = allowed-is L e d s h .disk in
+      absurd (n (lt-of-le-of-lt low l)))
+      (λ h. refl)
+
+  pub stuck-none : Stuck L e → ¬ (nextDisk L e < L .disks)
+  stuck-none stuck l = true≢false (sym (next-allowed l) ∙ stuck (nextDisk L e) (repairOf L e (nextDisk L e) .stripe))
+
+  -- A disk is repaired by the lower of its stripes that are allowed.
+  first-lowest : (d low high s : ℕ) → low < high → among s (low ∷ high ∷ []) ≡ true → allowed L e d s ≡ true
+      → firstAllowed L e d (low ∷ high ∷ []) ≤ s
+  unfolding firstAllowed among
+  first-lowest d low high s order k h = go (allowed L e d low) refl (allowed L e d high) refl (eqb s low) refl (eqb s high) refl
+    where
+      at : (t : ℕ) → eqb s t ≡ true → allowed L e d t ≡ false → ⊥
+      at t q n = true≢false (sym h ∙ ap (allowed L e d) (eqb-true s t q) ∙ n)
+
+      go : (x : Bool) → allowed L e d low ≡ x → (y : Bool) → allowed L e d high ≡ y
+          → (i : Bool) → eqb s low ≡ i → (j : Bool) → eqb s high ≡ j → cond x low (cond y high 0) ≤ s
+      go true p y q true v j w = let same = eqb-true s low v in omega arith
+      go true p y q false v true w = let same = eqb-true s high w in omega arith
+      go true p y q false v false w = absurd (false≢true (ap₂ (λ (a b : Bool). a || (b || false)) (sym v) (sym w) ∙ k))
+      go false p true q true v j w = absurd (at low v p)
+      go false p true q false v true w = let same = eqb-true s high w in omega arith
+      go false p true q false v false w = absurd (false≢true (ap₂ (λ (a b : Bool). a || (b || false)) (sym v) (sym w) ∙ k))
+      go false p false q i v j w = zero-le
+
+  pub next-stripe : TwoStripes L → (d s : ℕ) → allowed L e d s ≡ true → repairOf L e d .stripe ≤ s
+  unfolding repairOf on
+  next-stripe two d s h =
+      let a : Allowed L e d s = allowed-is L e d s h in
+      let through : L .through d ≡ two .low d ∷ two .high d ∷ [] = two .two d (a .disk) in
+      subst (λ (ss : List ℕ). firstAllowed L e d ss ≤ s) (sym through)
+      (first-lowest d (two .low d) (two .high d) s (two .order d (a .disk))
+      (ap (among s) (sym through) ∙ a .here) h)
+
+-- ---- plan's order
+module _ (L : Layout) where
+  pub peel-next : (k : ℕ) (e : ℕ → Bool) → nextDisk L e < L .disks
+      → peel L (suc k) e ≡ repairOf L e (nextDisk L e) ∷ peel L k (without e (nextDisk L e))
+  unfolding peel
+  peel-next k e l =
+      ap (λ (b : Bool). cond b (repairOf L e (nextDisk L e) ∷ peel L k (without e (nextDisk L e))) []) (lt-ltb (nextDisk L e) (L .disks) l)
+
+  pub peel-none : (k : ℕ) (e : ℕ → Bool) → ¬ (nextDisk L e < L .disks) → peel L k e ≡ []
+  unfolding peel
+  peel-none zero e n = refl
+  peel-none (suc k) e n =
+      ap (λ (b : Bool). cond b (repairOf L e (nextDisk L e) ∷ peel L k (without e (nextDisk L e))) [])
+      (le-ltb (nextDisk L e) (L .disks) (omega arith))
+
+  -- What holds of the list at each step holds of the whole list.
+  pub by-peel {ℓ} : (P : ℕ → (ℕ → Bool) → List Entry → Type ℓ)
+      → ((e : ℕ → Bool) → P 0 e [])
+      → ((k : ℕ) (e : ℕ → Bool) → ¬ (nextDisk L e < L .disks) → P (suc k) e [])
+      → ((k : ℕ) (e : ℕ → Bool) (w : List Entry) → nextDisk L e < L .disks
+      → P k (without e (nextDisk L e)) w → P (suc k) e (repairOf L e (nextDisk L e) ∷ w))
+      → (k : ℕ) (e : ℕ → Bool) → P k e (peel L k e)
+  unfolding peel
+  by-peel P start stop step zero e = start e
+  by-peel P start stop step (suc k) e = go (decLt (nextDisk L e) (L .disks)) (by-peel P start stop step k (without e (nextDisk L e)))
+    where
+      go : Dec (nextDisk L e < L .disks) → P k (without e (nextDisk L e)) (peel L k (without e (nextDisk L e))) → P (suc k) e (peel L (suc k) e)
+      go (yes l) up = subst (P (suc k) e) (sym (peel-next k e l)) (step k e _ l up)
+      go (no n) up = subst (P (suc k) e) (sym (peel-none (suc k) e n)) (stop k e n)
+
+  pub peel-peels : (k : ℕ) (e : ℕ → Bool) → Peels L e (peel L k e)
+  unfolding repairOf
+  peel-peels = by-peel (λ k e w. Peels L e w) (λ e. tt) (λ k e n. tt) (λ k e w l up. (next-allowed L e l, up))
+
+  none-stuck : (e : ℕ → Bool) → count (L .disks) e ≡ 0 → Stuck L e
+  none-stuck e z =
+      other-stuck L e (λ d s l h k. absurd (true≢false (sym h ∙ count-zero-none (L .disks) e z d l)))
+
+  pub peel-ends : (k : ℕ) (e : ℕ → Bool) → count (L .disks) e ≤ k → Stuck L (after e (peel L k e))
+  unfolding after repairOf without
+  peel-ends =
+      by-peel (λ k e w. count (L .disks) e ≤ k → Stuck L (after e w))
+      (λ e c. none-stuck e (omega arith))
+      (λ k e n c. next-none L e n)
+      (λ k e w l up c.
+      let a : Allowed L e (nextDisk L e) (repairOf L e (nextDisk L e) .stripe) = allowed-is L e _ _ (next-allowed L e l) in
+      let fewer = count-without (L .disks) e (nextDisk L e) l (a .erased) in
+      up (omega arith))
+
+  pub repairs-peels : (e : ℕ → Bool) → Peels L e (repairs L e)
+  unfolding repairs
+  repairs-peels e = peel-peels (L .disks) e
+
+  pub residual-stuck : (e : ℕ → Bool) → Stuck L (residual L e)
+  unfolding residual repairs
+  residual-stuck e = peel-ends (L .disks) e (count-le (L .disks) e)
+
+  pub residual-sub : (e : ℕ → Bool) (d : ℕ) → residual L e d ≡ true → e d ≡ true
+  unfolding residual
+  residual-sub e d h = after-sub e (repairs L e) d h
+
+-- ---- what is left
+module _ (L : Layout) where
+  -- What plan's order leaves contains every stuck subset.
+  pub residual-largest : (c e : ℕ → Bool) → Within L c e → Stuck L c → Within L c (residual L e)
+  unfolding residual
+  residual-largest c e sub stuck = stuck-stays L c e sub stuck (repairs L e) (repairs-peels L e)
+
+  -- Any order leaves the same.
+  pub order-free : (e : ℕ → Bool) (w : List Entry) → Peels L e w → Stuck L (after e w) → (d : ℕ) → after e w d ≡ residual L e d
+  order-free e w p stuck d = ⊎-elim inside outside (lt-or-le d (L .disks))
+    where
+      inside : d < L .disks → after e w d ≡ residual L e d
+      inside l =
+          same-test (after e w d) (residual L e d) (residual-largest (after e w) e (λ i m. after-sub e w i) stuck d l)
+          (stuck-stays L (residual L e) e (λ i m. residual-sub L e i) (residual-stuck L e) w p d l)
+
+      outside : L .disks ≤ d → after e w d ≡ residual L e d
+      outside l = after-outside L e w p d l ∙ sym (unfold residual in after-outside L e (repairs L e) (repairs-peels L e) d l)
+
+  pub order-free-all : (e : ℕ → Bool) (w : List Entry) → Peels L e w → Stuck L (after e w) → after e w ≡ residual L e
+  order-free-all e w p stuck = fun-ext (order-free e w p stuck)
+
+  pub not-fatal : (e : ℕ → Bool) → (fatal L e ≡ false) ↔ ((d : ℕ) → d < L .disks → residual L e d ≡ false)
+  unfolding fatal lost
+  not-fatal e = (
+    λ h. let z = ltb-false 0 (count (L .disks) (residual L e)) h in count-zero-none (L .disks) (residual L e) (omega arith),
+    λ h. let z = count-none (L .disks) h in le-ltb 0 (count (L .disks) (residual L e)) (omega arith),
+  )
+
+  pub is-fatal : (e : ℕ → Bool) → (fatal L e ≡ true) ↔ ((d : ℕ) × (d < L .disks) × (residual L e d ≡ true))
+  unfolding fatal lost
+  is-fatal e = (
+    λ h. count-found (L .disks) (residual L e) (ltb-true 0 (count (L .disks) (residual L e)) h),
+    λ h. lt-ltb 0 (count (L .disks) (residual L e)) (count-some (L .disks) (residual L e) (h .0) (h .1) (h .2)),
+  )
+
+  pub fatal-of-stuck : (c e : ℕ → Bool) → Within L c e → Stuck L c → (d : ℕ) → d < L .disks → c d ≡ true → fatal L e ≡ true
+  fatal-of-stuck c e sub stuck d l h = is-fatal e .1 (d, l, residual-largest c e sub stuck d l h)
+
+  -- The loss of more disks is fatal too.
+  pub fatal-mono : (e f : ℕ → Bool) → Within L e f → fatal L e ≡ true → fatal L f ≡ true
+  fatal-mono e f sub h =
+      let (d, l, k) = is-fatal e .0 h in
+      fatal-of-stuck (residual L e) f (λ i m w. sub i m (residual-sub L e i w)) (residual-stuck L e) d l k
+
+  -- ---- how many
+
+  -- Each repair takes one erased disk away.
+  pub peel-count : (e : ℕ → Bool) (w : List Entry) → Peels L e w → length w + count (L .disks) (after e w) ≡ count (L .disks) e
+  unfolding after without
+  peel-count e [] p = zero-add (count (L .disks) e)
+  peel-count e (r ∷ rs) p =
+      let a : Allowed L e (r .disk) (r .stripe) = allowed-is L e (r .disk) (r .stripe) (p .0) in
+      let fewer : count (L .disks) (without e (r .disk)) + 1 ≡ count (L .disks) e = count-without (L .disks) e (r .disk) (a .disk) (a .erased) in
+      let up = peel-count (without e (r .disk)) rs (p .1) in
+      omega arith
+
+  pub repairs-lost : (e : ℕ → Bool) → length (repairs L e) + lost L e ≡ count (L .disks) e
+  unfolding lost residual
+  repairs-lost e = peel-count e (repairs L e) (repairs-peels L e)
+
+  pub none-lost : (e : ℕ → Bool) → fatal L e ≡ false → lost L e ≡ 0
+  unfolding fatal
+  none-lost e h = let z = ltb-false 0 (lost L e) h in omega arith
+
+  pub repairs-count : (e : ℕ → Bool) → fatal L e ≡ false → length (repairs L e) ≡ count (L .disks) e
+  repairs-count e h = let z = none-lost e h in let all = repairs-lost e in omega arith
