@@ -5,7 +5,7 @@ use mathlib.Core.Bool.{Bool, true, false, cond, not, _&&_, _||_, true≢false, f
 use mathlib.Core.Logic.{_↔_, ⊎-elim}
 use mathlib.Core.List.{List, [], _∷_}
 use Prim.Native.Nat.{ℕ, _+_, _*_, _/_, _%_, _-_, _≤_, _<_}
-use native.Mathlib.Nat.{mul-zero, add-sub-of-le, add-sub-cancel-left, sub-lt-left-of-lt-add, div-add-mod', div-lt-iff-lt-mul, pos-of-ne-zero}
+use native.Mathlib.Nat.{add-sub-of-le, add-sub-cancel-left, sub-lt-left-of-lt-add}
 use native.Mathlib.Omega.{arith}
 use borrow.Author.Tests.{eq-eqb, ne-eqb, eqb-true, eqb-false, le-leb, lt-ltb, leb-true, ltb-true}
 use lib.Arith.{digits-div, digits-mod, digits-lt}
@@ -19,7 +19,7 @@ use Rattle.model.specs.Repair.{without, Entry, allowed, Peels, after, ch
 use Rattle.model.specs.declared.Size.{Size}
 use Rattle.model.proofs.Xor.{⊕-zero, zero-⊕, equal-of-zero}
 use Rattle.model.proofs.Fold.{and-left, and-right, by-cases, lt-or-le, xsum-ext, xsum-only, xsum-byte, length-tabulate, getD-tabulate}
-use Rattle.model.proofs.Grid.{byte-whole, small-byte, array-is}
+use Rattle.model.proofs.Grid.{byte-whole, small-byte, by-block, array-is}
 use Rattle.model.proofs.Write.{sumOver-ext, sumOver-⊕}
 use Rattle.model.proofs.Peel.{without-other, Allowed, allowed-is}
 
@@ -29,30 +29,23 @@ Small a = (i : ℕ) → i < length a → getD a i 0 < 256
 
 -- ---- places of a stretch
 
--- Place i of the array lies in the stretch of its block.
+-- Place q of a block lies in the stretch.
 within : Stretch → ℕ → Bool
-within x i = leb (x .offset) (i % x .block) && ltb (i % x .block) (x .offset + x .width)
+within x q = leb (x .offset) q && ltb q (x .offset + x .width)
 
-within-bounds : (x : Stretch) (i : ℕ) → within x i ≡ true → (x .offset ≤ i % x .block) × (i % x .block < x .offset + x .width)
-unfolding within
-within-bounds x i e =
-    let low : leb (x .offset) (i % x .block) ≡ true = and-left _ (ltb (i % x .block) (x .offset + x .width)) e in
-    let high : ltb (i % x .block) (x .offset + x .width) ≡ true = and-right (leb (x .offset) (i % x .block)) _ e in
-    (leb-true _ _ low, ltb-true _ _ high)
-
--- What holds of each place of the stretch on each disk, and of every place outside, holds of every place of an array.
+-- What holds of each place of the stretch on each of n disks, and of every place outside, holds of every place of an array.
 by-place : (x : Stretch) (n : ℕ) (P : ℕ → Type 0)
     → ((d p : ℕ) → d < n → p < x .width → P (d * x .block + (x .offset + p)))
-    → ((i : ℕ) → within x i ≡ false → P i) → (i : ℕ) → i < n * x .block → P i
-by-place x n P at out i l = go (within x i) refl
+    → ((i : ℕ) → within x (i % x .block) ≡ false → P i) → (i : ℕ) → i < n * x .block → P i
+unfolding within
+by-place x n P at out = by-block n (x .block) P (λ d q l h. go d q l h (within x q) refl)
   where
-    go : (b : Bool) → within x i ≡ b → P i
-    go true e =
-        let (low, high) = within-bounds x i e in
-        let some : 0 < x .block = pos-of-ne-zero (λ q. let none : n * x .block ≡ 0 = ap (λ (k : ℕ). n * k) q ∙ mul-zero n in omega arith) in
-        subst P (ap (λ (k : ℕ). i / x .block * x .block + k) (add-sub-of-le low) ∙ div-add-mod' i (x .block))
-        (at (i / x .block) (i % x .block - x .offset) (div-lt-iff-lt-mul {k = x .block} some .1 l) (sub-lt-left-of-lt-add low high))
-    go false e = out i e
+    go : (d q : ℕ) → d < n → q < x .block → (t : Bool) → within x q ≡ t → P (d * x .block + q)
+    go d q l h true e =
+        let low : x .offset ≤ q = leb-true _ _ (and-left _ (ltb q (x .offset + x .width)) e) in
+        let high : q < x .offset + x .width = ltb-true _ _ (and-right (leb (x .offset) q) _ e) in
+        subst (λ (k : ℕ). P (d * x .block + k)) (add-sub-of-le low) (at d (q - x .offset) l (sub-lt-left-of-lt-add low high))
+    go d q l h false e = out (d * x .block + q) (ap (within x) (digits-mod d h) ∙ e)
 
 -- The whole block lies within the block.
 pub whole-inside : (B : ℕ) → whole B .offset + whole B .width ≤ whole B .block
@@ -65,11 +58,11 @@ module _ (x : Stretch) (a : List ℕ) (f : ℕ → ℕ → ℕ) where
   unfolding changed
   length-changed = length-tabulate (length a) _
 
-  changed-at : (i : ℕ) → i < length a → getD (changed x a f) i 0 ≡ cond (within x i) (f (i / x .block) (i % x .block - x .offset)) (getD a i 0)
+  changed-at : (i : ℕ) → i < length a → getD (changed x a f) i 0 ≡ cond (within x (i % x .block)) (f (i / x .block) (i % x .block - x .offset)) (getD a i 0)
   unfolding changed within
   changed-at i l = getD-tabulate (length a) _ i l
 
-  changed-outside : (i : ℕ) → within x i ≡ false → getD (changed x a f) i 0 ≡ getD a i 0
+  changed-outside : (i : ℕ) → within x (i % x .block) ≡ false → getD (changed x a f) i 0 ≡ getD a i 0
   changed-outside i e =
       ⊎-elim (λ l. changed-at i l ∙ (rw e))
       (λ o.
@@ -81,7 +74,7 @@ module _ (x : Stretch) (a : List ℕ) (f : ℕ → ℕ → ℕ) where
   changed-small new old i l =
       let b : i < length a = subst (λ (n : ℕ). i < n) length-changed l in
       subst (λ (v : ℕ). v < 256) (sym (changed-at i b))
-      (by-cases (λ (t : Bool). cond t (f (i / x .block) (i % x .block - x .offset)) (getD a i 0) < 256) (within x i) (λ e. new _ _) (λ e. old i b))
+      (by-cases (λ (t : Bool). cond t (f (i / x .block) (i % x .block - x .offset)) (getD a i 0) < 256) (within x (i % x .block)) (λ e. new _ _) (λ e. old i b))
 
 -- The same where the stretch lies within the block and the array holds n blocks.
 module _ (x : Stretch) (inside : x .offset + x .width ≤ x .block) (n : ℕ) (a : List ℕ) (sized : length a ≡ n * x .block) where
@@ -96,7 +89,7 @@ module _ (x : Stretch) (inside : x .offset + x .width ≤ x .block) (n : ℕ) (a
   -- An array is the changed one if it has these bytes in the stretch and those of a outside.
   changed-is : (f : ℕ → ℕ → ℕ) (l : List ℕ) → length l ≡ length a
       → ((d p : ℕ) → d < n → p < x .width → byte x l d p ≡ f d p)
-      → ((i : ℕ) → within x i ≡ false → getD l i 0 ≡ getD a i 0) → l ≡ changed x a f
+      → ((i : ℕ) → within x (i % x .block) ≡ false → getD l i 0 ≡ getD a i 0) → l ≡ changed x a f
   unfolding byte
   changed-is f l long same kept =
       ext-getD 0 l (changed x a f) (long ∙ sym (length-changed x a f))
@@ -289,7 +282,7 @@ module _ (L : Layout) (x : Stretch) (inside : x .offset + x .width ≤ x .block)
 
 module _ (L : Layout) (x : Stretch) where
   -- Repairs leave what stands outside the stretch.
-  rebuilt-outside : (a : List ℕ) (w : List Entry) (i : ℕ) → within x i ≡ false → getD (rebuilt L x a w) i 0 ≡ getD a i 0
+  rebuilt-outside : (a : List ℕ) (w : List Entry) (i : ℕ) → within x (i % x .block) ≡ false → getD (rebuilt L x a w) i 0 ≡ getD a i 0
   unfolding rebuilt repaired
   rebuilt-outside a [] i k = refl
   rebuilt-outside a (r ∷ rs) i k = rebuilt-outside (repaired L x a r) rs i k ∙ changed-outside x a _ i k
