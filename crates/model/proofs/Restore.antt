@@ -1,7 +1,7 @@
 -- What repairs do to an array: they restore the codeword that the survivors belong to, and tell whether there is one.
 -- Assumes nothing.
 use mathlib.Core.Path.{_≡_, refl, sym, _∙_, ap, ap₂, subst}
-use mathlib.Core.Bool.{Bool, true, false, cond, not, _&&_, _||_, true≢false, false≢true}
+use mathlib.Core.Bool.{Bool, true, false, cond, not, _&&_, _||_, and-true, true≢false, false≢true}
 use mathlib.Core.Logic.{_↔_, ⊎-elim}
 use mathlib.Core.List.{List, [], _∷_}
 use Prim.Native.Nat.{ℕ, _+_, _*_, _/_, _%_, _-_, _≤_, _<_}
@@ -12,16 +12,22 @@ use lib.Arith.{digits-div, digits-mod, digits-lt}
 use lib.Dec.{eqb, leb, ltb}
 use lib.ListN.{length, getD, List·getD-eq-default}
 use lib.Seq.{ext-getD}
-use Rattle.model.specs.Fold.{_⊕_, gate}
+use Rattle.model.specs.Fold.{_⊕_, xsum, gate}
 use Rattle.model.specs.Stripes.{Layout, TwoStripes, among, on, Stretch, whole, byte, sumOver, stripeSum, Codeword}
-use Rattle.model.specs.Grid.{disks, arrayBytes, arrayOf}
-use Rattle.model.specs.Repair.{without, Entry, allowed, Peels, after, changed, sumOfOthers, repaired, rebuilt, zeroed, Agree}
+use Rattle.model.specs.Grid.{rows, columns, across, gridOf, disks, diskAt, arrayBytes, arrayOf, sizeFits}
+use Rattle.model.specs.Refusal.{refusal, arrayTests}
+use Rattle.model.specs.Array.{checked}
+use Rattle.model.specs.Repair.{without, Entry, allowed, Peels, repairs, after, residual, fatal, changed, sumOfOthers, repaired, rebuilt, zeroed, consistent, Agree, Belongs, Ambiguous}
 use Rattle.model.specs.declared.Size.{Size}
+use Rattle.model.specs.declared.Checked.the-variants.{Sealed}
 use Rattle.model.proofs.Xor.{⊕-zero, zero-⊕, equal-of-zero}
-use Rattle.model.proofs.Fold.{and-left, and-right, by-cases, lt-or-le, xsum-ext, xsum-only, xsum-byte, length-tabulate, getD-tabulate}
-use Rattle.model.proofs.Grid.{byte-whole, small-byte, by-block, array-is}
+use Rattle.model.proofs.Fold.{and-left, and-right, by-cases, lt-or-le, every-at, every-all, xsum-ext, xsum-only, xsum-byte, length-tabulate, getD-tabulate}
+use Rattle.model.proofs.Grid.{size-fits, row-over, column-over, grid-disks, gridOf-two, disk-is, row-within, column-within, eqb-disk, byte-whole, small-byte, by-block, array-is}
+use Rattle.model.proofs.Equations.{equations-iff-sums}
+use Rattle.model.proofs.Refusal.{array-fits}
+use Rattle.model.proofs.Check.{sums-of-zero, zero-of-sums, answer-sealed}
 use Rattle.model.proofs.Write.{sumOver-ext, sumOver-⊕}
-use Rattle.model.proofs.Peel.{without-other, Allowed, allowed-is}
+use Rattle.model.proofs.Peel.{without-other, Allowed, allowed-is, repairs-peels, not-fatal}
 
 -- All bytes of an array are below 256.
 abbrev pub Small : List ℕ → Type 0
@@ -58,7 +64,8 @@ module _ (x : Stretch) (a : List ℕ) (f : ℕ → ℕ → ℕ) where
   unfolding changed
   length-changed = length-tabulate (length a) _
 
-  changed-at : (i : ℕ) → i < length a → getD (changed x a f) i 0 ≡ cond (within x (i % x .block)) (f (i / x .block) (i % x .block - x .offset)) (getD a i 0)
+  changed-at : (i : ℕ) → i < length a
+      → getD (changed x a f) i 0 ≡ cond (within x (i % x .block)) (f (i / x .block) (i % x .block - x .offset)) (getD a i 0)
   unfolding changed within
   changed-at i l = getD-tabulate (length a) _ i l
 
@@ -74,7 +81,8 @@ module _ (x : Stretch) (a : List ℕ) (f : ℕ → ℕ → ℕ) where
   changed-small new old i l =
       let b : i < length a = subst (λ (n : ℕ). i < n) length-changed l in
       subst (λ (v : ℕ). v < 256) (sym (changed-at i b))
-      (by-cases (λ (t : Bool). cond t (f (i / x .block) (i % x .block - x .offset)) (getD a i 0) < 256) (within x (i % x .block)) (λ e. new _ _) (λ e. old i b))
+      (by-cases (λ (t : Bool). cond t (f (i / x .block) (i % x .block - x .offset)) (getD a i 0) < 256) (within x (i % x .block))
+      (λ e. new _ _) (λ e. old i b))
 
 -- The same where the stretch lies within the block and the array holds n blocks.
 module _ (x : Stretch) (inside : x .offset + x .width ≤ x .block) (n : ℕ) (a : List ℕ) (sized : length a ≡ n * x .block) where
@@ -82,9 +90,10 @@ module _ (x : Stretch) (inside : x .offset + x .width ≤ x .block) (n : ℕ) (a
   unfolding byte within
   byte-changed f d p l h =
       let b : x .offset + p < x .block = omega arith in
+      let low : leb (x .offset) (x .offset + p) ≡ true = le-leb (x .offset) (x .offset + p) (omega arith) in
+      let high : ltb (x .offset + p) (x .offset + x .width) ≡ true = lt-ltb (x .offset + p) (x .offset + x .width) (omega arith) in
       changed-at x a f (d * x .block + (x .offset + p)) (subst (λ (k : ℕ). d * x .block + (x .offset + p) < k) (sym sized) (digits-lt l b))
-      ∙ (rw (digits-div d b, digits-mod d b, le-leb (x .offset) (x .offset + p) (omega arith), lt-ltb (x .offset + p) (x .offset + x .width) (omega arith))
-      (ap (f d) (add-sub-cancel-left (x .offset) p)))
+      ∙ (rw (digits-div d b, digits-mod d b, low, high) (ap (f d) (add-sub-cancel-left (x .offset) p)))
 
   -- An array is the changed one if it has these bytes in the stretch and those of a outside.
   changed-is : (f : ℕ → ℕ → ℕ) (l : List ℕ) → length l ≡ length a
@@ -135,7 +144,8 @@ module _ (L : Layout) (x : Stretch) where
   repaired-small a r small =
       changed-small x a _
       (λ d p.
-      by-cases (λ (t : Bool). cond t (sumOfOthers L x a r p) (byte x a d p) < 256) (eqb d (r .disk)) (λ e. others-small a small r p) (λ e. small-byte a small x d p))
+      by-cases (λ (t : Bool). cond t (sumOfOthers L x a r p) (byte x a d p) < 256) (eqb d (r .disk))
+      (λ e. others-small a small r p) (λ e. small-byte a small x d p))
       small
 
   pub rebuilt-small : (a : List ℕ) (w : List Entry) → Small a → Small (rebuilt L x a w)
@@ -144,7 +154,8 @@ module _ (L : Layout) (x : Stretch) where
   rebuilt-small a (r ∷ rs) small = rebuilt-small (repaired L x a r) rs (repaired-small a r small)
 
 -- A repair sets the block of its disk to the sum of the others, and leaves the other disks.
-module _ (L : Layout) (x : Stretch) (inside : x .offset + x .width ≤ x .block) (a : List ℕ) (sized : length a ≡ L .disks * x .block) (r : Entry) where
+module _ (L : Layout) (x : Stretch) (inside : x .offset + x .width ≤ x .block)
+    (a : List ℕ) (sized : length a ≡ L .disks * x .block) (r : Entry) where
   pub byte-repaired : (d p : ℕ) → d < L .disks → p < x .width
       → byte x (repaired L x a r) d p ≡ cond (eqb d (r .disk)) (sumOfOthers L x a r p) (byte x a d p)
   unfolding repaired
@@ -301,3 +312,122 @@ module _ (L : Layout) (x : Stretch) where
           → gate (not t) (byte x (rebuilt L x a w) d p) ≡ gate (not t) (byte x a d p)
       same d p l h true k = refl
       same d p l h false k = sym (rebuilt-keeps L x inside e a sized w peels d l k p h)
+
+-- ---- whether the survivors belong to a codeword
+
+-- The test of all stripes holds exactly if every sum is zero.
+pub consistent-iff : (L : Layout) (x : Stretch) (a : List ℕ)
+    → (consistent L x a ≡ true) ↔ ((s : ℕ) → s < L .stripeBound → (p : ℕ) → p < x .width → stripeSum L x a s p ≡ 0)
+unfolding consistent
+consistent-iff L x a = (
+  λ e s l. sums-of-zero L x a s (every-at (L .stripeBound) _ e s l),
+  λ h. every-all (L .stripeBound) (λ s l. zero-of-sums L x a s (h s l)),
+)
+
+-- Repairs, each of them allowed at its turn, that leave no disk erased.
+module _ (L : Layout) (bounded : Bounded L) (x : Stretch) (inside : x .offset + x .width ≤ x .block)
+    (e : ℕ → Bool) (w : List Entry) (peels : Peels L e w) (none : (d : ℕ) → d < L .disks → after e w d ≡ false)
+    (a : List ℕ) (sized : length a ≡ L .disks * x .block) where
+  pub restored-bytes : (b : List ℕ) → Codeword L x b → Agree L x e a b
+      → (d p : ℕ) → d < L .disks → p < x .width → byte x (rebuilt L x a w) d p ≡ byte x b d p
+  restored-bytes b word same d p l h = restore L x inside bounded b word e a sized w peels same d l (none d l) p h
+
+  -- Afterwards all sums are zero exactly if the survivors belong to a codeword.
+  pub consistent-belongs : Small a → (consistent L x (rebuilt L x a w) ≡ true) ↔ Belongs L x e a
+  unfolding stripeSum
+  consistent-belongs small = (
+    λ ok. (
+      rebuilt L x a w,
+      record {
+        sized = length-rebuilt L x a w ∙ sized;
+        bytes = rebuilt-small L x a w small;
+        sums = consistent-iff L x (rebuilt L x a w) .0 ok;
+      },
+      rebuilt-keeps L x inside e a sized w peels,
+    ),
+    λ (b, word, same).
+        consistent-iff L x (rebuilt L x a w) .1
+        (λ s l p h. sumOver-ext L (λ d k. restored-bytes b word same d p k h) s ∙ word .sums s l p h),
+  )
+
+-- Two arrays of n blocks are equal if their blocks are.
+whole-equal : (n B : ℕ) (a b : List ℕ) → length a ≡ n * B → length b ≡ n * B
+    → ((d p : ℕ) → d < n → p < B → byte (whole B) a d p ≡ byte (whole B) b d p) → a ≡ b
+whole-equal n B a b long size same =
+    ext-getD 0 a b (long ∙ sym size)
+    (λ i l.
+    by-block n B (λ i. getD a i 0 ≡ getD b i 0) (λ d p k h. sym (byte-whole B a d p) ∙ same d p k h ∙ byte-whole B b d p) i
+    (subst (λ (k : ℕ). i < k) long l))
+
+-- Over the whole block such repairs make the codeword that the survivors belong to.
+module _ (L : Layout) (bounded : Bounded L) (B : ℕ)
+    (e : ℕ → Bool) (w : List Entry) (peels : Peels L e w) (none : (d : ℕ) → d < L .disks → after e w d ≡ false) where
+  pub rebuilt-is : (a b : List ℕ) → length a ≡ L .disks * whole B .block → Codeword L (whole B) b → Agree L (whole B) e a b
+      → rebuilt L (whole B) a w ≡ b
+  unfolding whole
+  rebuilt-is a b sized word same =
+      whole-equal (L .disks) B (rebuilt L (whole B) a w) b (length-rebuilt L (whole B) a w ∙ sized) (word .sized)
+      (restored-bytes L bounded (whole B) (whole-inside B) e w peels none a sized b word same)
+
+-- ---- plan's repairs of a loss that is not fatal
+module _ (L : Layout) (bounded : Bounded L) (e : ℕ → Bool) (survivable : fatal L e ≡ false) where
+  none-left : (d : ℕ) → d < L .disks → after e (repairs L e) d ≡ false
+  unfolding residual
+  none-left = not-fatal L e .0 survivable
+
+  pub judge : (x : Stretch) → x .offset + x .width ≤ x .block → (a : List ℕ) → length a ≡ L .disks * x .block → Small a
+      → (consistent L x (rebuilt L x a (repairs L e)) ≡ true) ↔ Belongs L x e a
+  judge x inside a sized small = consistent-belongs L bounded x inside e (repairs L e) (repairs-peels L e) none-left a sized small
+
+  pub restored-is : (B : ℕ) (a b : List ℕ) → length a ≡ L .disks * whole B .block → Codeword L (whole B) b → Agree L (whole B) e a b
+      → rebuilt L (whole B) a (repairs L e) ≡ b
+  restored-is B = rebuilt-is L bounded B e (repairs L e) (repairs-peels L e) none-left
+
+  -- So no other codeword has the same survivors.
+  pub unique : (B : ℕ) → Ambiguous L (whole B) e → ⊥
+  unique B (a, b, first, second, same, different) =
+      different (sym (restored-is B a a (first .sized) first (λ d l k p h. refl)) ∙ restored-is B a b (first .sized) second same)
+
+-- ---- the grid
+
+-- The stripes of a size's grid lie below the bound, and an array of the right length holds a block for each of its disks.
+pub grid-bounded : (z : Size) → sizeFits z ≡ true → Bounded (gridOf z)
+grid-bounded z fits = two-bounded (gridOf z) (gridOf-two z fits)
+
+pub grid-sized : (z : Size) (B : ℕ) (a : List ℕ) → length a ≡ arrayBytes z B → length a ≡ gridOf z .disks * whole B .block
+unfolding arrayBytes whole
+grid-sized z B a long = long ∙ ap (λ (n : ℕ). n * B) (sym (grid-disks z))
+
+-- All sums are zero exactly if check says sealed.
+pub consistent-sealed : (z : Size) (B : ℕ) (a : List ℕ) → refusal (arrayTests z B (length a)) ≡ 0
+    → (consistent (gridOf z) (whole B) a ≡ true) ↔ (checked z B a ≡ Sealed)
+consistent-sealed z B a ok =
+    let (sums, zeros) = consistent-iff (gridOf z) (whole B) a in
+    let (of-equations, to-equations) = equations-iff-sums z (array-fits z B (length a) ok .size) (whole B) a in
+    let (of-sealed, to-sealed) = answer-sealed z B a ok in
+    (λ e. to-sealed (to-equations (sums e)), λ e. zeros (of-equations (of-sealed e)))
+
+-- The disk in row r and column c is disk d if these are the row and the column of d.
+same-disk : (z : Size) (d r c : ℕ) → c ≤ columns z → eqb (diskAt z r c) d ≡ (eqb r (d / across z) && eqb c (d % across z))
+same-disk z d r c k = ap (λ (i : ℕ). eqb (diskAt z r c) i) (disk-is z d) ∙ eqb-disk z r c _ _ k (column-within z d)
+
+-- The sum of the other disks of a disk's row, and of its column.
+module _ (z : Size) (fits : sizeFits z ≡ true) (x : Stretch) (a : List ℕ) (d p : ℕ) where
+  pub others-in-row : d < disks z → sumOfOthers (gridOf z) x a (record { disk = d; stripe = d / across z }) p
+      ≡ xsum (across z) (λ c. gate (not (eqb c (d % across z))) (byte x a (diskAt z (d / across z) c) p))
+  unfolding sumOfOthers across
+  others-in-row below =
+      row-over z (size-fits z fits) _ (d / across z) (row-within z d below)
+      ∙ xsum-ext (across z) (λ c l.
+      ap (λ (t : Bool). gate (not t) (byte x a (diskAt z (d / across z) c) p))
+      (same-disk z d (d / across z) c (omega arith) ∙ ap (λ (t : Bool). t && eqb c (d % across z)) (eq-eqb (d / across z) (d / across z) refl)))
+
+  pub others-in-column : sumOfOthers (gridOf z) x a (record { disk = d; stripe = 16 + d % across z }) p
+      ≡ xsum (rows z + 1) (λ r. gate (not (eqb r (d / across z))) (byte x a (diskAt z r (d % across z)) p))
+  unfolding sumOfOthers
+  others-in-column =
+      column-over z (size-fits z fits) _ (d % across z) (column-within z d)
+      ∙ xsum-ext (rows z + 1) (λ r l.
+      ap (λ (t : Bool). gate (not t) (byte x a (diskAt z r (d % across z)) p))
+      (same-disk z d r (d % across z) (column-within z d)
+      ∙ ap (λ (t : Bool). eqb r (d / across z) && t) (eq-eqb (d % across z) (d % across z) refl) ∙ and-true (eqb r (d / across z))))
