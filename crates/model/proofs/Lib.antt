@@ -9,6 +9,7 @@ pub mod Core
 pub mod Seal
 pub mod Check
 pub mod Write
+pub mod Restore
 pub mod Accept
 pub mod Demand2
 pub mod Cases
