@@ -273,12 +273,15 @@ small-byte a small x d p = go (d * x .block + (x .offset + p)) (decLt _ (length 
     go i (yes h) = small i h
     go i (no h) = let out = List·getD-eq-default a 0 {n = i} (omega arith) in omega arith
 
--- What holds of each byte of each disk holds of every byte of an array.
+-- What holds of each byte of each of n blocks holds of every byte, and so for an array's disks.
+pub by-block : (n B : ℕ) (P : ℕ → Type 0) → ((d p : ℕ) → d < n → p < B → P (d * B + p)) → (i : ℕ) → i < n * B → P i
+by-block n B P all i l =
+    let some : 0 < B = pos-of-ne-zero (λ q. let none : n * B ≡ 0 = ap (λ (k : ℕ). n * k) q ∙ mul-zero n in omega arith) in
+    subst P (div-add-mod' i B) (all (i / B) (i % B) (div-lt-iff-lt-mul {k = B} some .1 l) (mod-lt i some))
+
 pub by-byte : (z : Size) (B : ℕ) (P : ℕ → Type 0) → ((d p : ℕ) → d < disks z → p < B → P (d * B + p)) → (i : ℕ) → i < arrayBytes z B → P i
 unfolding arrayBytes
-by-byte z B P all i l =
-    let some : 0 < B = pos-of-ne-zero (λ q. let none : disks z * B ≡ 0 = ap (λ (k : ℕ). disks z * k) q ∙ mul-zero (disks z) in omega arith) in
-    subst P (div-add-mod' i B) (all (i / B) (i % B) (div-lt-iff-lt-mul {k = B} some .1 l) (mod-lt i some))
+by-byte z B P all i l = by-block (disks z) B P all i l
 
 -- An array is made of its disks' bytes, and equal if these are.
 module _ (z : Size) (B : ℕ) (f : ℕ → ℕ → ℕ) where

@@ -3,9 +3,13 @@ pub mod Fold
 pub mod Grid
 pub mod Equations
 pub mod Refusal
+pub mod Peel
+pub mod Degree
+pub mod Core
 pub mod Seal
 pub mod Check
 pub mod Write
+pub mod Restore
 pub mod Accept
 pub mod Demand2
 pub mod Cases
