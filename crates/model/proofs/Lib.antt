@@ -1,6 +1,9 @@
 pub mod Xor
 pub mod Fold
+pub mod Pairs
 pub mod Grid
+pub mod Walk
+pub mod Trace
 pub mod Equations
 pub mod Refusal
 pub mod Seal
