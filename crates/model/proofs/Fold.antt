@@ -1,11 +1,11 @@
 -- The laws of sums, tests and lists over the numbers below a bound.
 -- Assumes nothing.
 use mathlib.Core.Path.{_≡_, refl, sym, _∙_, ap, ap₂, subst}
-use mathlib.Core.Bool.{Bool, true, false, cond, not, _&&_, and-assoc, and-true, and-false, true≢false, false≢true}
+use mathlib.Core.Bool.{Bool, true, false, cond, not, _&&_, _||_, and-assoc, and-true, and-false, true≢false, false≢true}
 use mathlib.Core.Logic.{_⊎_, inl, inr, ⊎-elim}
 use mathlib.Core.List.{List}
 use Prim.Native.Nat.{ℕ, zero, suc, _+_, _*_, _≤_, _<_, zero-le, suc-le-suc}
-use native.Mathlib.Nat.{add-zero, add-suc, zero-mul, suc-mul, eq-or-lt-of-le, le-of-suc-le-suc, lt-suc-self, le-step, not-suc-le-zero, lt-of-lt-of-le, zero-lt-suc, pos-of-ne-zero}
+use native.Mathlib.Nat.{add-zero, add-comm, add-suc, zero-mul, suc-mul, eq-or-lt-of-le, le-of-suc-le-suc, lt-suc-self, le-step, not-suc-le-zero, lt-of-lt-of-le, zero-lt-suc, pos-of-ne-zero}
 use native.Mathlib.Numerals.{add-one}
 use native.Mathlib.Omega.{arith}
 use borrow.Author.Tests.{ltb-true, ltb-false, eq-eqb, ne-eqb}
@@ -26,6 +26,20 @@ and-right false b e = absurd (false≢true e)
 
 pub and-both : {a b : Bool} → a ≡ true → b ≡ true → (a && b) ≡ true
 and-both {a} {b} ha hb = ap₂ (λ (x y : Bool). x && y) ha hb
+
+pub or-left : (a b : Bool) → (a || b) ≡ false → a ≡ false
+or-left true b e = e
+or-left false b e = refl
+
+pub or-right : (a b : Bool) → (a || b) ≡ false → b ≡ false
+or-right true b e = absurd (true≢false e)
+or-right false b e = e
+
+-- Two tests that hold in the same cases are equal.
+pub same-test : (a b : Bool) → (a ≡ true → b ≡ true) → (b ≡ true → a ≡ true) → a ≡ b
+same-test true b h k = sym (h refl)
+same-test false true h k = k refl
+same-test false false h k = refl
 
 -- What holds in both cases of a test holds of its value.
 pub by-cases {ℓ} : (P : Bool → Type ℓ) (b : Bool) → (b ≡ true → P true) → (b ≡ false → P false) → P b
@@ -211,6 +225,12 @@ count-add m (suc n) t =
     let step : count (m + suc n) t ≡ count (m + n) t + bit (t (m + n)) = ap (λ (k : ℕ). count k t) (add-suc m n) in
     let up = count-add m n t in
     omega arith
+
+-- A count from its first number on.
+pub count-first : (n : ℕ) (t : ℕ → Bool) → count (suc n) t ≡ bit (t 0) + count n (λ i. t (suc i))
+unfolding count
+count-first zero t = add-comm 0 (bit (t 0))
+count-first (suc n) t = let up = count-first n t in omega arith
 
 -- One number taken out of those that are counted.
 pub count-without : (n : ℕ) (t : ℕ → Bool) (i : ℕ) → i < n → t i ≡ true → count n (λ j. t j && not (eqb j i)) + 1 ≡ count n t

@@ -6,6 +6,9 @@ pub mod Walk
 pub mod Trace
 pub mod Equations
 pub mod Refusal
+pub mod Peel
+pub mod Degree
+pub mod Core
 pub mod Seal
 pub mod Check
 pub mod Write
