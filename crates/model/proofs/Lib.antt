@@ -1,14 +1,14 @@
 pub mod Xor
 pub mod Fold
-pub mod Pairs
 pub mod Grid
-pub mod Walk
-pub mod Trace
 pub mod Equations
 pub mod Refusal
 pub mod Peel
 pub mod Degree
 pub mod Core
+pub mod Counts
+pub mod Walk
+pub mod Trace
 pub mod Seal
 pub mod Check
 pub mod Write

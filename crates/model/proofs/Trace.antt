@@ -7,16 +7,19 @@ use mathlib.Core.List.{List, [], _∷_}
 use Prim.Native.Nat.{ℕ, zero, suc, _+_, _≤_, _<_, zero-le}
 use native.Mathlib.Nat.{le-refl, le-of-suc-le}
 use native.Mathlib.Omega.{arith}
-use borrow.Author.Tests.{eqb-true, eqb-false, eq-eqb, ne-eqb}
-use lib.Dec.{eqb}
+use borrow.Author.Tests.{eqb-true, eqb-false, eq-eqb, ne-eqb, ltb-true, lt-ltb}
+use lib.Dec.{eqb, ltb}
 use lib.ListN.{length, getD}
 use Rattle.model.specs.Fold.{count, lowest}
 use Rattle.model.specs.Stripes.{Layout, TwoStripes, on}
-use Rattle.model.specs.Repair.{Entry}
-use Rattle.model.specs.Cycle.{diskOf, stripeOf, following, Cycle, Paired, firstOf, trace, lowestOf, cycleOf}
-use Rattle.model.proofs.Fold.{count-ext, Lowest, lowest-is}
-use Rattle.model.proofs.Pairs.{count-pair}
-use Rattle.model.proofs.Walk.{stripe-is, on-low, lowest-le, lowest-holds, next, Walk, walkFrom, walk-is, Same, same-number, disks-differ, walk-bound, comes-back}
+use Rattle.model.specs.Repair.{Entry, Stuck, fatal}
+use Rattle.model.specs.Cycle.{diskOf, stripeOf, following, Cycle, Paired, firstOf, trace, lowestOf, cycleOf, core, shownCycle}
+use Rattle.model.proofs.Fold.{count-ext, count-some, count-found, Lowest, lowest-is}
+use Rattle.model.proofs.Peel.{Within, other-stuck, fatal-of-stuck}
+use Rattle.model.proofs.Degree.{count-other, on-low, on-which}
+use Rattle.model.proofs.Core.{core-sub, core-some, core-paired}
+use Rattle.model.proofs.Counts.{count-pair}
+use Rattle.model.proofs.Walk.{lowest-le, lowest-holds, next, Walk, walkFrom, walk-is, Same, same-number, disks-differ, walk-bound, comes-back}
 
 -- ---- the list of a walk
 
@@ -226,7 +229,7 @@ module _ (L : Layout) (two : TwoStripes L) (c : ℕ → Bool) (paired : Paired L
   lower s k =
       let first = first-stripe in
       let o = two .order (lowestOf L c) (first-disk .0) in
-      ⊎-elim (λ e. omega arith) (λ e. omega arith) (stripe-is L two (lowestOf L c) (first-disk .0) s k)
+      ⊎-elim (λ e. omega arith) (λ e. omega arith) (on-which L two (lowestOf L c) (first-disk .0) s k)
 
   last-is : Lowest (L .stripeBound) (λ i. eqb (walkOf L c (suc i) .disk) (walkOf L c 0 .disk)) (lastOf L c)
   unfolding lastOf
@@ -260,3 +263,62 @@ module _ (L : Layout) (two : TwoStripes L) (c : ℕ → Bool) (paired : Paired L
       let n : length (cycleOf L c) ≡ suc (lastOf L c) = ap length cycle-is ∙ length-walked (walkOf L c) (lastOf L c) in
       let b = last-below in
       omega arith
+
+-- ---- a cycle among erased disks
+
+-- A cycle is one of any set that holds its disks.
+pub cycle-mono : (L : Layout) (c e : ℕ → Bool) (w : List Entry) → Within L c e → Cycle L c w → Cycle L e w
+cycle-mono L c e w sub y =
+    record {
+      some = y .some;
+      disk = y .disk;
+      erased = λ i l. sub (diskOf w i) (y .disk i l) (y .erased i l);
+      different = y .different;
+      here = y .here;
+      there = y .there;
+      turns = y .turns;
+      two = y .two;
+      lowestFirst = y .lowestFirst;
+      lowerFirst = y .lowerFirst;
+    }
+
+-- The disks of a list.
+disksOf : List Entry → ℕ → Bool
+disksOf w d = ltb 0 (count (length w) (λ i. eqb (diskOf w i) d))
+
+disk-of : (w : List Entry) (i : ℕ) → i < length w → disksOf w (diskOf w i) ≡ true
+unfolding disksOf
+disk-of w i l = lt-ltb 0 _ (count-some (length w) _ i l (eq-eqb (diskOf w i) (diskOf w i) refl))
+
+of-disk : (w : List Entry) (d : ℕ) → disksOf w d ≡ true → (i : ℕ) × (i < length w) × (diskOf w i ≡ d)
+unfolding disksOf
+of-disk w d h =
+    let (i, l, q) = count-found (length w) (λ i. eqb (diskOf w i) d) (ltb-true 0 _ h) in
+    (i, l, eqb-true (diskOf w i) d q)
+
+-- No repair is allowed among them, so a cycle of erased disks is a fatal loss.
+module _ (L : Layout) (e : ℕ → Bool) (w : List Entry) (y : Cycle L e w) where
+  cycle-stuck : Stuck L (disksOf w)
+  cycle-stuck =
+      other-stuck L (disksOf w) (λ d s l h k.
+      let (i, b, q) = of-disk w d h in
+      let here : on L (diskOf w i) s ≡ true = ap (λ (d : ℕ). on L d s) q ∙ k in
+      let (j, o) = count-other (length w) (λ j. on L (diskOf w j) s) i (y .two i b s here) b here in
+      (diskOf w j, y .disk j (o .inside), (λ e. o .apart (y .different j i (o .inside) b (e ∙ sym q))), disk-of w j (o .inside), o .holds))
+
+  pub cycle-fatal : fatal L e ≡ true
+  cycle-fatal =
+      fatal-of-stuck L (disksOf w) e (λ d l h. let (i, b, q) = of-disk w d h in ap e (sym q) ∙ y .erased i b) cycle-stuck
+      (diskOf w 0) (y .disk 0 (y .some)) (disk-of w 0 (y .some))
+
+-- The cycle that is shown of a fatal loss.
+module _ (L : Layout) (two : TwoStripes L) (e : ℕ → Bool) (lossy : fatal L e ≡ true) where
+  pub shown : Cycle L e (shownCycle L e)
+  unfolding shownCycle
+  shown =
+      let (d, l, h) = core-some L e lossy in
+      cycle-mono L (core L e) e (shownCycle L e) (λ d l. core-sub L e d) (cycle-of L two (core L e) (core-paired L two e lossy) d l h)
+
+  pub shown-bound : length (shownCycle L e) ≤ L .stripeBound
+  unfolding shownCycle
+  shown-bound = let (d, l, h) = core-some L e lossy in cycle-bound L two (core L e) (core-paired L two e lossy) d l h

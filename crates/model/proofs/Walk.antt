@@ -1,20 +1,22 @@
 -- Walks from disk to disk along their stripes, within a set of disks that has just two on each stripe touched.
 -- Assumes nothing.
 use mathlib.Core.Path.{_≡_, refl, sym, _∙_, ap, ap₂, subst}
-use mathlib.Core.Bool.{Bool, true, false, cond, not, _&&_, _||_, true≢false}
+use mathlib.Core.Bool.{Bool, true, false, cond, not, _&&_, true≢false}
 use mathlib.Core.Logic.{_⊎_, inl, inr, ⊎-elim}
-use mathlib.Core.List.{List, [], _∷_}
+use mathlib.Core.List.{[], _∷_}
 use Prim.Native.Nat.{ℕ, zero, suc, _+_, _-_, _≤_, _<_}
 use native.Mathlib.Nat.{lt-of-le-of-lt}
 use native.Mathlib.Omega.{arith}
 use borrow.Author.Tests.{eqb-true, eqb-false, eq-eqb, ne-eqb, not-true}
 use lib.Dec.{eqb}
-use Rattle.model.specs.Fold.{count, lowest}
-use Rattle.model.specs.Stripes.{Layout, TwoStripes, among, on}
+use Rattle.model.specs.Fold.{lowest}
+use Rattle.model.specs.Stripes.{Layout, TwoStripes, on}
 use Rattle.model.specs.Repair.{Entry}
 use Rattle.model.specs.Cycle.{Paired, partner, otherThan}
 use Rattle.model.proofs.Fold.{and-left, and-right, and-both, lt-or-le, lowest-is}
-use Rattle.model.proofs.Pairs.{different-below, another, no-third}
+use Rattle.model.proofs.Degree.{Other, on-low, on-high, on-which, on-bound}
+use Rattle.model.proofs.Core.{paired-other}
+use Rattle.model.proofs.Counts.{different-below}
 
 -- ---- the two stripes of a disk
 
@@ -24,24 +26,7 @@ pub record Besides (L : Layout) (d s t : ℕ) : Type 0 where
   pub differs : t ≡ s → ⊥
   pub only : (x : ℕ) → on L d x ≡ true → (x ≡ s) ⊎ (x ≡ t)
 
--- What stands in a list of two numbers, and which of them is not a given one.
-among-two : (a b x : ℕ) → among x (a ∷ b ∷ []) ≡ true → (x ≡ a) ⊎ (x ≡ b)
-unfolding among
-among-two a b x h = go (eqb x a) (eqb x b) refl refl h
-  where
-    go : (p q : Bool) → eqb x a ≡ p → eqb x b ≡ q → (p || (q || false)) ≡ true → (x ≡ a) ⊎ (x ≡ b)
-    go true q e f h = inl (eqb-true x a e)
-    go false true e f h = inr (eqb-true x b f)
-    go false false e f h = absurd (true≢false (sym h))
-
-among-first : (a : ℕ) (l : List ℕ) → among a (a ∷ l) ≡ true
-unfolding among
-among-first a l = ap (λ (p : Bool). p || among a l) (eq-eqb a a refl)
-
-among-second : (a b : ℕ) → (b ≡ a → ⊥) → among b (a ∷ b ∷ []) ≡ true
-unfolding among
-among-second a b d = ap₂ (λ (p q : Bool). p || (q || false)) (ne-eqb b a d) (eq-eqb b b refl)
-
+-- Which of two numbers is not a given one.
 other-first : (a b : ℕ) → (b ≡ a → ⊥) → otherThan a (a ∷ b ∷ []) ≡ b
 unfolding otherThan
 other-first a b d = ap₂ (λ (p q : Bool). cond p (cond q 0 b) a) (eq-eqb a a refl) (ne-eqb b a d)
@@ -51,40 +36,21 @@ unfolding otherThan
 other-second a b d = ap (λ (p : Bool). cond p (cond (eqb b b) 0 b) a) (ne-eqb a b (λ e. d (sym e)))
 
 module _ (L : Layout) (two : TwoStripes L) (d : ℕ) (l : d < L .disks) where
-  -- Its stripes are the lower and the higher one.
-  pub stripe-is : (s : ℕ) → on L d s ≡ true → (s ≡ two .low d) ⊎ (s ≡ two .high d)
-  unfolding on
-  stripe-is s h = among-two (two .low d) (two .high d) s (subst (λ (t : List ℕ). among s t ≡ true) (two .two d l) h)
-
-  pub on-low : on L d (two .low d) ≡ true
-  unfolding on
-  on-low = ap (among (two .low d)) (two .two d l) ∙ among-first (two .low d) (two .high d ∷ [])
-
   apart : two .high d ≡ two .low d → ⊥
   apart e = let h = two .order d l in omega arith
 
-  pub on-high : on L d (two .high d) ≡ true
-  unfolding on
-  on-high = ap (among (two .high d)) (two .two d l) ∙ among-second (two .low d) (two .high d) apart
-
-  pub stripe-below : (s : ℕ) → on L d s ≡ true → s < L .stripeBound
-  stripe-below s h =
-      let o = two .order d l in
-      let b = two .bound d l in
-      ⊎-elim (λ e. omega arith) (λ e. omega arith) (stripe-is s h)
-
   -- The one besides a given one is the first of the list that differs from it.
   pub besides : (s : ℕ) → on L d s ≡ true → Besides L d s (otherThan s (L .through d))
-  besides s h = ⊎-elim from-low from-high (stripe-is s h)
+  besides s h = ⊎-elim from-low from-high (on-which L two d l s h)
     where
       from-low : s ≡ two .low d → Besides L d s (otherThan s (L .through d))
       from-low e =
           let it : otherThan s (L .through d) ≡ two .high d =
           ap₂ otherThan e (two .two d l) ∙ other-first (two .low d) (two .high d) apart in
           record {
-            lies = ap (on L d) it ∙ on-high;
+            lies = ap (on L d) it ∙ on-high L two d l;
             differs = λ q. apart (sym it ∙ q ∙ e);
-            only = λ x k. ⊎-elim (λ f. inl (f ∙ sym e)) (λ f. inr (f ∙ sym it)) (stripe-is x k);
+            only = λ x k. ⊎-elim (λ f. inl (f ∙ sym e)) (λ f. inr (f ∙ sym it)) (on-which L two d l x k);
           }
 
       from-high : s ≡ two .high d → Besides L d s (otherThan s (L .through d))
@@ -92,9 +58,9 @@ module _ (L : Layout) (two : TwoStripes L) (d : ℕ) (l : d < L .disks) where
           let it : otherThan s (L .through d) ≡ two .low d =
           ap₂ otherThan e (two .two d l) ∙ other-second (two .low d) (two .high d) apart in
           record {
-            lies = ap (on L d) it ∙ on-low;
+            lies = ap (on L d) it ∙ on-low L two d l;
             differs = λ q. apart (sym e ∙ sym q ∙ it);
-            only = λ x k. ⊎-elim (λ f. inr (f ∙ sym it)) (λ f. inl (f ∙ sym e)) (stripe-is x k);
+            only = λ x k. ⊎-elim (λ f. inr (f ∙ sym it)) (λ f. inl (f ∙ sym e)) (on-which L two d l x k);
           }
 
 -- ---- one step
@@ -104,14 +70,6 @@ pub record Step (L : Layout) (c : ℕ → Bool) (r : Entry) : Type 0 where
   pub disk : r .disk < L .disks
   pub inside : c (r .disk) ≡ true
   pub lies : on L (r .disk) (r .stripe) ≡ true
-
--- Disk q is the only other disk of c on the stripe of r.
-pub record Partner (L : Layout) (c : ℕ → Bool) (r : Entry) (q : ℕ) : Type 0 where
-  pub disk : q < L .disks
-  pub inside : c q ≡ true
-  pub lies : on L q (r .stripe) ≡ true
-  pub differs : q ≡ r .disk → ⊥
-  pub only : (d : ℕ) → d < L .disks → c d ≡ true → on L d (r .stripe) ≡ true → (d ≡ r .disk) ⊎ (d ≡ q)
 
 -- Along the stripe to the only other disk of c there, to leave it by its other stripe.
 unfoldable pub next : Layout → (ℕ → Bool) → Entry → Entry
@@ -128,62 +86,61 @@ lowest-holds n t i l h =
     (below, lowest-is n t .found below)
 
 module _ (L : Layout) (c : ℕ → Bool) (paired : Paired L c) (r : Entry) (step : Step L c r) where
-  pub partner-is : Partner L c r (partner L c r)
+  -- The partner is the only other disk of c on the stripe.
+  pub partner-is : Other (L .disks) (λ i. c i && on L i (r .stripe)) (r .disk) (partner L c r)
   unfolding partner
   partner-is =
-      record {
-        disk = low .0;
-        inside = inside;
-        lies = lies;
-        differs = differs;
-        only =
-            λ d l h k.
-            no-third (L .disks) shares pair (r .disk) (step .disk) (and-both (step .inside) (step .lies))
-            q (low .0) (and-both inside lies) differs d l (and-both h k);
-      }
+      let (j, o) = paired-other L c paired (r .disk) (r .stripe) (step .disk) (step .inside) (step .lies) in
+      let (l, h) =
+      lowest-holds (L .disks) other j (o .inside)
+      (and-both (and-left (c j) (on L j (r .stripe)) (o .holds))
+      (and-both (and-right (c j) (on L j (r .stripe)) (o .holds)) (ap not (ne-eqb j (r .disk) (o .apart))))) in
+      subst (Other (L .disks) (λ i. c i && on L i (r .stripe)) (r .disk)) (sym (found j o l h)) o
     where
-      shares : ℕ → Bool
-      shares i = c i && on L i (r .stripe)
-
       other : ℕ → Bool
       other d = c d && (on L d (r .stripe) && not (eqb d (r .disk)))
 
-      pair : count (L .disks) shares ≡ 2
-      pair = paired (r .disk) (r .stripe) (step .disk) (step .inside) (step .lies)
+      found : (j : ℕ) → Other (L .disks) (λ i. c i && on L i (r .stripe)) (r .disk) j
+          → lowest (L .disks) other < L .disks → other (lowest (L .disks) other) ≡ true → lowest (L .disks) other ≡ j
+      found j o l h =
+          let q : ℕ = lowest (L .disks) other in
+          let rest : (on L q (r .stripe) && not (eqb q (r .disk))) ≡ true = and-right (c q) (on L q (r .stripe) && not (eqb q (r .disk))) h in
+          o .only q l
+          (and-both (and-left (c q) (on L q (r .stripe) && not (eqb q (r .disk))) h) (and-left (on L q (r .stripe)) (not (eqb q (r .disk))) rest))
+          (eqb-false q (r .disk) (not-true (eqb q (r .disk)) (and-right (on L q (r .stripe)) (not (eqb q (r .disk))) rest)))
 
-      q : ℕ
-      q = lowest (L .disks) other
+  pub partner-inside : c (partner L c r) ≡ true
+  partner-inside = and-left (c (partner L c r)) (on L (partner L c r) (r .stripe)) (partner-is .holds)
 
-      low : (q < L .disks) × (other q ≡ true)
-      low =
-          let (j, l, h, d) = another (L .disks) shares pair (r .disk) (step .disk) (and-both (step .inside) (step .lies)) in
-          lowest-holds (L .disks) other j l
-          (and-both (and-left (c j) (on L j (r .stripe)) h)
-          (and-both (and-right (c j) (on L j (r .stripe)) h) (ap not (ne-eqb j (r .disk) d))))
-
-      inside : c q ≡ true
-      inside = and-left (c q) (on L q (r .stripe) && not (eqb q (r .disk))) (low .1)
-
-      rest : (on L q (r .stripe) && not (eqb q (r .disk))) ≡ true
-      rest = and-right (c q) (on L q (r .stripe) && not (eqb q (r .disk))) (low .1)
-
-      lies : on L q (r .stripe) ≡ true
-      lies = and-left (on L q (r .stripe)) (not (eqb q (r .disk))) rest
-
-      differs : q ≡ r .disk → ⊥
-      differs = eqb-false q (r .disk) (not-true (eqb q (r .disk)) (and-right (on L q (r .stripe)) (not (eqb q (r .disk))) rest))
+  pub partner-lies : on L (partner L c r) (r .stripe) ≡ true
+  partner-lies = and-right (c (partner L c r)) (on L (partner L c r) (r .stripe)) (partner-is .holds)
 
   pub next-step : TwoStripes L → Step L c (next L c r)
   unfolding next
   next-step two =
-      let p = partner-is in
       record {
-        disk = p .disk;
-        inside = p .inside;
-        lies = besides L two (partner L c r) (p .disk) (r .stripe) (p .lies) .lies;
+        disk = partner-is .inside;
+        inside = partner-inside;
+        lies = besides L two (partner L c r) (partner-is .inside) (r .stripe) partner-lies .lies;
       }
 
 -- ---- a walk
+
+-- One of two, where it is not the other.
+is-left : {A B : Type 0} → A ⊎ B → (B → ⊥) → A
+is-left (inl a) h = a
+is-left (inr b) h = absurd (h b)
+
+is-right : {A B : Type 0} → A ⊎ B → (A → ⊥) → B
+is-right (inl a) h = absurd (h a)
+is-right (inr b) h = b
+
+is-other : (d a b : ℕ) → ((d ≡ a → ⊥) → d ≡ b) → (d ≡ a) ⊎ (d ≡ b)
+is-other d a b h = go (eqb d a) refl
+  where
+    go : (t : Bool) → eqb d a ≡ t → (d ≡ a) ⊎ (d ≡ b)
+    go true e = inl (eqb-true d a e)
+    go false e = inr (h (eqb-false d a e))
 
 -- A walk through c that never turns back, where no stripe holds a third disk of c and no disk has a third stripe.
 pub record Walk (L : Layout) (c : ℕ → Bool) (at : ℕ → Entry) : Type 0 where
@@ -210,31 +167,25 @@ module _ (L : Layout) (two : TwoStripes L) (c : ℕ → Bool) (paired : Paired L
   walk-is =
       record {
         step = walk-step;
-        there = λ i. met i .lies;
-        moves = λ i. met i .differs;
+        there = there;
+        moves = λ i. met i .apart;
         turns = λ i. left i .differs;
-        onlyDisk = λ i. met i .only;
+        onlyDisk = λ i d l h k. is-other d (walkFrom L c r i .disk) (partner L c (walkFrom L c r i)) (met i .only d l (and-both h k));
         onlyStripe = λ i. left i .only;
       }
     where
-      met : (i : ℕ) → Partner L c (walkFrom L c r i) (partner L c (walkFrom L c r i))
+      there : (i : ℕ) → on L (partner L c (walkFrom L c r i)) (walkFrom L c r i .stripe) ≡ true
+      there i = partner-lies L c paired (walkFrom L c r i) (walk-step i)
+
+      met : (i : ℕ) → Other (L .disks) (λ d. c d && on L d (walkFrom L c r i .stripe)) (walkFrom L c r i .disk) (partner L c (walkFrom L c r i))
       met i = partner-is L c paired (walkFrom L c r i) (walk-step i)
 
       left : (i : ℕ) → Besides L (partner L c (walkFrom L c r i)) (walkFrom L c r i .stripe) (walkFrom L c r (suc i) .stripe)
-      left i = besides L two (partner L c (walkFrom L c r i)) (met i .disk) (walkFrom L c r i .stripe) (met i .lies)
+      left i = besides L two (partner L c (walkFrom L c r i)) (met i .inside) (walkFrom L c r i .stripe) (there i)
 
 -- Entries i and j of a walk are the same.
 abbrev pub Same : (ℕ → Entry) → ℕ → ℕ → Type 0
 Same at i j = (at i .disk ≡ at j .disk) × (at i .stripe ≡ at j .stripe)
-
--- Of two one holds, and not the other.
-is-left : {A B : Type 0} → A ⊎ B → (B → ⊥) → A
-is-left (inl a) h = a
-is-left (inr b) h = absurd (h b)
-
-is-right : {A B : Type 0} → A ⊎ B → (A → ⊥) → B
-is-right (inl a) h = absurd (h a)
-is-right (inr b) h = b
 
 module _ (L : Layout) (c : ℕ → Bool) (at : ℕ → Entry) (walk : Walk L c at) where
   -- A disk left along the same stripe as another is that one or the one reached from there.
@@ -294,7 +245,7 @@ module _ (L : Layout) (c : ℕ → Bool) (at : ℕ → Entry) (walk : Walk L c a
   pub walk-bound : TwoStripes L → m < L .stripeBound
   walk-bound two =
       different-below (suc m) (L .stripeBound) (λ i. at i .stripe)
-      (λ i l. let s = walk .step i in stripe-below L two (at i .disk) (s .disk) (at i .stripe) (s .lies))
+      (λ i l. let s = walk .step i in on-bound L two (at i .disk) (s .disk) (at i .stripe) (s .lies))
       (λ i j l k. same-number (λ i. at i .stripe) m stripes-differ i j (omega arith) (omega arith))
 
   -- When it reaches its first disk again, it goes on as it began.
