@@ -1,18 +1,11 @@
 -- The text for what plan answers and the sheet that it writes.
 -- Assumes nothing.
 use mathlib.Core.List.{List, [], _∷_, _++_}
-use Prim.Native.Nat.{ℕ, _+_, _*_}
-use lib.Dec.{eqb}
-use lib.ListN.{getD}
-use Rattle.model.specs.Fold.{lowest}
+use Prim.Native.Nat.{ℕ}
 use Rattle.model.specs.Listing.{decimal, repairWord, fatalWord, refusedWord, listed}
-use Rattle.sheet.specs.Record.{records}
+use Rattle.sheet.specs.Record.{records, recordCount}
 use Rattle.model.specs.declared.Outcome.{Outcome}
 use Rattle.model.specs.declared.Outcome.the-variants.{Repairs, Fatal, Refused}
-
--- The number of records: the byte that leads to a record is 0 where there is none.
-unfoldable pub recordCount : List ℕ → ℕ
-recordCount s = lowest 32 (λ k. eqb (getD s (3 * k + 1) 0) 0)
 
 -- A disk and its stripe in a line.
 unfoldable pub entryLine : ℕ → ℕ → List ℕ

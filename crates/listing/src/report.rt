@@ -1,13 +1,13 @@
 // The lines of the report on a plan.
 ghost use mathlib.Core.Path.{_≡_};
 ghost use mathlib.Core.List.{[], _∷_, _++_};
-ghost use Prim.Native.Nat.{ℕ, _+_, _*_, _≤_, _<_};
-ghost use lib.ListN.{length, getD};
+ghost use Prim.Native.Nat.{_+_, _*_, _≤_, _<_};
+ghost use lib.ListN.{length};
 ghost use Rattle.model.specs.Listing.{decimal, refusedWord, entryLines, listed as Listing·listed};
 ghost use Rattle.model.specs.Rebuild.{outcomeStatus};
 ghost use Rattle.sheet.specs.Record.{records};
 ghost use Rattle.listing.specs.Written.{Written};
-ghost use Rattle.listing.specs.Report.{recordCount, entryLine, report as Report·report};
+ghost use Rattle.listing.specs.Report.{entryLine, report as Report·report};
 use crate::text;
 use model::Outcome;
 
@@ -24,26 +24,9 @@ fn line(out: &mut [u8], at: usize, disk: usize, stripe: usize) -> usize
     text::byte(out, end, b'\n')
 }
 
-// The number of records of a sheet. What a sheet holds are bytes, so that its numbers have three digits at most.
-fn record_count(sheet: &[u8]) -> usize
-    requires { ⌜ length (now sheet) ≡ 98 ⌝ }
-    ensures number { λ r. ⌜ r ≡ recordCount (now (sheet .entry)) ⌝ }
-    ensures bytes { λ r. ⌜ ((i : ℕ) → getD (now (sheet .entry)) i 0 < 256) ⌝ }
-{
-    let mut k = 0;
-    while k < 32 {
-        if sheet[3 * k + 1] == 0 {
-            break;
-        }
-        k += 1;
-    }
-    k
-}
-
 // The first `count` records, a line each.
 fn lines(out: &mut [u8], at: usize, sheet: &[u8], count: usize) -> usize
     requires { ⌜ length (now sheet) ≡ 98 ⌝ }
-    requires { ⌜ ((i : ℕ) → getD (now sheet) i 0 < 256) ⌝ }
     requires { ⌜ count ≤ 32 ⌝ }
     requires { ⌜ at + 8 * count ≤ length (now out) ⌝ }
     ensures { λ r. ⌜ Written (now (out .entry)) at (entryLines (records (now (sheet .entry)) count)) (now (out .exit)) r ⌝ }
@@ -63,7 +46,6 @@ fn lines(out: &mut [u8], at: usize, sheet: &[u8], count: usize) -> usize
 fn listed(out: &mut [u8], word: &[u8], sheet: &[u8], count: usize) -> usize
     requires { ⌜ length (now word) ≤ 8 ⌝ }
     requires { ⌜ length (now sheet) ≡ 98 ⌝ }
-    requires { ⌜ ((i : ℕ) → getD (now sheet) i 0 < 256) ⌝ }
     requires { ⌜ count ≤ 32 ⌝ }
     requires { ⌜ length (now out) ≡ 320 ⌝ }
     ensures { λ r. ⌜
@@ -94,7 +76,7 @@ pub fn report(out: &mut [u8], answer: Outcome, sheet: &[u8]) -> usize
     requires { ⌜ length (now out) ≡ 320 ⌝ }
     ensures { λ r. ⌜ Written (now (out .entry)) 0 (Report·report answer (now (sheet .entry))) (now (out .exit)) r ⌝ }
 {
-    let count = record_count(sheet);
+    let count = sheet::record_count(sheet);
     match answer {
         Outcome::Repairs(_) => listed(out, b"repair ", sheet, count),
         Outcome::Fatal(_) => listed(out, b"fatal ", sheet, count),
