@@ -32,22 +32,40 @@ fn fatal_sets(size: Size, map: &mut [u8], from: usize, more: usize) -> usize {
 fn side_two() {
     let mut map = [0u8; 9];
     let size = Size { side: 2 };
-    say::number(b"n = 2, fatal sets of three", fatal_sets(size, &mut map, 0, 3));
-    say::number(b"n = 2, fatal sets of four", fatal_sets(size, &mut map, 0, 4));
+    say::number(
+        b"n = 2, fatal sets of three",
+        fatal_sets(size, &mut map, 0, 3),
+    );
+    say::number(
+        b"n = 2, fatal sets of four",
+        fatal_sets(size, &mut map, 0, 4),
+    );
 }
 
 fn side_three() {
     let mut map = [0u8; 16];
     let size = Size { side: 3 };
-    say::number(b"n = 3, fatal sets of three", fatal_sets(size, &mut map, 0, 3));
-    say::number(b"n = 3, fatal sets of four", fatal_sets(size, &mut map, 0, 4));
+    say::number(
+        b"n = 3, fatal sets of three",
+        fatal_sets(size, &mut map, 0, 3),
+    );
+    say::number(
+        b"n = 3, fatal sets of four",
+        fatal_sets(size, &mut map, 0, 4),
+    );
 }
 
 fn side_four() {
     let mut map = [0u8; 25];
     let size = Size { side: 4 };
-    say::number(b"n = 4, fatal sets of three", fatal_sets(size, &mut map, 0, 3));
-    say::number(b"n = 4, fatal sets of four", fatal_sets(size, &mut map, 0, 4));
+    say::number(
+        b"n = 4, fatal sets of three",
+        fatal_sets(size, &mut map, 0, 3),
+    );
+    say::number(
+        b"n = 4, fatal sets of four",
+        fatal_sets(size, &mut map, 0, 4),
+    );
 }
 
 pub fn run() {

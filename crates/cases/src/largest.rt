@@ -60,12 +60,18 @@ pub fn run() {
     let mut map = [0u8; 256];
     let mut sheet = [0u8; 98];
     fill(&mut array);
-    say::status(b"seal the largest array", array::seal(size, 4096, &mut array));
+    say::status(
+        b"seal the largest array",
+        array::seal(size, 4096, &mut array),
+    );
     say::checked(b"check it", array::check(size, 4096, &array));
     let sealed = array;
     cross(&mut map);
     spoil(&mut array, &map);
     say::outcome(b"plan 31 repairs", plan::plan(size, &map, &mut sheet));
-    say::outcome(b"rebuild 31 disks", rebuild::rebuild(size, 4096, &mut array, &map, &mut sheet));
+    say::outcome(
+        b"rebuild 31 disks",
+        rebuild::rebuild(size, 4096, &mut array, &map, &mut sheet),
+    );
     say::number(b"bytes not restored", differences(&array, &sealed));
 }

@@ -21,7 +21,10 @@ fn calls(side: usize, block: usize, array: &mut [u8], map: &[u8], new: &[u8]) {
     say::checked(b"check", array::check(size, block, array));
     say::status(b"write", array::write(size, block, array, 0, new));
     say::number(b"look", array::look(size, block, array, map, 0).len());
-    say::outcome(b"rebuild", rebuild::rebuild(size, block, array, map, &mut sheet));
+    say::outcome(
+        b"rebuild",
+        rebuild::rebuild(size, block, array, map, &mut sheet),
+    );
 }
 
 // What plan answers, which takes no block.
@@ -72,14 +75,20 @@ fn map_byte() {
     let last = [0u8, 0, 0, 0, 0, 0, 0, 0, 2];
     planned(b"plan with 2 in the map", 2, &first);
     planned(b"plan with 2 at the map's end", 2, &last);
-    say::outcome(b"rebuild with 2 in the map", rebuild::rebuild(size, 1, &mut array, &first, &mut sheet));
+    say::outcome(
+        b"rebuild with 2 in the map",
+        rebuild::rebuild(size, 1, &mut array, &first, &mut sheet),
+    );
 }
 
 // Disk 2 is the parity of row 0, so that no block is written there.
 fn parity_disk() {
     let size = Size { side: 2 };
     let mut array = [1u8, 2, 3, 4, 8, 12, 5, 10, 15];
-    say::status(b"write to disk 2", array::write(size, 1, &mut array, 2, b"a"));
+    say::status(
+        b"write to disk 2",
+        array::write(size, 1, &mut array, 2, b"a"),
+    );
     say::checked(b"check after it", array::check(size, 1, &array));
 }
 

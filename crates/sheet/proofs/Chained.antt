@@ -47,3 +47,7 @@ record-count-is kind w fits =
     link k h =
         getD-tabulate 98 (λ i. getD (kind ∷ chain 1 w) i 0) (3 * k + 1) (omega arith)
         ∙ ap (λ (i : ℕ). getD (kind ∷ chain 1 w) i 0) (let e : 3 * k + 1 ≡ suc (3 * k) = omega arith in e)
+
+pub record-count-within : (s : List ℕ) → recordCount s ≤ 32
+unfolding recordCount
+record-count-within s = lowest-is 32 _ .within

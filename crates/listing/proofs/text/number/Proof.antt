@@ -1,57 +1,49 @@
+-- `listing::text::number` meets its contract: one, two or three digits.
+-- Assumes nothing.
 use borrow.Author.Needs.{needs}
+use Rattle.listing.proofs.Joined.{both-written, written-as, decimal-ones, decimal-tens, decimal-hundreds}
 use Rattle.listing.proofs.text.number.Statement.{statement}
 use Rattle.listing.proofs.text.number.Tie as tie
-use Rattle.listing.proofs.text.number.Reads as reads
-use Rattle.listing.proofs.text.number.Lts as lts
-use Rattle.listing.proofs.text.digit.Reads as digit-reads
 
--- src/text.rt:46:9
 digit-requires : tie.Need-digit-requires
 digit-requires c κs = search needs
 
--- src/text.rt:46:9
 same-length : tie.Need-same-length
 same-length c = search needs
 
--- src/text.rt:46:9
 returns : tie.Need-returns
-returns c = ?
+returns c = written-as (decimal-ones _ (c .before .before .before .before .if1 .taken)) (c .before .before .digit .ensures)
 
--- src/text.rt:49:13
 digit-requires-2 : tie.Need-digit-requires-2
 digit-requires-2 c κs = search needs
 
--- src/text.rt:50:9
 digit-requires-3 : tie.Need-digit-requires-3
 digit-requires-3 c κs = search needs
 
--- src/text.rt:50:9
 same-length-2 : tie.Need-same-length-2
 same-length-2 c = search needs
 
--- src/text.rt:50:9
 returns-2 : tie.Need-returns-2
-returns-2 c = ?
+returns-2 c =
+    written-as (decimal-tens _ (c .before .before .before .before .before .before .before .before .before .if1 .left) (c .before .before .before .before .before .before .before .before .if2 .taken))
+    (both-written (c .before .before .before .before .before .before .digit2 .ensures) (c .before .before .digit3 .ensures))
 
--- src/text.rt:52:9
 digit-requires-4 : tie.Need-digit-requires-4
 digit-requires-4 c κs = search needs
 
--- src/text.rt:53:9
 digit-requires-5 : tie.Need-digit-requires-5
 digit-requires-5 c κs = search needs
 
--- src/text.rt:54:5
 digit-requires-6 : tie.Need-digit-requires-6
 digit-requires-6 c κs = search needs
 
--- src/text.rt:40:1
 same-length-3 : tie.Need-same-length-3
 same-length-3 c = search needs
 
--- src/text.rt:40:1
 returns-3 : tie.Need-returns-3
-returns-3 c = ?
+returns-3 c =
+    written-as (decimal-hundreds _ (c .before .before .before .before .before .before .before .before .before .before .before .before .if2 .left))
+    (both-written (c .before .before .before .before .before .before .before .before .before .before .digit4 .ensures) (both-written (c .before .before .before .before .before .before .digit5 .ensures) (c .before .before .digit6 .ensures)))
 
 pub number-spec : {M : Type 1} → statement M
 number-spec =

@@ -1,53 +1,54 @@
+-- `listing::text::word` meets its contract: the letters so far are put.
+-- Assumes nothing.
+use mathlib.Core.Path.{refl}
+use Prim.Native.Nat.{_+_, _-_, _≤_}
+use native.Mathlib.Omega.{arith}
+use borrow.Author.Needs.{needs}
+use lib.ListN.{length, take}
+use lib.Seq.{take-all}
+use Rattle.listing.specs.Written.{Written}
+use Rattle.listing.proofs.Joined.{letter-written, written-as, same-room}
 use Rattle.listing.proofs.text.word.Statement.{statement}
 use Rattle.listing.proofs.text.word.Tie as tie
-use Rattle.listing.proofs.text.word.Reads as reads
-use Rattle.listing.proofs.text.word.Lts as lts
 
 abbrev Inv-loop : tie.InvT-loop
-Inv-loop out₀ at letters i₀ out i = ?
+Inv-loop out₀ at letters i₀ out i =
+    (i ≤ length letters) × (at + length letters ≤ length out₀) × Written out₀ at (take i letters) out (at + i)
 
 abbrev μ-loop : tie.MeasureT-loop
-μ-loop out₀ at letters i₀ out i = ?
+μ-loop out₀ at letters i₀ out i = length letters - i
 
--- src/text.rt:23:5
 loop-holds : tie.Need-loop-holds Inv-loop μ-loop
-loop-holds c = ?
+loop-holds c = (omega arith, c .pre, record { bytes = refl; end = refl })
 
--- src/text.rt:24:23
 shared-slice-read-out : tie.Need-shared-slice-read-out Inv-loop μ-loop
-shared-slice-read-out c = ?
+shared-slice-read-out c = omega arith
 
--- src/text.rt:24:13
 add-out : tie.Need-add-out Inv-loop μ-loop
-add-out c = ?
+add-out c = search needs
 
--- src/text.rt:24:9
 slice-write-out : tie.Need-slice-write-out Inv-loop μ-loop
-slice-write-out c = ?
+slice-write-out c = let long = same-room (c .before .before .loop .inv .2) in omega arith
 
--- src/text.rt:25:9
 add-i : tie.Need-add-i Inv-loop μ-loop
-add-i c = ?
+add-i c = omega arith
 
--- src/text.rt:23:5
 loop-less : tie.Need-loop-less Inv-loop μ-loop
-loop-less c = ?
+loop-less c = omega arith
 
--- src/text.rt:23:5
 loop-again : tie.Need-loop-again Inv-loop μ-loop
-loop-again c = ?
+loop-again c =
+    let l = c .before .before .loop in
+    (omega arith, l .inv .1, letter-written _ (c .before .loop-test .taken) (l .inv .2))
 
--- src/text.rt:27:5
 add-result : tie.Need-add-result Inv-loop μ-loop
-add-result c = ?
+add-result c = search needs
 
--- src/text.rt:18:1
 same-length : tie.Need-same-length Inv-loop μ-loop
-same-length c = ?
+same-length c = same-room (c .before .loop .inv .2)
 
--- src/text.rt:18:1
 returns : tie.Need-returns Inv-loop μ-loop
-returns c = ?
+returns c = written-as (take-all _ _ (c .loop-test .left)) (c .before .loop .inv .2)
 
 pub word-spec : {M : Type 1} → statement M
 word-spec =
