@@ -15,4 +15,5 @@ pub mod Write
 pub mod Restore
 pub mod Accept
 pub mod Demand2
+pub mod Demand3
 pub mod Cases

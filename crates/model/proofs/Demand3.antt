@@ -1,0 +1,184 @@
+-- Demand 3 holds of what plan and rebuild are defined to give.
+-- Assumes nothing.
+use mathlib.Core.Path.{_≡_, refl, sym, _∙_, ap, subst}
+use mathlib.Core.Bool.{Bool, true, false, cond, true≢false}
+use mathlib.Core.Logic.{_↔_}
+use mathlib.Core.List.{List}
+use Prim.Native.Nat.{ℕ, _+_, _*_, _≤_, _<_}
+use native.Mathlib.Nat.{le-of-lt}
+use native.Mathlib.Omega.{arith}
+use lib.ListN.{length}
+use Rattle.model.specs.Fold.{count}
+use Rattle.model.specs.Stripes.{Layout, whole, TwoStripes}
+use Rattle.model.specs.Grid.{gridOf, disks, sizeFits}
+use Rattle.model.specs.Refusal.{refusal}
+use Rattle.model.specs.Repair.{erasures, repairs, lost, fatal, rebuilt, zeroed, consistent, Belongs, Ambiguous}
+use Rattle.model.specs.Cycle.{shownCycle, Loop}
+use Rattle.model.specs.Sheet.{sheetOf, blankSheet}
+use Rattle.model.specs.Rebuild.{planTests, mapOutcome, mapSheet, planOutcome, planSheet, outcomeStatus, rebuildTests, rebuildRefusal, repairedArray, choose, rebuildOutcome, rebuildArray, rebuildSheet}
+use Rattle.model.specs.Demand3.{RepairSheet, LoopSheet, Results, Demand3}
+use Rattle.model.specs.declared.Size.{Size}
+use Rattle.model.specs.declared.Outcome.{Outcome}
+use Rattle.model.specs.declared.Outcome.the-variants.{Repairs, Fatal, Refused}
+use Rattle.model.proofs.Fold.{by-cases}
+use Rattle.model.proofs.Grid.{block-fits, gridOf-two, grid-disks}
+use Rattle.model.proofs.Refusal.{given-accepted, ArrayFits, array-tests}
+use Rattle.model.proofs.Peel.{repairs-peels, repairs-count, in-order}
+use Rattle.model.proofs.Degree.{grid-repairs-bound}
+use Rattle.model.proofs.Core.{ambiguous}
+use Rattle.model.proofs.Restore.{Small, grid-bounded, grid-sized, whole-inside, judge, restored-is, unique}
+use Rattle.model.proofs.Loop.{shown-loop, shown-few, few-restored}
+
+-- Numbers that are not those of the outcome.
+zero-six : (_≡_ {A = ℕ} 0 6) → ⊥
+zero-six e = omega arith
+
+zero-seven : (_≡_ {A = ℕ} 0 7) → ⊥
+zero-seven e = omega arith
+
+six-seven : (_≡_ {A = ℕ} 6 7) → ⊥
+six-seven e = omega arith
+
+seven-six : (_≡_ {A = ℕ} 7 6) → ⊥
+seven-six e = omega arith
+
+-- The three things that come of a loss where the tests refuse nothing.
+module _ (z : Size) (B : ℕ) (a m : List ℕ) (small : Small a) (fits : ArrayFits z B (length a)) where
+  L : Layout
+  L = gridOf z
+
+  e : ℕ → Bool
+  e = erasures m
+
+  -- Which loss is fatal.
+  is-ambiguous : fatal (gridOf z) (erasures m) ≡ true → Ambiguous (gridOf z) (whole B) (erasures m)
+  unfolding whole
+  is-ambiguous lossy =
+      let block = block-fits B (fits .block) in
+      ambiguous (gridOf z) (gridOf-two z (fits .size)) (whole B) (erasures m) lossy (block .low) (whole-inside B)
+
+  not-ambiguous : fatal (gridOf z) (erasures m) ≡ false → Ambiguous (gridOf z) (whole B) (erasures m) → ⊥
+  not-ambiguous fine = unique (gridOf z) (grid-bounded z (fits .size)) (erasures m) fine B
+
+  three-or-fewer : count (disks z) (erasures m) ≤ 3 → Ambiguous (gridOf z) (whole B) (erasures m) → ⊥
+  three-or-fewer few = not-ambiguous (few-restored z (fits .size) (erasures m) few)
+
+  -- The sheets.
+  loop-sheet : fatal (gridOf z) (erasures m) ≡ true → LoopSheet z (erasures m) (sheetOf 2 (shownCycle (gridOf z) (erasures m)))
+  loop-sheet lossy = (shownCycle (gridOf z) (erasures m), refl, shown-few z (fits .size) (erasures m) lossy, shown-loop z (fits .size) (erasures m) lossy)
+
+  repair-sheet : fatal (gridOf z) (erasures m) ≡ false → RepairSheet (gridOf z) (erasures m) (sheetOf 1 (repairs (gridOf z) (erasures m)))
+  repair-sheet fine = (
+    repairs (gridOf z) (erasures m),
+    refl,
+    le-of-lt (grid-repairs-bound z (fits .size) (erasures m) _ (repairs-peels (gridOf z) (erasures m))),
+    repairs-count (gridOf z) (erasures m) fine,
+    in-order (gridOf z) (gridOf-two z (fits .size)) (erasures m) fine,
+  )
+
+  -- A fatal loss.
+  when-fatal : fatal (gridOf z) (erasures m) ≡ true
+      → Demand3 z B a m
+      (record {
+        planned = Fatal (lost (gridOf z) (erasures m));
+        planSheet = sheetOf 2 (shownCycle (gridOf z) (erasures m));
+        rebuilt = Fatal (lost (gridOf z) (erasures m));
+        array = a;
+        sheet = sheetOf 2 (shownCycle (gridOf z) (erasures m));
+      })
+  unfolding outcomeStatus
+  when-fatal lossy =
+      let both = is-ambiguous lossy in
+      record {
+        planFatal = (λ s. both, λ am. refl);
+        rebuildFatal = (λ s. both, λ am. refl);
+        kept = λ s. refl;
+        planLoop = λ s. loop-sheet lossy;
+        rebuildLoop = λ s. loop-sheet lossy;
+        planRepairs = λ no. absurd (no both);
+        restored = λ no b word agree. absurd (no both);
+        contradicted = (λ s. absurd (six-seven s), λ h. absurd (h .0 both));
+        zeros = λ s. absurd (six-seven s);
+        three = three-or-fewer;
+      }
+
+  -- The survivors belong to a sealed array.
+  when-restored : fatal (gridOf z) (erasures m) ≡ false → consistent (gridOf z) (whole B) (repairedArray z B a m) ≡ true
+      → Demand3 z B a m
+      (record {
+        planned = Repairs (length (repairs (gridOf z) (erasures m)));
+        planSheet = sheetOf 1 (repairs (gridOf z) (erasures m));
+        rebuilt = Repairs (length (repairs (gridOf z) (erasures m)));
+        array = repairedArray z B a m;
+        sheet = sheetOf 1 (repairs (gridOf z) (erasures m));
+      })
+  unfolding outcomeStatus repairedArray
+  when-restored fine sealed =
+      let sized = grid-sized z B a (fits .long) in
+      let belongs = judge (gridOf z) (grid-bounded z (fits .size)) (erasures m) fine (whole B) (whole-inside B) a sized small .0 sealed in
+      record {
+        planFatal = (λ s. absurd (zero-six s), λ am. absurd (not-ambiguous fine am));
+        rebuildFatal = (λ s. absurd (zero-six s), λ am. absurd (not-ambiguous fine am));
+        kept = λ s. absurd (zero-six s);
+        planLoop = λ s. absurd (zero-six s);
+        rebuildLoop = λ s. absurd (zero-six s);
+        planRepairs = λ no. (ap Repairs (repairs-count (gridOf z) (erasures m) fine), repair-sheet fine);
+        restored = λ no b word agree.
+            (refl, refl, restored-is (gridOf z) (grid-bounded z (fits .size)) (erasures m) fine B a b sized word agree);
+        contradicted = (λ s. absurd (zero-seven s), λ h. absurd (h .1 belongs));
+        zeros = λ s. absurd (zero-seven s);
+        three = three-or-fewer;
+      }
+
+  -- They belong to none.
+  when-contradicted : fatal (gridOf z) (erasures m) ≡ false → consistent (gridOf z) (whole B) (repairedArray z B a m) ≡ false
+      → Demand3 z B a m
+      (record {
+        planned = Repairs (length (repairs (gridOf z) (erasures m)));
+        planSheet = sheetOf 1 (repairs (gridOf z) (erasures m));
+        rebuilt = Refused 7;
+        array = zeroed (whole B) a (erasures m);
+        sheet = blankSheet;
+      })
+  unfolding outcomeStatus repairedArray
+  when-contradicted fine unsealed =
+      let sized = grid-sized z B a (fits .long) in
+      let judged = judge (gridOf z) (grid-bounded z (fits .size)) (erasures m) fine (whole B) (whole-inside B) a sized small in
+      let none : Belongs (gridOf z) (whole B) (erasures m) a → ⊥ = λ h. true≢false (sym (judged .1 h) ∙ unsealed) in
+      record {
+        planFatal = (λ s. absurd (zero-six s), λ am. absurd (not-ambiguous fine am));
+        rebuildFatal = (λ s. absurd (seven-six s), λ am. absurd (not-ambiguous fine am));
+        kept = λ s. absurd (seven-six s);
+        planLoop = λ s. absurd (zero-six s);
+        rebuildLoop = λ s. absurd (seven-six s);
+        planRepairs = λ no. (ap Repairs (repairs-count (gridOf z) (erasures m) fine), repair-sheet fine);
+        restored = λ no b word agree. absurd (none (b, word, agree));
+        contradicted = (λ s. (not-ambiguous fine, none), λ h. refl);
+        zeros = λ s. (refl, refl);
+        three = three-or-fewer;
+      }
+
+-- What plan and rebuild are defined to give.
+unfoldable pub resultsOf : Size → ℕ → (a m planSheet sheet : List ℕ) → Results
+resultsOf z B a m s₁ s₂ =
+    record {
+      planned = planOutcome z m s₁;
+      planSheet = planSheet z m s₁;
+      rebuilt = rebuildOutcome z B a m s₂;
+      array = rebuildArray z B a m s₂;
+      sheet = rebuildSheet z B a m s₂;
+    }
+
+pub demand3 : (z : Size) (B : ℕ) (a m s₁ s₂ : List ℕ) → Small a
+    → refusal (planTests z m (length s₁)) ≡ 0 → refusal (rebuildTests z B (length a) m (length s₂)) ≡ 0
+    → Demand3 z B a m (resultsOf z B a m s₁ s₂)
+unfolding resultsOf planOutcome planSheet rebuildOutcome rebuildArray rebuildSheet rebuildRefusal choose mapOutcome mapSheet rebuildTests
+demand3 z B a m s₁ s₂ small planOk rebuildOk =
+    let fits : ArrayFits z B (length a) = array-tests z B (length a) _ rebuildOk .0 in
+    go fits (fatal (gridOf z) (erasures m)) refl (consistent (gridOf z) (whole B) (repairedArray z B a m)) refl
+  where
+    go : ArrayFits z B (length a) → (f : Bool) → fatal (gridOf z) (erasures m) ≡ f
+        → (c : Bool) → consistent (gridOf z) (whole B) (repairedArray z B a m) ≡ c → Demand3 z B a m (resultsOf z B a m s₁ s₂)
+    go fits true p c q = rw (planOk, rebuildOk, p) (when-fatal z B a m small fits p)
+    go fits false p true q = rw (planOk, rebuildOk, p, q) (when-restored z B a m small fits p q)
+    go fits false p false q = rw (planOk, rebuildOk, p, q) (when-contradicted z B a m small fits p q)
