@@ -9,6 +9,7 @@ pub mod Core
 pub mod Counts
 pub mod Walk
 pub mod Trace
+pub mod Loop
 pub mod Seal
 pub mod Check
 pub mod Write
