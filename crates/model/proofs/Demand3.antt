@@ -1,33 +1,30 @@
 -- Demand 3 holds of what plan and rebuild are defined to give.
 -- Assumes nothing.
-use mathlib.Core.Path.{_≡_, refl, sym, _∙_, ap, subst}
-use mathlib.Core.Bool.{Bool, true, false, cond, true≢false}
-use mathlib.Core.Logic.{_↔_}
+use mathlib.Core.Path.{_≡_, refl, sym, _∙_, ap}
+use mathlib.Core.Bool.{Bool, true, false, true≢false}
 use mathlib.Core.List.{List}
-use Prim.Native.Nat.{ℕ, _+_, _*_, _≤_, _<_}
+use Prim.Native.Nat.{ℕ, _≤_}
 use native.Mathlib.Nat.{le-of-lt}
 use native.Mathlib.Omega.{arith}
 use lib.ListN.{length}
 use Rattle.model.specs.Fold.{count}
-use Rattle.model.specs.Stripes.{Layout, whole, TwoStripes}
-use Rattle.model.specs.Grid.{gridOf, disks, sizeFits}
+use Rattle.model.specs.Stripes.{whole}
+use Rattle.model.specs.Grid.{gridOf, disks}
 use Rattle.model.specs.Refusal.{refusal}
 use Rattle.model.specs.Repair.{erasures, repairs, lost, fatal, rebuilt, zeroed, consistent, Belongs, Ambiguous}
-use Rattle.model.specs.Cycle.{shownCycle, Loop}
+use Rattle.model.specs.Cycle.{shownCycle}
 use Rattle.model.specs.Sheet.{sheetOf, blankSheet}
 use Rattle.model.specs.Rebuild.{planTests, mapOutcome, mapSheet, planOutcome, planSheet, outcomeStatus, rebuildTests, rebuildRefusal, repairedArray, choose, rebuildOutcome, rebuildArray, rebuildSheet}
 use Rattle.model.specs.Demand3.{RepairSheet, LoopSheet, Results, Demand3}
 use Rattle.model.specs.declared.Size.{Size}
-use Rattle.model.specs.declared.Outcome.{Outcome}
 use Rattle.model.specs.declared.Outcome.the-variants.{Repairs, Fatal, Refused}
-use Rattle.model.proofs.Fold.{by-cases}
 use Rattle.model.proofs.Grid.{block-fits, gridOf-two, grid-disks}
-use Rattle.model.proofs.Refusal.{given-accepted, ArrayFits, array-tests}
+use Rattle.model.proofs.Refusal.{ArrayFits, array-tests}
 use Rattle.model.proofs.Peel.{repairs-peels, repairs-count, in-order}
 use Rattle.model.proofs.Degree.{grid-repairs-bound}
 use Rattle.model.proofs.Core.{ambiguous}
 use Rattle.model.proofs.Restore.{Small, grid-bounded, grid-sized, whole-inside, judge, restored-is, unique}
-use Rattle.model.proofs.Loop.{shown-loop, shown-few, few-restored}
+use Rattle.model.proofs.Loop.{shown-loop, shown-fits, three}
 
 -- Numbers that are not those of the outcome.
 zero-six : (_≡_ {A = ℕ} 0 6) → ⊥
@@ -44,12 +41,6 @@ seven-six e = omega arith
 
 -- The three things that come of a loss where the tests refuse nothing.
 module _ (z : Size) (B : ℕ) (a m : List ℕ) (small : Small a) (fits : ArrayFits z B (length a)) where
-  L : Layout
-  L = gridOf z
-
-  e : ℕ → Bool
-  e = erasures m
-
   -- Which loss is fatal.
   is-ambiguous : fatal (gridOf z) (erasures m) ≡ true → Ambiguous (gridOf z) (whole B) (erasures m)
   unfolding whole
@@ -61,20 +52,23 @@ module _ (z : Size) (B : ℕ) (a m : List ℕ) (small : Small a) (fits : ArrayFi
   not-ambiguous fine = unique (gridOf z) (grid-bounded z (fits .size)) (erasures m) fine B
 
   three-or-fewer : count (disks z) (erasures m) ≤ 3 → Ambiguous (gridOf z) (whole B) (erasures m) → ⊥
-  three-or-fewer few = not-ambiguous (few-restored z (fits .size) (erasures m) few)
+  three-or-fewer few = not-ambiguous (three z (fits .size) (erasures m) few)
 
   -- The sheets.
   loop-sheet : fatal (gridOf z) (erasures m) ≡ true → LoopSheet z (erasures m) (sheetOf 2 (shownCycle (gridOf z) (erasures m)))
-  loop-sheet lossy = (shownCycle (gridOf z) (erasures m), refl, shown-few z (fits .size) (erasures m) lossy, shown-loop z (fits .size) (erasures m) lossy)
+  loop-sheet lossy = (shownCycle (gridOf z) (erasures m), refl, shown-fits z (fits .size) (erasures m) lossy, shown-loop z (fits .size) (erasures m) lossy)
 
   repair-sheet : fatal (gridOf z) (erasures m) ≡ false → RepairSheet (gridOf z) (erasures m) (sheetOf 1 (repairs (gridOf z) (erasures m)))
   repair-sheet fine = (
     repairs (gridOf z) (erasures m),
     refl,
-    le-of-lt (grid-repairs-bound z (fits .size) (erasures m) _ (repairs-peels (gridOf z) (erasures m))),
+    le-of-lt (grid-repairs-bound z (fits .size) (erasures m) (repairs (gridOf z) (erasures m)) (repairs-peels (gridOf z) (erasures m))),
     repairs-count (gridOf z) (erasures m) fine,
     in-order (gridOf z) (gridOf-two z (fits .size)) (erasures m) fine,
   )
+
+  counted : fatal (gridOf z) (erasures m) ≡ false → length (repairs (gridOf z) (erasures m)) ≡ count (disks z) (erasures m)
+  counted fine = repairs-count (gridOf z) (erasures m) fine ∙ ap (λ (n : ℕ). count n (erasures m)) (grid-disks z)
 
   -- A fatal loss.
   when-fatal : fatal (gridOf z) (erasures m) ≡ true
@@ -122,7 +116,7 @@ module _ (z : Size) (B : ℕ) (a m : List ℕ) (small : Small a) (fits : ArrayFi
         kept = λ s. absurd (zero-six s);
         planLoop = λ s. absurd (zero-six s);
         rebuildLoop = λ s. absurd (zero-six s);
-        planRepairs = λ no. (ap Repairs (repairs-count (gridOf z) (erasures m) fine), repair-sheet fine);
+        planRepairs = λ no. (ap Repairs (counted fine), repair-sheet fine);
         restored = λ no b word agree.
             (refl, refl, restored-is (gridOf z) (grid-bounded z (fits .size)) (erasures m) fine B a b sized word agree);
         contradicted = (λ s. absurd (zero-seven s), λ h. absurd (h .1 belongs));
@@ -151,7 +145,7 @@ module _ (z : Size) (B : ℕ) (a m : List ℕ) (small : Small a) (fits : ArrayFi
         kept = λ s. absurd (seven-six s);
         planLoop = λ s. absurd (zero-six s);
         rebuildLoop = λ s. absurd (seven-six s);
-        planRepairs = λ no. (ap Repairs (repairs-count (gridOf z) (erasures m) fine), repair-sheet fine);
+        planRepairs = λ no. (ap Repairs (counted fine), repair-sheet fine);
         restored = λ no b word agree. absurd (none (b, word, agree));
         contradicted = (λ s. (not-ambiguous fine, none), λ h. refl);
         zeros = λ s. (refl, refl);
