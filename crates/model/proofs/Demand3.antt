@@ -1,158 +1,91 @@
--- Demand 3 holds of what plan and rebuild are defined to give.
+-- Demand 3: what plan and rebuild promise of a loss, for every size, block, map and content, and the theorems about stripe
+-- systems that it rests on.
 -- Assumes nothing.
-use mathlib.Core.Path.{_≡_, refl, sym, _∙_, ap}
-use mathlib.Core.Bool.{Bool, true, false, true≢false}
+use mathlib.Core.Path.{_≡_, refl}
+use mathlib.Core.Bool.{Bool, true, false}
+use mathlib.Core.Logic.{_↔_}
 use mathlib.Core.List.{List}
-use Prim.Native.Nat.{ℕ, _≤_}
-use native.Mathlib.Nat.{le-of-lt}
+use Prim.Native.Nat.{ℕ, _+_, _*_, _≤_, _<_}
 use native.Mathlib.Omega.{arith}
 use lib.ListN.{length}
 use Rattle.model.specs.Fold.{count}
-use Rattle.model.specs.Stripes.{whole}
-use Rattle.model.specs.Grid.{gridOf, disks}
-use Rattle.model.specs.Refusal.{refusal}
-use Rattle.model.specs.Repair.{erasures, repairs, lost, fatal, rebuilt, zeroed, consistent, Belongs, Ambiguous}
-use Rattle.model.specs.Cycle.{shownCycle}
-use Rattle.model.specs.Sheet.{sheetOf, blankSheet}
-use Rattle.model.specs.Rebuild.{planTests, mapOutcome, mapSheet, planOutcome, planSheet, outcomeStatus, rebuildTests, rebuildRefusal, repairedArray, choose, rebuildOutcome, rebuildArray, rebuildSheet}
-use Rattle.model.specs.Demand3.{RepairSheet, LoopSheet, Results, Demand3}
+use Rattle.model.specs.Stripes.{Layout, TwoStripes, whole, Codeword}
+use Rattle.model.specs.Grid.{square, rows, columns, gridOf, sizeFits}
+use Rattle.model.specs.Refusal.{refusal, arrayTests}
+use Rattle.model.specs.Repair.{erasures, Entry, Peels, Stuck, repairs, after, residual, fatal, rebuilt, consistent, Agree, Belongs, Ambiguous}
+use Rattle.model.specs.Cycle.{Cycle, Loop}
+use Rattle.model.specs.Rebuild.{planTests, mapOutcome, mapSheet, planOutcome, planSheet, rebuildTests, rebuildRefusal, repairedArray, choose, rebuildOutcome, rebuildArray, rebuildSheet}
+use Rattle.model.specs.Demand3.{Results, Demand3}
 use Rattle.model.specs.declared.Size.{Size}
-use Rattle.model.specs.declared.Outcome.the-variants.{Repairs, Fatal, Refused}
-use Rattle.model.proofs.Grid.{block-fits, gridOf-two, grid-disks}
+use Rattle.model.proofs.Fold.{by-cases}
 use Rattle.model.proofs.Refusal.{ArrayFits, array-tests}
-use Rattle.model.proofs.Peel.{repairs-peels, repairs-count, in-order}
-use Rattle.model.proofs.Degree.{grid-repairs-bound}
+use Rattle.model.proofs.Peel.{order-free-all, repairs-count}
+use Rattle.model.proofs.Degree.{grid-repairs}
 use Rattle.model.proofs.Core.{ambiguous}
-use Rattle.model.proofs.Restore.{Small, grid-bounded, grid-sized, whole-inside, judge, restored-is, unique}
-use Rattle.model.proofs.Loop.{shown-loop, shown-fits, three}
+use Rattle.model.proofs.Trace.{cycle-fatal, shown}
+use Rattle.model.proofs.Loop.{loop-bound}
+use Rattle.model.proofs.Restore.{Small, two-bounded, whole-inside, judge, restored-is, unique}
+use Rattle.model.proofs.Accept.{SheetFits, plan-accepts, rebuild-accepts}
+use Rattle.model.proofs.Outcomes.{when-fatal, when-restored, when-contradicted}
 
--- Numbers that are not those of the outcome.
-zero-six : (_≡_ {A = ℕ} 0 6) → ⊥
-zero-six e = omega arith
+-- ---- which arguments are taken
 
-zero-seven : (_≡_ {A = ℕ} 0 7) → ⊥
-zero-seven e = omega arith
+-- Plan takes just these sizes, a map with a byte of 0 or 1 for each disk, and a sheet of 98 bytes.
+pub plan-takes : (n : ℕ) (m : List ℕ) (len : ℕ) → (refusal (planTests (square n) m len) ≡ 0) ↔ ((2 ≤ n) × (n ≤ 15) × SheetFits n m len)
+plan-takes = plan-accepts
 
-six-seven : (_≡_ {A = ℕ} 6 7) → ⊥
-six-seven e = omega arith
+-- Rebuild takes, besides, just the blocks and the arrays that every call on an array takes.
+pub rebuild-takes : (n B arrayLen : ℕ) (m : List ℕ) (len : ℕ) → (refusal (rebuildTests (square n) B arrayLen m len) ≡ 0)
+    ↔ ((refusal (arrayTests (square n) B arrayLen) ≡ 0) × SheetFits n m len)
+rebuild-takes = rebuild-accepts
 
-seven-six : (_≡_ {A = ℕ} 7 6) → ⊥
-seven-six e = omega arith
+-- ---- any system in which every disk lies on two stripes
+module _ (L : Layout) (two : TwoStripes L) (e : ℕ → Bool) where
+  -- A loss is fatal exactly if a cycle of erased disks exists,
+  pub fatal-cycle : (fatal L e ≡ true) ↔ ((w : List Entry) × Cycle L e w)
+  fatal-cycle = (λ lossy. (_, shown L two e lossy), λ h. cycle-fatal L e (h .0) (h .1))
 
--- The three things that come of a loss where the tests refuse nothing.
-module _ (z : Size) (B : ℕ) (a m : List ℕ) (small : Small a) (fits : ArrayFits z B (length a)) where
-  -- Which loss is fatal.
-  is-ambiguous : fatal (gridOf z) (erasures m) ≡ true → Ambiguous (gridOf z) (whole B) (erasures m)
+  -- and exactly if two different codewords agree on the survivors.
+  pub fatal-ambiguous : (B : ℕ) → 0 < B → (fatal L e ≡ true) ↔ Ambiguous L (whole B) e
   unfolding whole
-  is-ambiguous lossy =
-      let block = block-fits B (fits .block) in
-      ambiguous (gridOf z) (gridOf-two z (fits .size)) (whole B) (erasures m) lossy (block .low) (whole-inside B)
-
-  not-ambiguous : fatal (gridOf z) (erasures m) ≡ false → Ambiguous (gridOf z) (whole B) (erasures m) → ⊥
-  not-ambiguous fine = unique (gridOf z) (grid-bounded z (fits .size)) (erasures m) fine B
-
-  three-or-fewer : count (disks z) (erasures m) ≤ 3 → Ambiguous (gridOf z) (whole B) (erasures m) → ⊥
-  three-or-fewer few = not-ambiguous (three z (fits .size) (erasures m) few)
-
-  -- The sheets.
-  loop-sheet : fatal (gridOf z) (erasures m) ≡ true → LoopSheet z (erasures m) (sheetOf 2 (shownCycle (gridOf z) (erasures m)))
-  loop-sheet lossy = (shownCycle (gridOf z) (erasures m), refl, shown-fits z (fits .size) (erasures m) lossy, shown-loop z (fits .size) (erasures m) lossy)
-
-  repair-sheet : fatal (gridOf z) (erasures m) ≡ false → RepairSheet (gridOf z) (erasures m) (sheetOf 1 (repairs (gridOf z) (erasures m)))
-  repair-sheet fine = (
-    repairs (gridOf z) (erasures m),
-    refl,
-    le-of-lt (grid-repairs-bound z (fits .size) (erasures m) (repairs (gridOf z) (erasures m)) (repairs-peels (gridOf z) (erasures m))),
-    repairs-count (gridOf z) (erasures m) fine,
-    in-order (gridOf z) (gridOf-two z (fits .size)) (erasures m) fine,
+  fatal-ambiguous B some = (
+    λ lossy. ambiguous L two (whole B) e lossy some (whole-inside B),
+    λ both. by-cases (λ (f : Bool). f ≡ true) (fatal L e) (λ lossy. refl) (λ fine. absurd (unique L (two-bounded L two) e fine B both)),
   )
 
-  counted : fatal (gridOf z) (erasures m) ≡ false → length (repairs (gridOf z) (erasures m)) ≡ count (disks z) (erasures m)
-  counted fine = repairs-count (gridOf z) (erasures m) fine ∙ ap (λ (n : ℕ). count n (erasures m)) (grid-disks z)
+  -- What is left does not depend on the order of the repairs.
+  pub same-left : (w : List Entry) → Peels L e w → Stuck L (after e w) → after e w ≡ residual L e
+  same-left w = order-free-all L e w
 
-  -- A fatal loss.
-  when-fatal : fatal (gridOf z) (erasures m) ≡ true
-      → Demand3 z B a m
-      (record {
-        planned = Fatal (lost (gridOf z) (erasures m));
-        planSheet = sheetOf 2 (shownCycle (gridOf z) (erasures m));
-        rebuilt = Fatal (lost (gridOf z) (erasures m));
-        array = a;
-        sheet = sheetOf 2 (shownCycle (gridOf z) (erasures m));
-      })
-  unfolding outcomeStatus
-  when-fatal lossy =
-      let both = is-ambiguous lossy in
-      record {
-        planFatal = (λ s. both, λ am. refl);
-        rebuildFatal = (λ s. both, λ am. refl);
-        kept = λ s. refl;
-        planLoop = λ s. loop-sheet lossy;
-        rebuildLoop = λ s. loop-sheet lossy;
-        planRepairs = λ no. absurd (no both);
-        restored = λ no b word agree. absurd (no both);
-        contradicted = (λ s. absurd (six-seven s), λ h. absurd (h .0 both));
-        zeros = λ s. absurd (six-seven s);
-        three = three-or-fewer;
-      }
+  module _ (fine : fatal L e ≡ false) where
+    -- Every erased disk is repaired once.
+    pub all-repaired : length (repairs L e) ≡ count (L .disks) e
+    all-repaired = repairs-count L e fine
 
-  -- The survivors belong to a sealed array.
-  when-restored : fatal (gridOf z) (erasures m) ≡ false → consistent (gridOf z) (whole B) (repairedArray z B a m) ≡ true
-      → Demand3 z B a m
-      (record {
-        planned = Repairs (length (repairs (gridOf z) (erasures m)));
-        planSheet = sheetOf 1 (repairs (gridOf z) (erasures m));
-        rebuilt = Repairs (length (repairs (gridOf z) (erasures m)));
-        array = repairedArray z B a m;
-        sheet = sheetOf 1 (repairs (gridOf z) (erasures m));
-      })
-  unfolding outcomeStatus repairedArray
-  when-restored fine sealed =
-      let sized = grid-sized z B a (fits .long) in
-      let belongs = judge (gridOf z) (grid-bounded z (fits .size)) (erasures m) fine (whole B) (whole-inside B) a sized small .0 sealed in
-      record {
-        planFatal = (λ s. absurd (zero-six s), λ am. absurd (not-ambiguous fine am));
-        rebuildFatal = (λ s. absurd (zero-six s), λ am. absurd (not-ambiguous fine am));
-        kept = λ s. absurd (zero-six s);
-        planLoop = λ s. absurd (zero-six s);
-        rebuildLoop = λ s. absurd (zero-six s);
-        planRepairs = λ no. (ap Repairs (counted fine), repair-sheet fine);
-        restored = λ no b word agree.
-            (refl, refl, restored-is (gridOf z) (grid-bounded z (fits .size)) (erasures m) fine B a b sized word agree);
-        contradicted = (λ s. absurd (zero-seven s), λ h. absurd (h .1 belongs));
-        zeros = λ s. absurd (zero-seven s);
-        three = three-or-fewer;
-      }
+    -- Repairs give back every codeword that agrees with the array on the survivors,
+    pub all-restored : (B : ℕ) (a b : List ℕ) → length a ≡ L .disks * B → Codeword L (whole B) b → Agree L (whole B) e a b
+        → rebuilt L (whole B) a (repairs L e) ≡ b
+    unfolding whole
+    all-restored B a b = restored-is L (two-bounded L two) e fine B a b
 
-  -- They belong to none.
-  when-contradicted : fatal (gridOf z) (erasures m) ≡ false → consistent (gridOf z) (whole B) (repairedArray z B a m) ≡ false
-      → Demand3 z B a m
-      (record {
-        planned = Repairs (length (repairs (gridOf z) (erasures m)));
-        planSheet = sheetOf 1 (repairs (gridOf z) (erasures m));
-        rebuilt = Refused 7;
-        array = zeroed (whole B) a (erasures m);
-        sheet = blankSheet;
-      })
-  unfolding outcomeStatus repairedArray
-  when-contradicted fine unsealed =
-      let sized = grid-sized z B a (fits .long) in
-      let judged = judge (gridOf z) (grid-bounded z (fits .size)) (erasures m) fine (whole B) (whole-inside B) a sized small in
-      let none : Belongs (gridOf z) (whole B) (erasures m) a → ⊥ = λ h. true≢false (sym (judged .1 h) ∙ unsealed) in
-      record {
-        planFatal = (λ s. absurd (zero-six s), λ am. absurd (not-ambiguous fine am));
-        rebuildFatal = (λ s. absurd (seven-six s), λ am. absurd (not-ambiguous fine am));
-        kept = λ s. absurd (seven-six s);
-        planLoop = λ s. absurd (zero-six s);
-        rebuildLoop = λ s. absurd (seven-six s);
-        planRepairs = λ no. (ap Repairs (counted fine), repair-sheet fine);
-        restored = λ no b word agree. absurd (none (b, word, agree));
-        contradicted = (λ s. (not-ambiguous fine, none), λ h. refl);
-        zeros = λ s. (refl, refl);
-        three = three-or-fewer;
-      }
+    -- and they leave a stripe whose sum is not zero exactly if there is no such codeword.
+    pub all-judged : (B : ℕ) (a : List ℕ) → length a ≡ L .disks * B → Small a
+        → (consistent L (whole B) (rebuilt L (whole B) a (repairs L e)) ≡ true) ↔ Belongs L (whole B) e a
+    unfolding whole
+    all-judged B a = judge L (two-bounded L two) e fine (whole B) (whole-inside B) a
 
--- What plan and rebuild are defined to give.
+-- ---- the grid: how many records a sheet needs
+
+-- At most rows + columns + 1 repairs, of the data rows and columns, and at most one disk more in a loop.
+pub repairs-few : (z : Size) → sizeFits z ≡ true → (e : ℕ → Bool) (w : List Entry) → Peels (gridOf z) e w → length w ≤ rows z + columns z + 1
+repairs-few z fits e w peels = let few = grid-repairs z fits e w peels in omega arith
+
+pub loop-few : (z : Size) → sizeFits z ≡ true → (e : ℕ → Bool) (w : List Entry) → Loop z e w → length w ≤ rows z + columns z + 2
+loop-few z fits e w loop = let few = loop-bound z fits e w (loop .cycle) in omega arith
+
+-- ---- the demand
+
+-- What plan and rebuild are defined to answer and to leave behind.
 unfoldable pub resultsOf : Size → ℕ → (a m planSheet sheet : List ℕ) → Results
 resultsOf z B a m s₁ s₂ =
     record {
@@ -163,6 +96,7 @@ resultsOf z B a m s₁ s₂ =
       sheet = rebuildSheet z B a m s₂;
     }
 
+-- Demand 3 holds of it for every input that the refusals before 6 let through. An array of bytes has numbers below 256.
 pub demand3 : (z : Size) (B : ℕ) (a m s₁ s₂ : List ℕ) → Small a
     → refusal (planTests z m (length s₁)) ≡ 0 → refusal (rebuildTests z B (length a) m (length s₂)) ≡ 0
     → Demand3 z B a m (resultsOf z B a m s₁ s₂)

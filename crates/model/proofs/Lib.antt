@@ -16,5 +16,6 @@ pub mod Write
 pub mod Restore
 pub mod Accept
 pub mod Demand2
+pub mod Outcomes
 pub mod Demand3
 pub mod Cases
