@@ -1,18 +1,18 @@
 -- The laws of sums, tests and lists over the numbers below a bound.
 -- Assumes nothing.
 use mathlib.Core.Path.{_≡_, refl, sym, _∙_, ap, ap₂, subst}
-use mathlib.Core.Bool.{Bool, true, false, cond, _&&_, and-assoc, and-true, true≢false, false≢true}
+use mathlib.Core.Bool.{Bool, true, false, cond, not, _&&_, _||_, and-assoc, and-true, and-false, true≢false, false≢true}
 use mathlib.Core.Logic.{_⊎_, inl, inr, ⊎-elim}
 use mathlib.Core.List.{List}
 use Prim.Native.Nat.{ℕ, zero, suc, _+_, _*_, _≤_, _<_, zero-le, suc-le-suc}
-use native.Mathlib.Nat.{add-zero, add-suc, zero-mul, suc-mul, eq-or-lt-of-le, le-of-suc-le-suc, lt-suc-self, le-step, not-suc-le-zero, lt-of-lt-of-le, zero-lt-suc}
+use native.Mathlib.Nat.{add-zero, add-comm, add-suc, zero-mul, suc-mul, eq-or-lt-of-le, le-of-suc-le-suc, lt-suc-self, le-step, not-suc-le-zero, lt-of-lt-of-le, zero-lt-suc, pos-of-ne-zero}
 use native.Mathlib.Numerals.{add-one}
 use native.Mathlib.Omega.{arith}
-use borrow.Author.Tests.{ltb-true, ltb-false}
-use lib.Dec.{ltb}
+use borrow.Author.Tests.{ltb-true, ltb-false, eq-eqb, ne-eqb}
+use lib.Dec.{ltb, eqb}
 use lib.ListN.{length, getD}
 use lib.Seq.{ext-getD}
-use Rattle.model.specs.Fold.{_⊕_, xsum, gate, every, lowest, tabulate}
+use Rattle.model.specs.Fold.{_⊕_, xsum, gate, every, bit, count, lowest, tabulate}
 use Rattle.model.proofs.Xor.{⊕-assoc, ⊕-zero, zero-⊕, ⊕-self, ⊕-swap4, ⊕-byte}
 
 -- ---- tests
@@ -26,6 +26,20 @@ and-right false b e = absurd (false≢true e)
 
 pub and-both : {a b : Bool} → a ≡ true → b ≡ true → (a && b) ≡ true
 and-both {a} {b} ha hb = ap₂ (λ (x y : Bool). x && y) ha hb
+
+pub or-left : (a b : Bool) → (a || b) ≡ false → a ≡ false
+or-left true b e = e
+or-left false b e = refl
+
+pub or-right : (a b : Bool) → (a || b) ≡ false → b ≡ false
+or-right true b e = absurd (true≢false e)
+or-right false b e = e
+
+-- Two tests that hold in the same cases are equal.
+pub same-test : (a b : Bool) → (a ≡ true → b ≡ true) → (b ≡ true → a ≡ true) → a ≡ b
+same-test true b h k = sym (h refl)
+same-test false true h k = k refl
+same-test false false h k = refl
 
 -- What holds in both cases of a test holds of its value.
 pub by-cases {ℓ} : (P : Bool → Type ℓ) (b : Bool) → (b ≡ true → P true) → (b ≡ false → P false) → P b
@@ -141,6 +155,102 @@ every-add m zero t = ap (λ (k : ℕ). every k t) (add-zero m) ∙ sym (and-true
 every-add m (suc n) t =
     ap (λ (k : ℕ). every k t) (add-suc m n) ∙ ap (λ (x : Bool). x && t (m + n)) (every-add m n t)
     ∙ and-assoc (every m t) (every n (λ i. t (m + i))) (t (m + n))
+
+-- ---- counts
+pub bit-le : (b : Bool) → bit b ≤ 1
+unfolding bit
+bit-le true = omega arith
+bit-le false = omega arith
+
+-- A test that holds where another does has at least its bit.
+pub bit-mono : (a b : Bool) → (a ≡ true → b ≡ true) → bit a ≤ bit b
+unfolding bit
+bit-mono true b h = let e = ap bit (h refl) in omega arith
+bit-mono false b h = zero-le
+
+pub bit-zero : (b : Bool) → bit b ≡ 0 → b ≡ false
+unfolding bit
+bit-zero true e = absurd (omega arith)
+bit-zero false e = refl
+
+pub count-ext : (n : ℕ) {t u : ℕ → Bool} → ((i : ℕ) → i < n → t i ≡ u i) → count n t ≡ count n u
+unfolding count
+count-ext zero h = refl
+count-ext (suc n) h = ap₂ (λ (x : ℕ) (b : Bool). x + bit b) (count-ext n (λ i l. h i (le-step l))) (h n (lt-suc-self n))
+
+pub count-le : (n : ℕ) (t : ℕ → Bool) → count n t ≤ n
+unfolding count
+count-le zero t = zero-le
+count-le (suc n) t = let up = count-le n t in let one = bit-le (t n) in omega arith
+
+pub count-mono : (n : ℕ) {t u : ℕ → Bool} → ((i : ℕ) → i < n → t i ≡ true → u i ≡ true) → count n t ≤ count n u
+unfolding count
+count-mono zero h = zero-le
+count-mono (suc n) {t} {u} h =
+    let up = count-mono n {t = t} {u = u} (λ i l. h i (le-step l)) in
+    let here = bit-mono (t n) (u n) (h n (lt-suc-self n)) in
+    omega arith
+
+pub count-none : (n : ℕ) {t : ℕ → Bool} → ((i : ℕ) → i < n → t i ≡ false) → count n t ≡ 0
+unfolding count bit
+count-none zero h = refl
+count-none (suc n) {t} h =
+    let up = count-none n {t = t} (λ i l. h i (le-step l)) in
+    let here = ap bit (h n (lt-suc-self n)) in
+    omega arith
+
+pub count-zero-none : (n : ℕ) (t : ℕ → Bool) → count n t ≡ 0 → (i : ℕ) → i < n → t i ≡ false
+unfolding count
+count-zero-none zero t e = λ i h. absurd (not-suc-le-zero h)
+count-zero-none (suc n) t e =
+    below-suc (λ (i : ℕ). t i ≡ false) n (count-zero-none n t (omega arith)) (bit-zero (t n) (omega arith))
+
+pub count-some : (n : ℕ) (t : ℕ → Bool) (i : ℕ) → i < n → t i ≡ true → 0 < count n t
+count-some n t i l h = pos-of-ne-zero (λ e. true≢false (sym h ∙ count-zero-none n t e i l))
+
+-- A count that is not zero comes from a number of which the test holds.
+pub count-found : (n : ℕ) (t : ℕ → Bool) → 0 < count n t → (i : ℕ) × (i < n) × (t i ≡ true)
+unfolding count bit
+count-found zero t h = absurd (not-suc-le-zero h)
+count-found (suc n) t h = go (t n) refl (count-found n t)
+  where
+    go : (b : Bool) → t n ≡ b → (0 < count n t → (i : ℕ) × (i < n) × (t i ≡ true)) → (i : ℕ) × (i < suc n) × (t i ≡ true)
+    go true e up = (n, lt-suc-self n, e)
+    go false e up = let here = ap bit e in let (i, l, k) = up (omega arith) in (i, le-step l, k)
+
+pub count-add : (m n : ℕ) (t : ℕ → Bool) → count (m + n) t ≡ count m t + count n (λ i. t (m + i))
+unfolding count
+count-add m zero t = ap (λ (k : ℕ). count k t) (add-zero m) ∙ sym (add-zero (count m t))
+count-add m (suc n) t =
+    let step : count (m + suc n) t ≡ count (m + n) t + bit (t (m + n)) = ap (λ (k : ℕ). count k t) (add-suc m n) in
+    let up = count-add m n t in
+    omega arith
+
+-- A count from its first number on.
+pub count-first : (n : ℕ) (t : ℕ → Bool) → count (suc n) t ≡ bit (t 0) + count n (λ i. t (suc i))
+unfolding count
+count-first zero t = add-comm 0 (bit (t 0))
+count-first (suc n) t = let up = count-first n t in omega arith
+
+-- One number taken out of those that are counted.
+pub count-without : (n : ℕ) (t : ℕ → Bool) (i : ℕ) → i < n → t i ≡ true → count n (λ j. t j && not (eqb j i)) + 1 ≡ count n t
+unfolding count bit
+count-without zero t i l h = absurd (not-suc-le-zero l)
+count-without (suc n) t i l h =
+    ⊎-elim
+    (λ (e : i ≡ n).
+    let up : count n (λ j. t j && not (eqb j i)) ≡ count n t =
+    count-ext n (λ j w. ap (λ (b : Bool). t j && not b) (ne-eqb j i (λ q. omega arith)) ∙ and-true (t j)) in
+    let gone : bit (t n && not (eqb n i)) ≡ 0 =
+    ap (λ (b : Bool). bit (t n && not b)) (eq-eqb n i (sym e)) ∙ ap bit (and-false (t n)) in
+    let here : bit (t n) ≡ 1 = ap bit (ap t (sym e) ∙ h) in
+    omega arith)
+    (λ (m : i < n).
+    let up = count-without n t i m h in
+    let same : bit (t n && not (eqb n i)) ≡ bit (t n) =
+    ap (λ (b : Bool). bit (t n && not b)) (ne-eqb n i (λ q. omega arith)) ∙ ap bit (and-true (t n)) in
+    omega arith)
+    (eq-or-lt-of-le (le-of-suc-le-suc l))
 
 -- ---- the lowest number of which a test holds
 pub record Lowest (n : ℕ) (t : ℕ → Bool) (k : ℕ) : Type 0 where

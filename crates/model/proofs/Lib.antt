@@ -3,6 +3,9 @@ pub mod Fold
 pub mod Grid
 pub mod Equations
 pub mod Refusal
+pub mod Peel
+pub mod Degree
+pub mod Core
 pub mod Seal
 pub mod Check
 pub mod Write
