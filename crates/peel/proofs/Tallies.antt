@@ -2,22 +2,23 @@
 -- Assumes nothing.
 use mathlib.Core.Path.{_≡_, refl, sym, _∙_, ap, ap₂, subst, fun-ext}
 use mathlib.Core.Bool.{Bool, true, false, cond, not, _&&_, _||_, and-true, and-false, or-true, or-false, true≢false}
+use mathlib.Core.Logic.{⊎-elim}
 use mathlib.Core.List.{List}
 use Prim.Native.Nat.{ℕ, _+_, _-_, _/_, _%_, _≤_, _<_}
 use native.Mathlib.Nat.{le-refl, lt-of-lt-of-le}
 use native.Mathlib.Numerals.{add-one}
 use native.Mathlib.Omega.{arith}
 use borrow.Author.Tests.{eq-eqb, ne-eqb, eqb-true, eqb-false, ltb-true, lt-ltb, le-ltb}
-use lib.Dec.{eqb, ltb}
+use lib.Dec.{eqb, leb, ltb}
 use lib.ListN.{length, getD, set, length-set, replicate, length-replicate, getD-replicate, List·getD-eq-default}
 use lib.Seq.{getD-set-same, getD-set-other}
-use Rattle.model.specs.Fold.{count}
+use Rattle.model.specs.Fold.{every, count}
 use Rattle.model.specs.Stripes.{among, on}
-use Rattle.model.specs.Grid.{grid, gridOf, rows, columns, across, disks, diskAt, sizeFits}
+use Rattle.model.specs.Grid.{grid, gridOf, rows, columns, across, disks, diskAt, sizeFits, mapFits}
 use Rattle.model.specs.Repair.{erasures, without}
 use Rattle.model.specs.Cycle.{below}
 use Rattle.model.specs.declared.Size.{Size}
-use Rattle.model.proofs.Fold.{and-both, by-cases, lt-or-le, count-ext, count-le, count-none, count-some, count-without}
+use Rattle.model.proofs.Fold.{and-left, and-both, by-cases, lt-or-le, count-ext, count-le, count-none, count-some, count-without}
 use Rattle.model.proofs.Grid.{Fits, size-fits, disks-bound, column-inside, row-of, column-of, disk-below, row-within, column-within}
 use Rattle.layout.specs.Stripe.{rowStripe, columnStripe}
 use Rattle.peel.specs.Tally.{Tallied, together}
@@ -93,6 +94,10 @@ set-at l i v j h =
     (λ q w. ap (λ (k : ℕ). getD (set l i v) k 0) (eqb-true j i w) ∙ getD-set-same l i v 0 h)
     (λ q w. getD-set-other l i j v 0 (eqb-false j i w)) refl
 
+cond-or : (b x : Bool) → cond b true x ≡ (x || b)
+cond-or true x = sym (or-true x)
+cond-or false x = sym (or-false x)
+
 -- A map with the byte of one disk changed.
 module _ (m : List ℕ) (d : ℕ) (l : d < length m) where
   erasures-set : (v i : ℕ) → erasures (set m d v) i ≡ cond (eqb i d) (eqb v 1) (erasures m i)
@@ -109,11 +114,7 @@ module _ (m : List ℕ) (d : ℕ) (l : d < length m) where
 
   pub erasures-more : erasures (set m d 1) ≡ together (erasures m) d
   unfolding together
-  erasures-more = fun-ext (λ i. erasures-set 1 i ∙ go (eqb i d) (erasures m i))
-    where
-      go : (b x : Bool) → cond b true x ≡ (x || b)
-      go true x = sym (or-true x)
-      go false x = sym (or-false x)
+  erasures-more = fun-ext (λ i. erasures-set 1 i ∙ cond-or (eqb i d) (erasures m i))
 
   pub erasures-fewer : erasures (set m d 0) ≡ without (erasures m) d
   unfolding without
@@ -271,3 +272,116 @@ module _ {z : Size} {work counts : List ℕ} {d row column : ℕ} (p : Place z w
 
   pub column-some : erasures work d ≡ true → (v : ℕ) → 1 ≤ getD (set counts row v) column 0
   column-some has v = let e = column-kept v in let h = some has column column-low on-column in omega arith
+
+-- ---- loading a map
+
+-- A map has a byte for each disk.
+pub map-length : (z : Size) (m : List ℕ) → mapFits z m ≡ true → length m ≡ disks z
+unfolding mapFits
+map-length z m h =
+    eqb-true (length m) (disks z) (and-left (eqb (length m) (disks z)) (every (length m) (λ d. leb (getD m d 0) 1)) h)
+
+-- The erased disks below the next number.
+below-zero : (e : ℕ → Bool) (i : ℕ) → below 0 e i ≡ false
+unfolding below
+below-zero e i = ap (λ (b : Bool). b && e i) (le-ltb i 0 (omega arith))
+
+below-at : (e : ℕ → Bool) (d : ℕ) → below d e d ≡ false
+unfolding below
+below-at e d = ap (λ (b : Bool). b && e d) (le-ltb d d (le-refl d))
+
+below-next : (e : ℕ → Bool) (d i : ℕ) → below (d + 1) e i ≡ cond (eqb i d) (e d) (below d e i)
+unfolding below
+below-next e d i = go (eqb i d) refl
+  where
+    go : (b : Bool) → eqb i d ≡ b → (ltb i (d + 1) && e i) ≡ cond b (e d) (ltb i d && e i)
+    go true q = let h = eqb-true i d q in ap₂ (λ (x y : Bool). x && y) (lt-ltb i (d + 1) (omega arith)) (ap e h)
+    go false q =
+        let h = eqb-false i d q in
+        ap (λ (x : Bool). x && e i)
+        (⊎-elim (λ l. lt-ltb i (d + 1) (omega arith) ∙ sym (lt-ltb i d l)) (λ l. le-ltb i (d + 1) (omega arith) ∙ sym (le-ltb i d l)) (lt-or-le i d))
+
+below-more : (e : ℕ → Bool) (d : ℕ) → e d ≡ true → below (d + 1) e ≡ together (below d e) d
+unfolding together
+below-more e d h =
+    fun-ext (λ i. below-next e d i ∙ ap (λ (x : Bool). cond (eqb i d) x (below d e i)) h ∙ cond-or (eqb i d) (below d e i))
+
+below-skip : (e : ℕ → Bool) (d : ℕ) → e d ≡ false → below (d + 1) e ≡ below d e
+below-skip e d h =
+    fun-ext (λ i.
+    below-next e d i
+    ∙ by-cases (λ (b : Bool). cond b (e d) (below d e i) ≡ below d e i) (eqb i d)
+    (λ q. h ∙ sym (ap (below d e) (eqb-true i d q) ∙ below-at e d)) (λ q. refl))
+
+-- The erased disks of a map below d are marked and counted.
+pub record Loaded (z : Size) (map : List ℕ) (d : ℕ) (work counts : List ℕ) (number : ℕ) : Type 0 where
+  pub marked : erasures work ≡ below d (erasures map)
+  pub numbered : number ≡ count (disks z) (below d (erasures map))
+  pub tallied : Tallied z work counts
+
+-- Nothing is marked in a map of zeros.
+abbrev zeros : ℕ → List ℕ
+zeros n = replicate n 0
+
+zeros-at : (n i : ℕ) → getD (zeros n) i 0 ≡ 0
+zeros-at n i =
+    ⊎-elim (λ l. getD-replicate n i 0 0 l)
+    (λ l. let long : length (zeros n) ≡ n = length-replicate n 0 in List·getD-eq-default (zeros n) 0 {n = i} (omega arith)) (lt-or-le i n)
+
+zeros-unmarked : (n i : ℕ) → erasures (zeros n) i ≡ false
+unfolding erasures
+zeros-unmarked n i = ap (λ (x : ℕ). eqb x 1) (zeros-at n i)
+
+zeros-tallied : (z : Size) → Tallied z (zeros 256) (zeros 32)
+zeros-tallied z =
+    record {
+      workLong = length-replicate {A = ℕ} 256 0;
+      countsLong = length-replicate {A = ℕ} 32 0;
+      inside = λ d l. zeros-at 256 d;
+      counted = λ s l.
+          zeros-at 32 s ∙ sym (count-none (disks z) (λ i w. ap (λ (x : Bool). x && on (gridOf z) i s) (zeros-unmarked 256 i)));
+    }
+
+pub loaded-none : (z : Size) (map work counts : List ℕ) → work ≡ zeros 256 → counts ≡ zeros 32 → Loaded z map 0 work counts 0
+loaded-none z map work counts p q =
+    record {
+      marked = fun-ext (λ i. ap (λ (l : List ℕ). erasures l i) p ∙ zeros-unmarked 256 i ∙ sym (below-zero (erasures map) i));
+      numbered = sym (count-none (disks z) (λ i l. below-zero (erasures map) i));
+      tallied = rw (p, q) (zeros-tallied z);
+    }
+
+module _ {z : Size} {map work counts : List ℕ} {d number : ℕ} (loaded : Loaded z map d work counts number) where
+  -- The next disk is not marked yet.
+  pub loaded-next : erasures work d ≡ false
+  loaded-next = ap (λ (e : ℕ → Bool). e d) (loaded .marked) ∙ below-at (erasures map) d
+
+  pub loaded-bound : sizeFits z ≡ true → number ≤ 256
+  loaded-bound fits =
+      let e = loaded .numbered in
+      let few = count-le (disks z) (below d (erasures map)) in
+      let all = disks-bound z (size-fits z fits) in
+      omega arith
+
+  -- The next disk is marked where it is erased.
+  pub loaded-mark : (work' counts' : List ℕ) → d < disks z → getD map d 0 ≡ 1
+      → erasures work' ≡ together (erasures work) d → Tallied z work' counts' → Loaded z map (d + 1) work' counts' (number + 1)
+  unfolding erasures
+  loaded-mark work' counts' l h marked tallied =
+      let more : below (d + 1) (erasures map) ≡ together (below d (erasures map)) d = below-more (erasures map) d (eq-eqb (getD map d 0) 1 h) in
+      record {
+        marked = marked ∙ ap (λ (e : ℕ → Bool). together e d) (loaded .marked) ∙ sym more;
+        numbered =
+            ap (λ (k : ℕ). k + 1) (loaded .numbered) ∙ count-together (disks z) (below d (erasures map)) d l (below-at (erasures map) d)
+            ∙ sym (ap (count (disks z)) more);
+        tallied = tallied;
+      }
+
+  pub loaded-skip : (getD map d 0 ≡ 1 → ⊥) → Loaded z map (d + 1) work counts number
+  unfolding erasures
+  loaded-skip h =
+      let same : below (d + 1) (erasures map) ≡ below d (erasures map) = below-skip (erasures map) d (ne-eqb (getD map d 0) 1 h) in
+      record {
+        marked = loaded .marked ∙ sym same;
+        numbered = loaded .numbered ∙ sym (ap (count (disks z)) same);
+        tallied = loaded .tallied;
+      }
