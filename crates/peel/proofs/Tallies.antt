@@ -1,20 +1,19 @@
 -- The laws of the planner's working map: how its counts change with one disk, that they fit a byte, and how it is loaded.
 -- Assumes nothing.
-use mathlib.Core.Path.{_≡_, refl, sym, _∙_, ap, ap₂, subst, fun-ext}
+use mathlib.Core.Path.{_≡_, refl, sym, _∙_, ap, ap₂, fun-ext}
 use mathlib.Core.Bool.{Bool, true, false, cond, not, _&&_, _||_, and-true, and-false, or-true, or-false, true≢false}
 use mathlib.Core.Logic.{⊎-elim}
 use mathlib.Core.List.{List}
-use Prim.Native.Nat.{ℕ, _+_, _-_, _/_, _%_, _≤_, _<_}
-use native.Mathlib.Nat.{le-refl, lt-of-lt-of-le}
-use native.Mathlib.Numerals.{add-one}
+use Prim.Native.Nat.{ℕ, _+_, _-_, _≤_, _<_}
+use native.Mathlib.Nat.{le-refl}
 use native.Mathlib.Omega.{arith}
-use borrow.Author.Tests.{eq-eqb, ne-eqb, eqb-true, eqb-false, ltb-true, lt-ltb, le-ltb}
+use borrow.Author.Tests.{eq-eqb, ne-eqb, eqb-true, eqb-false, lt-ltb, le-ltb}
 use lib.Dec.{eqb, leb, ltb}
 use lib.ListN.{length, getD, set, length-set, replicate, length-replicate, getD-replicate, List·getD-eq-default}
 use lib.Seq.{getD-set-same, getD-set-other}
 use Rattle.model.specs.Fold.{every, count}
 use Rattle.model.specs.Stripes.{among, on}
-use Rattle.model.specs.Grid.{grid, gridOf, rows, columns, across, disks, diskAt, sizeFits, mapFits}
+use Rattle.model.specs.Grid.{grid, gridOf, columns, across, disks, diskAt, sizeFits, mapFits}
 use Rattle.model.specs.Repair.{erasures, without}
 use Rattle.model.specs.Cycle.{below}
 use Rattle.model.specs.declared.Size.{Size}
@@ -54,6 +53,9 @@ count-fewer n e i j l h m k q =
     let two = count-together n (together e i) j m (together-other e i j q ∙ k) in
     let all = count-le n (together (together e i) j) in
     omega arith
+
+and-off : (a : Bool) {b : Bool} → b ≡ false → (a && b) ≡ false
+and-off a h = ap (λ (x : Bool). a && x) h ∙ and-false a
 
 -- ---- the stripes of a disk
 
@@ -104,7 +106,8 @@ module _ (m : List ℕ) (d : ℕ) (l : d < length m) where
   unfolding erasures
   erasures-set v i =
       ap (λ (x : ℕ). eqb x 1) (set-at m d v i l)
-      ∙ by-cases (λ (b : Bool). eqb (cond b v (getD m i 0)) 1 ≡ cond b (eqb v 1) (eqb (getD m i 0) 1)) (eqb i d) (λ q. refl) (λ q. refl)
+      ∙ by-cases (λ (b : Bool). eqb (cond b v (getD m i 0)) 1 ≡ cond b (eqb v 1) (eqb (getD m i 0) 1)) (eqb i d)
+      (λ q. refl) (λ q. refl)
 
   erasures-same : (v : ℕ) → erasures (set m d v) d ≡ eqb v 1
   erasures-same v = erasures-set v d ∙ ap (λ (b : Bool). cond b (eqb v 1) (erasures m d)) (eq-eqb d d refl)
@@ -146,11 +149,19 @@ changed f l row column =
 module _ {z : Size} {work counts : List ℕ} {d row column : ℕ} (p : Place z work counts d row column) where
   -- The numbers are within the lists.
   pub work-place : d < length work
-  work-place = let long = p .tallied .workLong in let all = disks-bound z (size-fits z (p .fits)) in let h = p .disk in omega arith
+  work-place =
+      let long = p .tallied .workLong in
+      let all = disks-bound z (size-fits z (p .fits)) in
+      let h = p .disk in
+      omega arith
 
   row-low : row < 16
   unfolding rowStripe
-  row-low = let f : Fits z = size-fits z (p .fits) in let h = row-within z d (p .disk) in let e = p .rowIs in let b = f .rowsHigh in omega arith
+  row-low =
+      let f : Fits z = size-fits z (p .fits) in
+      let h = row-within z d (p .disk) in
+      let e = p .rowIs in
+      omega arith
 
   column-high : 16 ≤ column
   unfolding columnStripe
@@ -158,7 +169,11 @@ module _ {z : Size} {work counts : List ℕ} {d row column : ℕ} (p : Place z w
 
   column-low : column < 32
   unfolding columnStripe
-  column-low = let f : Fits z = size-fits z (p .fits) in let h = column-within z d in let e = p .columnIs in let b = f .columnsHigh in omega arith
+  column-low =
+      let f : Fits z = size-fits z (p .fits) in
+      let h = column-within z d in
+      let e = p .columnIs in
+      omega arith
 
   pub row-place : row < length counts
   row-place = let long = p .tallied .countsLong in let h = row-low in omega arith
@@ -180,7 +195,8 @@ module _ {z : Size} {work counts : List ℕ} {d row column : ℕ} (p : Place z w
   on-column = on-stripes column ∙ ap (λ (b : Bool). eqb column row || b) (eq-eqb column column refl) ∙ or-true (eqb column row)
 
   -- The counts after a change.
-  changed-at : (f : ℕ → ℕ) (s : ℕ) → getD (changed f counts row column) s 0 ≡ cond (on (gridOf z) d s) (f (getD counts s 0)) (getD counts s 0)
+  changed-at : (f : ℕ → ℕ) (s : ℕ)
+      → getD (changed f counts row column) s 0 ≡ cond (on (gridOf z) d s) (f (getD counts s 0)) (getD counts s 0)
   changed-at f s =
       set-at (set counts row (f (getD counts row 0))) column _ s (column-place (f (getD counts row 0)))
       ∙ ap₂ (λ (x y : ℕ). cond (eqb s column) (f x) y) (column-kept (f (getD counts row 0))) (set-at counts row _ s row-place)
@@ -191,7 +207,8 @@ module _ {z : Size} {work counts : List ℕ} {d row column : ℕ} (p : Place z w
       at i q = ap (λ (j : ℕ). f (getD counts j 0)) (sym (eqb-true s i q))
 
       go : (a : Bool) → eqb s row ≡ a → (b : Bool) → eqb s column ≡ b
-          → cond b (f (getD counts column 0)) (cond a (f (getD counts row 0)) (getD counts s 0)) ≡ cond (a || b) (f (getD counts s 0)) (getD counts s 0)
+          → cond b (f (getD counts column 0)) (cond a (f (getD counts row 0)) (getD counts s 0))
+          ≡ cond (a || b) (f (getD counts s 0)) (getD counts s 0)
       go true q true w = at column w
       go true q false w = at row q
       go false q true w = at column w
@@ -201,10 +218,12 @@ module _ {z : Size} {work counts : List ℕ} {d row column : ℕ} (p : Place z w
   held-off : (v s : ℕ) → on (gridOf z) d s ≡ false → held z (erasures work) s ≡ held z (erasures (set work d v)) s
   held-off v s h =
       count-ext (disks z) (λ i w.
-      by-cases (λ (b : Bool). (erasures work i && on (gridOf z) i s) ≡ (cond b (eqb v 1) (erasures work i) && on (gridOf z) i s)) (eqb i d)
+      by-cases
+      (λ (b : Bool). (erasures work i && on (gridOf z) i s) ≡ (cond b (eqb v 1) (erasures work i) && on (gridOf z) i s))
+      (eqb i d)
       (λ q.
       let off : on (gridOf z) i s ≡ false = ap (λ (j : ℕ). on (gridOf z) j s) (eqb-true i d q) ∙ h in
-      ap (λ (b : Bool). erasures work i && b) off ∙ and-false (erasures work i) ∙ sym (ap (λ (b : Bool). eqb v 1 && b) off ∙ and-false (eqb v 1)))
+      and-off (erasures work i) off ∙ sym (and-off (eqb v 1) off))
       (λ q. refl)
       ∙ ap (λ (b : Bool). b && on (gridOf z) i s) (sym (erasures-set work d work-place v i)))
 
@@ -215,12 +234,13 @@ module _ {z : Size} {work counts : List ℕ} {d row column : ℕ} (p : Place z w
   tallied-change f v h =
       record {
         workLong = length-set work d v ∙ p .tallied .workLong;
-        countsLong = length-set (set counts row (f (getD counts row 0))) column _ ∙ length-set counts row _ ∙ p .tallied .countsLong;
+        countsLong =
+            length-set (set counts row (f (getD counts row 0))) column _ ∙ length-set counts row _ ∙ p .tallied .countsLong;
         inside = λ i l. let k = p .disk in getD-set-other work d i v 0 (λ q. omega arith) ∙ p .tallied .inside i l;
         counted = λ s l.
             changed-at f s
-            ∙ by-cases (λ (b : Bool). cond b (f (getD counts s 0)) (getD counts s 0) ≡ held z (erasures (set work d v)) s) (on (gridOf z) d s)
-            (λ q. ap f (p .tallied .counted s l) ∙ h s q) (λ q. p .tallied .counted s l ∙ held-off v s q);
+            ∙ by-cases (λ (b : Bool). cond b (f (getD counts s 0)) (getD counts s 0) ≡ held z (erasures (set work d v)) s)
+            (on (gridOf z) d s) (λ q. ap f (p .tallied .counted s l) ∙ h s q) (λ q. p .tallied .counted s l ∙ held-off v s q);
       }
 
   -- On the stripes of the disk, a set with it has one disk more than the set without.
@@ -228,20 +248,23 @@ module _ {z : Size} {work counts : List ℕ} {d row column : ℕ} (p : Place z w
       → (s : ℕ) → on (gridOf z) d s ≡ true → held z a s + 1 ≡ held z b s
   held-more a b out has same s h =
       count-more (disks z) (λ i. a i && on (gridOf z) i s) (λ i. b i && on (gridOf z) i s) d (p .disk)
-      (ap (λ (x : Bool). x && on (gridOf z) d s) out) (and-both has h) (λ i q. ap (λ (x : Bool). x && on (gridOf z) i s) (same i q))
+      (ap (λ (x : Bool). x && on (gridOf z) d s) out) (and-both has h)
+      (λ i q. ap (λ (x : Bool). x && on (gridOf z) i s) (same i q))
 
-  -- A disk is marked: its stripes count one more, and there is room for it in a byte, since some other disk is off the stripe.
+  -- A disk is marked: its stripes count one more.
   pub mark-tallied : erasures work d ≡ false → Tallied z (set work d 1) (changed (λ x. x + 1) counts row column)
   mark-tallied out =
       tallied-change (λ x. x + 1) 1
-      (held-more (erasures work) (erasures (set work d 1)) out (erasures-same work d work-place 1) (erasures-other work d work-place 1))
+      (held-more (erasures work) (erasures (set work d 1)) out (erasures-same work d work-place 1)
+      (erasures-other work d work-place 1))
 
+  -- A byte has room for one more: neither this disk is counted, nor one that lies off the stripe.
   room : erasures work d ≡ false → (s : ℕ) → s < 32 → on (gridOf z) d s ≡ true → getD counts s 0 + 1 < 256
   room out s l h =
       let (i, inside, off) = off-stripe z (size-fits z (p .fits)) s in
       let few =
-      count-fewer (disks z) (λ i. erasures work i && on (gridOf z) i s) d i (p .disk) (ap (λ (x : Bool). x && on (gridOf z) d s) out)
-      inside (ap (λ (x : Bool). erasures work i && x) off ∙ and-false (erasures work i))
+      count-fewer (disks z) (λ i. erasures work i && on (gridOf z) i s) d i
+      (p .disk) (ap (λ (x : Bool). x && on (gridOf z) d s) out) inside (and-off (erasures work i) off)
       (λ q. true≢false (sym h ∙ ap (λ (j : ℕ). on (gridOf z) j s) (sym q) ∙ off)) in
       let all = disks-bound z (size-fits z (p .fits)) in
       let e = p .tallied .counted s l in
@@ -253,14 +276,16 @@ module _ {z : Size} {work counts : List ℕ} {d row column : ℕ} (p : Place z w
   pub column-room : erasures work d ≡ false → (v : ℕ) → getD (set counts row v) column 0 + 1 < 256
   column-room out v = let e = column-kept v in let h = room out column column-low on-column in omega arith
 
-  -- A disk is taken away: its stripes count one less, and they count it before.
+  -- A disk is taken away: its stripes count one less.
   pub take-tallied : erasures work d ≡ true → Tallied z (set work d 0) (changed (λ x. x - 1) counts row column)
   take-tallied has =
       tallied-change (λ x. x - 1) 0 (λ s h.
       let one =
-      held-more (erasures (set work d 0)) (erasures work) (erasures-same work d work-place 0) has (λ i q. sym (erasures-other work d work-place 0 i q)) s h in
+      held-more (erasures (set work d 0)) (erasures work) (erasures-same work d work-place 0) has
+      (λ i q. sym (erasures-other work d work-place 0 i q)) s h in
       omega arith)
 
+  -- They count it before.
   some : erasures work d ≡ true → (s : ℕ) → s < 32 → on (gridOf z) d s ≡ true → 1 ≤ getD counts s 0
   some has s l h =
       let one = count-some (disks z) (λ i. erasures work i && on (gridOf z) i s) d (p .disk) (and-both has h) in
@@ -299,7 +324,8 @@ below-next e d i = go (eqb i d) refl
     go false q =
         let h = eqb-false i d q in
         ap (λ (x : Bool). x && e i)
-        (⊎-elim (λ l. lt-ltb i (d + 1) (omega arith) ∙ sym (lt-ltb i d l)) (λ l. le-ltb i (d + 1) (omega arith) ∙ sym (le-ltb i d l)) (lt-or-le i d))
+        (⊎-elim (λ l. lt-ltb i (d + 1) (omega arith) ∙ sym (lt-ltb i d l))
+        (λ l. le-ltb i (d + 1) (omega arith) ∙ sym (le-ltb i d l)) (lt-or-le i d))
 
 below-more : (e : ℕ → Bool) (d : ℕ) → e d ≡ true → below (d + 1) e ≡ together (below d e) d
 unfolding together
@@ -326,7 +352,8 @@ zeros n = replicate n 0
 zeros-at : (n i : ℕ) → getD (zeros n) i 0 ≡ 0
 zeros-at n i =
     ⊎-elim (λ l. getD-replicate n i 0 0 l)
-    (λ l. let long : length (zeros n) ≡ n = length-replicate n 0 in List·getD-eq-default (zeros n) 0 {n = i} (omega arith)) (lt-or-le i n)
+    (λ l. let long : length (zeros n) ≡ n = length-replicate n 0 in List·getD-eq-default (zeros n) 0 {n = i} (omega arith))
+    (lt-or-le i n)
 
 zeros-unmarked : (n i : ℕ) → erasures (zeros n) i ≡ false
 unfolding erasures
@@ -367,11 +394,13 @@ module _ {z : Size} {map work counts : List ℕ} {d number : ℕ} (loaded : Load
       → erasures work' ≡ together (erasures work) d → Tallied z work' counts' → Loaded z map (d + 1) work' counts' (number + 1)
   unfolding erasures
   loaded-mark work' counts' l h marked tallied =
-      let more : below (d + 1) (erasures map) ≡ together (below d (erasures map)) d = below-more (erasures map) d (eq-eqb (getD map d 0) 1 h) in
+      let more : below (d + 1) (erasures map) ≡ together (below d (erasures map)) d =
+      below-more (erasures map) d (eq-eqb (getD map d 0) 1 h) in
       record {
         marked = marked ∙ ap (λ (e : ℕ → Bool). together e d) (loaded .marked) ∙ sym more;
         numbered =
-            ap (λ (k : ℕ). k + 1) (loaded .numbered) ∙ count-together (disks z) (below d (erasures map)) d l (below-at (erasures map) d)
+            ap (λ (k : ℕ). k + 1) (loaded .numbered)
+            ∙ count-together (disks z) (below d (erasures map)) d l (below-at (erasures map) d)
             ∙ sym (ap (count (disks z)) more);
         tallied = tallied;
       }
@@ -379,7 +408,8 @@ module _ {z : Size} {map work counts : List ℕ} {d number : ℕ} (loaded : Load
   pub loaded-skip : (getD map d 0 ≡ 1 → ⊥) → Loaded z map (d + 1) work counts number
   unfolding erasures
   loaded-skip h =
-      let same : below (d + 1) (erasures map) ≡ below d (erasures map) = below-skip (erasures map) d (ne-eqb (getD map d 0) 1 h) in
+      let same : below (d + 1) (erasures map) ≡ below d (erasures map) =
+      below-skip (erasures map) d (ne-eqb (getD map d 0) 1 h) in
       record {
         marked = loaded .marked ∙ sym same;
         numbered = loaded .numbered ∙ sym (ap (count (disks z)) same);

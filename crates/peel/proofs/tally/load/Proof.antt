@@ -1,6 +1,6 @@
 -- `peel::tally::load` meets its contract: the erased disks so far are marked and counted.
 -- Assumes nothing.
-use mathlib.Core.Path.{_≡_, _∙_, sym, ap, subst}
+use mathlib.Core.Path.{_∙_, sym, ap, subst}
 use mathlib.Core.Logic.{⊎-elim}
 use Prim.Native.Nat.{ℕ, _≤_, _-_}
 use native.Mathlib.Nat.{lt-of-lt-of-le}
@@ -38,8 +38,8 @@ mark-requires c κs =
 
 add-number : tie.Need-add-number Inv-loop μ-loop
 add-number c =
-    let h = c .before .before .before .before .before .before .before .before .before .before .before .before .before .before .pre in
-    let l = loaded-bound (c .before .before .before .before .before .before .before .before .before .before .loop .inv .1) (h .0) in
+    let at = c .before .before .before .before .before .before .before .before .before .before in
+    let few = loaded-bound (at .loop .inv .1) (at .before .before .before .before .pre .0) in
     omega arith
 
 add-d : tie.Need-add-d Inv-loop μ-loop
@@ -56,16 +56,19 @@ loop-again c =
       ⊎-elim
           (λ w.
           rw (w .8, w .9, w .10)
-          (loaded-mark l _ _ (lt-of-lt-of-le (c .before .before .loop-test .taken) (h .1 .1 .0)) (w .0 .taken) (w .3 .ensures .0) (w .3 .ensures .1)))
+          (loaded-mark l _ _ (lt-of-lt-of-le (c .before .before .loop-test .taken) (h .1 .1 .0)) (w .0 .taken)
+          (w .3 .ensures .0) (w .3 .ensures .1)))
           (λ w. rw (w .1, w .2, w .3) (loaded-skip l (w .0 .left)))
           (c .if1 .came),
     )
 
 same-length : tie.Need-same-length Inv-loop μ-loop
-same-length c = c .before .loop .inv .1 .tallied .workLong ∙ sym (ap length (c .before .before .before .before .before .pre .1 .1 .1 .0))
+same-length c =
+    c .before .loop .inv .1 .tallied .workLong ∙ sym (ap length (c .before .before .before .before .before .pre .1 .1 .1 .0))
 
 same-length-2 : tie.Need-same-length-2 Inv-loop μ-loop
-same-length-2 c = c .before .loop .inv .1 .tallied .countsLong ∙ sym (ap length (c .before .before .before .before .before .pre .1 .1 .1 .1))
+same-length-2 c =
+    c .before .loop .inv .1 .tallied .countsLong ∙ sym (ap length (c .before .before .before .before .before .pre .1 .1 .1 .1))
 
 returns : tie.Need-returns Inv-loop μ-loop
 returns c =

@@ -1,7 +1,5 @@
 -- `peel::tally::mark` meets its contract: the counts of both stripes have room for one more.
 -- Assumes nothing.
-use Prim.Native.Nat.{ℕ}
-use native.Mathlib.Omega.{arith}
 use borrow.Author.Needs.{needs}
 use Rattle.peel.proofs.Tallies.{Place, work-place, row-place, column-place, row-room, column-room, mark-tallied, erasures-more}
 use Rattle.peel.proofs.tally.mark.Statement.{statement}
@@ -46,7 +44,9 @@ slice-read-counts-2 : tie.Need-slice-read-counts-2
 slice-read-counts-2 c = column-place (place (c .before .before)) _
 
 add-counts-2 : tie.Need-add-counts-2
-add-counts-2 c = record { fits = column-room (place (c .before .before)) (c .before .before .before .before .before .before .pre .1 .1 .1) _ }
+add-counts-2 c =
+    let start = c .before .before .before .before .before .before in
+    record { fits = column-room (place (c .before .before)) (start .pre .1 .1 .1) _ }
 
 slice-write-counts-2 : tie.Need-slice-write-counts-2
 slice-write-counts-2 c = column-place (place (c .before .before)) _
@@ -59,9 +59,9 @@ same-length-2 c = search needs
 
 returns : tie.Need-returns
 returns c =
-    let a = c .before .before .before .before .before .before .args in
+    let start = c .before .before .before .before .before .before in
     let p : PlaceOf (c .before .before) = place (c .before .before) in
-    (erasures-more (a .work .now) (a .disk) (work-place p), mark-tallied p (c .before .before .before .before .before .before .pre .1 .1 .1))
+    (erasures-more (start .args .work .now) (start .args .disk) (work-place p), mark-tallied p (start .pre .1 .1 .1))
 
 pub mark-spec : {M : Type 1} → statement M
 mark-spec =

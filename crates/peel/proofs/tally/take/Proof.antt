@@ -1,7 +1,5 @@
 -- `peel::tally::take` meets its contract: the counts of both stripes have the disk.
 -- Assumes nothing.
-use Prim.Native.Nat.{ℕ}
-use native.Mathlib.Omega.{arith}
 use borrow.Author.Needs.{needs}
 use Rattle.peel.proofs.Tallies.{Place, work-place, row-place, column-place, row-some, column-some, take-tallied, erasures-fewer}
 use Rattle.peel.proofs.tally.take.Statement.{statement}
@@ -59,9 +57,9 @@ same-length-2 c = search needs
 
 returns : tie.Need-returns
 returns c =
-    let a = c .before .before .before .before .before .before .args in
+    let start = c .before .before .before .before .before .before in
     let p : PlaceOf (c .before .before) = place (c .before .before) in
-    (erasures-fewer (a .work .now) (a .disk) (work-place p), take-tallied p (c .before .before .before .before .before .before .pre .1 .1 .1))
+    (erasures-fewer (start .args .work .now) (start .args .disk) (work-place p), take-tallied p (start .pre .1 .1 .1))
 
 pub take-spec : {M : Type 1} → statement M
 take-spec =
