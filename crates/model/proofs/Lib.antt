@@ -18,4 +18,5 @@ pub mod Accept
 pub mod Demand2
 pub mod Outcomes
 pub mod Demand3
+pub mod Listings
 pub mod Cases
