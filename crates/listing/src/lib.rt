@@ -5,8 +5,8 @@ ghost use lib.ListN.{take, drop, getD, replicate};
 ghost use Rattle.model.specs.Grid.{square};
 ghost use Rattle.model.specs.Listing.{listing};
 
+mod put;
 mod report;
-mod text;
 
 use model::Size;
 

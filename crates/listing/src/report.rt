@@ -8,7 +8,7 @@ ghost use Rattle.model.specs.Rebuild.{outcomeStatus};
 ghost use Rattle.sheet.specs.Record.{records};
 ghost use Rattle.listing.specs.Written.{Written};
 ghost use Rattle.listing.specs.Report.{entryLine, report as Report·report};
-use crate::text;
+use crate::put;
 use model::Outcome;
 
 // A disk and its stripe.
@@ -18,10 +18,10 @@ fn line(out: &mut [u8], at: usize, disk: usize, stripe: usize) -> usize
     requires { ⌜ stripe < 256 ⌝ }
     ensures { λ r. ⌜ Written (now (out .entry)) at (entryLine disk stripe) (now (out .exit)) r ⌝ }
 {
-    let space = text::number(out, at, disk);
-    let second = text::byte(out, space, b' ');
-    let end = text::number(out, second, stripe);
-    text::byte(out, end, b'\n')
+    let space = put::number(out, at, disk);
+    let second = put::byte(out, space, b' ');
+    let end = put::number(out, second, stripe);
+    put::byte(out, end, b'\n')
 }
 
 // The first `count` records, a line each.
@@ -52,9 +52,9 @@ fn listed(out: &mut [u8], word: &[u8], sheet: &[u8], count: usize) -> usize
         Written (now (out .entry)) 0 (Listing·listed (now (word .entry)) (records (now (sheet .entry)) count)) (now (out .exit)) r
         ⌝ }
 {
-    let number = text::word(out, 0, word);
-    let end = text::number(out, number, count);
-    let first = text::byte(out, end, b'\n');
+    let number = put::word(out, 0, word);
+    let end = put::number(out, number, count);
+    let first = put::byte(out, end, b'\n');
     lines(out, first, sheet, count)
 }
 
@@ -64,9 +64,9 @@ fn refused(out: &mut [u8], status: usize) -> usize
     requires { ⌜ length (now out) ≡ 320 ⌝ }
     ensures { λ r. ⌜ Written (now (out .entry)) 0 (refusedWord ++ decimal status ++ 10 ∷ []) (now (out .exit)) r ⌝ }
 {
-    let number = text::word(out, 0, b"refused ");
-    let end = text::number(out, number, status);
-    text::byte(out, end, b'\n')
+    let number = put::word(out, 0, b"refused ");
+    let end = put::number(out, number, status);
+    put::byte(out, end, b'\n')
 }
 
 // What plan answered, with the records of its sheet.

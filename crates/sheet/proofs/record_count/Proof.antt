@@ -10,7 +10,7 @@ use borrow.Author.Count.{below-more}
 use borrow.Author.Tests.{eq-eqb, ne-eqb}
 use lib.Dec.{eqb}
 use lib.ListN.{length, getD}
-use Rattle.model.proofs.Fold.{Lowest, lowest-is, lowest-unique}
+use Rattle.model.proofs.Fold.{lowest-is, lowest-unique}
 use Rattle.sheet.specs.Record.{recordCount}
 use Rattle.sheet.proofs.record_count.Statement.{statement}
 use Rattle.sheet.proofs.record_count.Tie as tie

@@ -23,7 +23,7 @@ abbrev μ-loop : tie.MeasureT-loop
 
 loop-holds : tie.Need-loop-holds Inv-loop μ-loop
 unfolding entryLines records
-loop-holds c = (c .before .before .pre .0, c .before .before .pre .1 .0, omega arith, omega arith, nothing-written _ _)
+loop-holds c = (c .before .before .pre .0, c .before .before .pre .1 .0, omega arith, omega arith, nothing-written _ _ (omega arith))
 
 record-disk-requires : tie.Need-record-disk-requires Inv-loop μ-loop
 record-disk-requires c κs = (c .before .loop .inv .0, omega arith)

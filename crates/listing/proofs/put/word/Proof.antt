@@ -1,4 +1,4 @@
--- `listing::text::word` meets its contract: the letters so far are put.
+-- `listing::put::word` meets its contract: the letters so far are put.
 -- Assumes nothing.
 use mathlib.Core.Path.{refl}
 use Prim.Native.Nat.{_+_, _-_, _≤_}
@@ -8,8 +8,8 @@ use lib.ListN.{length, take}
 use lib.Seq.{take-all}
 use Rattle.listing.specs.Written.{Written}
 use Rattle.listing.proofs.Joined.{letter-written, written-as, same-room}
-use Rattle.listing.proofs.text.word.Statement.{statement}
-use Rattle.listing.proofs.text.word.Tie as tie
+use Rattle.listing.proofs.put.word.Statement.{statement}
+use Rattle.listing.proofs.put.word.Tie as tie
 
 abbrev Inv-loop : tie.InvT-loop
 Inv-loop out₀ at letters i₀ out i =
@@ -19,7 +19,7 @@ abbrev μ-loop : tie.MeasureT-loop
 μ-loop out₀ at letters i₀ out i = length letters - i
 
 loop-holds : tie.Need-loop-holds Inv-loop μ-loop
-loop-holds c = (omega arith, c .pre, record { bytes = refl; end = refl })
+loop-holds c = (omega arith, c .pre, record { bytes = refl; end = refl; within = omega arith })
 
 shared-slice-read-out : tie.Need-shared-slice-read-out Inv-loop μ-loop
 shared-slice-read-out c = omega arith
@@ -39,7 +39,7 @@ loop-less c = omega arith
 loop-again : tie.Need-loop-again Inv-loop μ-loop
 loop-again c =
     let l = c .before .before .loop in
-    (omega arith, l .inv .1, letter-written _ (c .before .loop-test .taken) (l .inv .2))
+    (omega arith, l .inv .1, letter-written _ (c .before .loop-test .taken) (slice-write-out c) (l .inv .2))
 
 add-result : tie.Need-add-result Inv-loop μ-loop
 add-result c = search needs

@@ -1,9 +1,9 @@
--- `listing::text::digit` meets its contract: the digits are the bytes from 48 on.
+-- `listing::put::digit` meets its contract: the digits are the bytes from 48 on.
 -- Assumes nothing.
 use borrow.Author.Needs.{needs}
 use Rattle.model.specs.Listing.{digit}
-use Rattle.listing.proofs.text.digit.Statement.{statement}
-use Rattle.listing.proofs.text.digit.Tie as tie
+use Rattle.listing.proofs.put.digit.Statement.{statement}
+use Rattle.listing.proofs.put.digit.Tie as tie
 
 add-byte : tie.Need-add-byte
 add-byte c = search needs

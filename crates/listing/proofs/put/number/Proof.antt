@@ -1,9 +1,9 @@
--- `listing::text::number` meets its contract: one, two or three digits.
+-- `listing::put::number` meets its contract: one, two or three digits.
 -- Assumes nothing.
 use borrow.Author.Needs.{needs}
 use Rattle.listing.proofs.Joined.{both-written, written-as, decimal-ones, decimal-tens, decimal-hundreds}
-use Rattle.listing.proofs.text.number.Statement.{statement}
-use Rattle.listing.proofs.text.number.Tie as tie
+use Rattle.listing.proofs.put.number.Statement.{statement}
+use Rattle.listing.proofs.put.number.Tie as tie
 
 digit-requires : tie.Need-digit-requires
 digit-requires c κs = search needs
