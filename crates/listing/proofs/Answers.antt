@@ -1,6 +1,6 @@
 -- What plan answers for an input, and its sheet, are reported as the listing says.
 -- Assumes nothing.
-use mathlib.Core.Path.{_≡_, refl, _∙_, ap}
+use mathlib.Core.Path.{_≡_, refl, _∙_, ap, ap₂}
 use mathlib.Core.Bool.{Bool, true, false, cond}
 use mathlib.Core.List.{List, [], _∷_, _++_}
 use Prim.Native.Nat.{ℕ, _≤_, _<_}
@@ -17,6 +17,7 @@ use Rattle.model.specs.Sheet.{sheetOf}
 use Rattle.model.specs.Rebuild.{planTests, mapOutcome, mapSheet, planOutcome, planSheet, outcomeStatus}
 use Rattle.model.specs.Listing.{repairWord, fatalWord, refusedWord, decimal, listed, listing}
 use Rattle.model.specs.declared.Size.{Size}
+use Rattle.model.specs.declared.Outcome.{Outcome}
 use Rattle.model.specs.declared.Outcome.the-variants.{Repairs, Fatal, Refused}
 use Rattle.model.proofs.Fold.{by-cases}
 use Rattle.model.proofs.Refusal.{passed}
@@ -83,8 +84,11 @@ module _ (z : Size) (m s : List ℕ) (long : length s ≡ 98) where
       (fatal (gridOf z) (erasures m)) (λ e. omega arith) (λ e. omega arith))
       (λ e. omega arith)
 
--- So the report on plan's answer is the listing.
-pub plan-listed : (input s : List ℕ) → length s ≡ 98
-    → report (planOutcome (square (getD input 0 0)) (drop 1 input) s) (planSheet (square (getD input 0 0)) (drop 1 input) s) ≡ listing input
+-- So the report on plan's answer for the size and the map of an input is the listing.
+pub plan-listed : (input : List ℕ) (z : Size) (m s : List ℕ) {o : Outcome} {t : List ℕ} → length s ≡ 98
+    → z ≡ square (getD input 0 0) → m ≡ drop 1 input → o ≡ planOutcome z m s → t ≡ planSheet z m s → report o t ≡ listing input
 unfolding listing
-plan-listed input s long = plan-reported (square (getD input 0 0)) (drop 1 input) s long
+plan-listed input z m s long size map outcome sheet =
+    ap₂ report outcome sheet
+    ∙ ap₂ (λ (z : Size) (m : List ℕ). report (planOutcome z m s) (planSheet z m s)) size map
+    ∙ plan-reported (square (getD input 0 0)) (drop 1 input) s long
