@@ -12,19 +12,29 @@ fn heading(side: usize, block: usize) {
     io::write_all(STDOUT_FILENO, b"\n");
 }
 
-// What each call on an array answers. Look has no number: an empty part has length 0.
-fn calls(side: usize, block: usize, array: &mut [u8], map: &[u8], new: &[u8]) {
-    let size = Size { side: side };
-    let mut sheet = [0u8; 98];
-    heading(side, block);
+// What seal, check and write answer.
+fn parities(size: Size, block: usize, array: &mut [u8], new: &[u8]) {
     say::status(b"seal", array::seal(size, block, array));
     say::checked(b"check", array::check(size, block, array));
     say::status(b"write", array::write(size, block, array, 0, new));
+}
+
+// What look and rebuild answer. Look has no number: an empty part has length 0.
+fn losses(size: Size, block: usize, array: &mut [u8], map: &[u8]) {
+    let mut sheet = [0u8; 98];
     say::number(b"look", array::look(size, block, array, map, 0).len());
     say::outcome(
         b"rebuild",
         rebuild::rebuild(size, block, array, map, &mut sheet),
     );
+}
+
+// Each call on an array.
+fn calls(side: usize, block: usize, array: &mut [u8], map: &[u8], new: &[u8]) {
+    let size = Size { side: side };
+    heading(side, block);
+    parities(size, block, array, new);
+    losses(size, block, array, map);
 }
 
 // What plan answers, which takes no block.

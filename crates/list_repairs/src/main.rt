@@ -7,6 +7,7 @@ fn main() {
     let mut buffer = [0u8; 258];
     let n = io::read_full(STDIN_FILENO, &mut buffer);
     let text = listing::listing_of(&buffer[..n]);
+    let bytes = text.bytes;
     let len = text.len;
-    io::write_all(STDOUT_FILENO, &text.bytes[..len]);
+    io::write_all(STDOUT_FILENO, &bytes[..len]);
 }

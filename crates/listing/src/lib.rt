@@ -1,7 +1,7 @@
 // What the listing program prints: the repairs of a loss, the cycle of a fatal one, or a refusal.
 ghost use mathlib.Core.Path.{_≡_};
 ghost use Prim.Native.Nat.{_-_, _≤_};
-ghost use lib.ListN.{take, drop, getD, replicate};
+ghost use lib.ListN.{length, take, drop, getD, replicate};
 ghost use Rattle.model.specs.Grid.{square};
 ghost use Rattle.model.specs.Listing.{listing};
 
@@ -43,6 +43,7 @@ pub fn listing_of(input: &[u8]) -> Text
     ensures text { λ r. ⌜ take (r .len) (r .bytes) ≡ listing (now (input .entry)) ⌝ }
     ensures rest { λ r. ⌜ drop (r .len) (r .bytes) ≡ replicate (320 - r .len) 0 ⌝ }
     ensures within { λ r. ⌜ r .len ≤ 320 ⌝ }
+    ensures size { λ r. ⌜ length (r .bytes) ≡ 320 ⌝ }
 {
     let mut bytes = [0u8; 320];
     let mut sheet = [0u8; 98];

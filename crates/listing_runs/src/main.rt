@@ -1,28 +1,14 @@
 // The listing program's text for many inputs: a line that names the input, then the text.
-ghost use Prim.Native.Nat.{_≤_, _<_};
-ghost use lib.ListN.{length};
 use libc::STDOUT_FILENO;
 
 // One input by its name.
 fn run(name: &[u8], input: &[u8]) {
     let text = listing::listing_of(input);
+    let bytes = text.bytes;
     let len = text.len;
     io::write_all(STDOUT_FILENO, name);
     io::write_all(STDOUT_FILENO, b":\n");
-    io::write_all(STDOUT_FILENO, &text.bytes[..len]);
-}
-
-// Erased disks of a map: byte `from` of the input and every `step` bytes on, below `to`.
-fn mark(input: &mut [u8], from: usize, to: usize, step: usize)
-    requires { ⌜ to ≤ length (now input) ⌝ }
-    requires { ⌜ 0 < step ⌝ }
-    requires { ⌜ step < 256 ⌝ }
-{
-    let mut at = from;
-    while at < to {
-        input[at] = 1;
-        at += step;
-    }
+    io::write_all(STDOUT_FILENO, &bytes[..len]);
 }
 
 // Inputs that are refused.
@@ -72,8 +58,8 @@ fn cross() {
     let mut input = [0u8; 257];
     input[0] = 15;
     run(b"n = 15, none erased", &input);
-    mark(&mut input, 1, 17, 1);
-    mark(&mut input, 1, 257, 16);
+    trial::mark(&mut input, 1, 17, 1, 1);
+    trial::mark(&mut input, 1, 257, 16, 1);
     run(b"n = 15, row 0 and column 0 erased", &input);
 }
 
@@ -81,11 +67,11 @@ fn cross() {
 fn stairs() {
     let mut input = [0u8; 257];
     input[0] = 15;
-    mark(&mut input, 1, 257, 17);
-    mark(&mut input, 2, 257, 17);
-    mark(&mut input, 241, 242, 1);
+    trial::mark(&mut input, 1, 257, 17, 1);
+    trial::mark(&mut input, 2, 257, 17, 1);
+    trial::mark(&mut input, 241, 242, 1, 1);
     run(b"n = 15, stairs erased", &input);
-    mark(&mut input, 1, 257, 1);
+    trial::mark(&mut input, 1, 257, 1, 1);
     run(b"n = 15, all erased", &input);
 }
 

@@ -7,7 +7,7 @@ use borrow.Author.Needs.{needs}
 use lib.ListN.{replicate}
 use Rattle.model.specs.Rebuild.{outcomeStatus}
 use Rattle.model.specs.declared.Outcome.{Outcome}
-use Rattle.listing.proofs.Joined.{written-as, written-alone}
+use Rattle.listing.proofs.Joined.{written-as, written-alone, same-room}
 use Rattle.listing.proofs.Answers.{status-small, plan-listed}
 use Rattle.listing.proofs.listing_of.Statement.{statement}
 use Rattle.listing.proofs.listing_of.Tie as tie
@@ -41,8 +41,9 @@ returns c =
     let plan = c .before .before .before .before .before .plan in
     let blank : List ℕ = replicate 98 0 in
     let text = plan-listed _ _ _ blank refl (c .before .before .before .before .before .before .before .before .size-of .ensures) (c .before .before .before .before .before .before .before .map-of .ensures) (plan .ensures .0) (plan .ensures .1) in
-    let (all, rest, within) = written-alone 320 (written-as text (c .before .report .ensures)) in
-    (all, (rest, within))
+    let written = written-as text (c .before .report .ensures) in
+    let (all, rest, within) = written-alone 320 written in
+    (all, (rest, (within, same-room written)))
 
 pub listing-of-spec : {M : Type 1} → statement M
 listing-of-spec =
