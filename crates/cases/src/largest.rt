@@ -4,6 +4,13 @@ ghost use lib.ListN.{length};
 use crate::say;
 use model::Size;
 
+// The bytes of the largest array. The contract says how many they are, so that no proof counts them.
+fn blank() -> [u8; 1048576]
+    ensures { λ r. ⌜ length r ≡ 1048576 ⌝ }
+{
+    [0u8; 1048576]
+}
+
 // Spoils the blocks of the erased disks.
 fn spoil(array: &mut [u8], map: &[u8])
     requires { ⌜ length (now array) ≡ 1048576 ⌝ }
@@ -23,7 +30,7 @@ fn spoil(array: &mut [u8], map: &[u8])
 // and restores them.
 pub fn run() {
     let size = Size { side: 15 };
-    let mut array = [0u8; 1048576];
+    let mut array = blank();
     trial::mark(&mut array, 0, 1048576, 3, 7);
     trial::mark(&mut array, 1, 1048576, 5, 90);
     trial::mark(&mut array, 2, 1048576, 4099, 203);
