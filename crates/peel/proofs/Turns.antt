@@ -80,7 +80,7 @@ pub turn-none : (z : Size) (work counts sheet : List ℕ) → Tallied z work cou
 unfolding after
 turn-none z work counts sheet tallied blank = record { within = zero-le; tallied = tallied; left = refl; written = blank }
 
-module _ (z : Size) (fits : sizeFits z ≡ true) (e : ℕ → Bool) (work counts sheet : List ℕ) (k : ℕ) (turn : Turn z e work counts sheet k) where
+module _ {z : Size} (fits : sizeFits z ≡ true) {e : ℕ → Bool} {work counts sheet : List ℕ} {k : ℕ} (turn : Turn z e work counts sheet k) where
   -- There are fewer repairs than records.
   pub turn-short : k < 32
   turn-short =
