@@ -3,20 +3,21 @@
 use mathlib.Core.Path.{_≡_, refl, sym, _∙_, ap, subst}
 use mathlib.Core.Bool.{Bool, true, cond}
 use mathlib.Core.List.{List, [], _∷_, _++_}
-use Prim.Native.Nat.{ℕ, _+_, _≤_, _<_, zero-le}
+use Prim.Native.Nat.{ℕ, _+_, _-_, _≤_, _<_, zero-le}
 use native.Mathlib.Omega.{arith}
 use borrow.Author.Tests.{ltb-true, ltb-false}
 use lib.Dec.{ltb}
 use lib.ListN.{length, take}
 use lib.Seq.{length-take-le, take-length}
+use Rattle.model.specs.Fold.{count}
 use Rattle.model.specs.Stripes.{Layout}
 use Rattle.model.specs.Grid.{disks, grid, gridOf, sizeFits}
-use Rattle.model.specs.Repair.{Entry, erasures, without, nextDisk, repairOf, repairs, after, residual}
+use Rattle.model.specs.Repair.{Entry, erasures, without, nextDisk, repairOf, repairs, after, residual, lost}
 use Rattle.model.specs.Sheet.{sheetOf}
 use Rattle.model.specs.declared.Size.{Size}
 use Rattle.model.proofs.Fold.{by-cases, count-le}
 use Rattle.model.proofs.Grid.{Fits, size-fits, disks-bound, grid-disks, gridOf-two}
-use Rattle.model.proofs.Peel.{Allowed, allowed-is, next-allowed, after-snoc, repairs-peels, peel-goes, peel-stops}
+use Rattle.model.proofs.Peel.{Allowed, allowed-is, next-allowed, after-snoc, repairs-peels, repairs-lost, peel-goes, peel-stops}
 use Rattle.model.proofs.Degree.{on-bound, grid-repairs-bound}
 use Rattle.sheet.specs.Record.{appended}
 use Rattle.sheet.proofs.Appended.{append-record, sheet-length}
@@ -128,3 +129,11 @@ module _ {z : Size} (fits : sizeFits z ≡ true) {e : ℕ → Bool} {work counts
       let all : k ≡ length (repairs L e) = peel-stops L (L .disks) e (count-le (L .disks) e) k (turn .within) (says-then Nothing q) in
       let whole : take k (repairs L e) ≡ repairs L e = ap (λ (n : ℕ). take n (repairs L e)) all ∙ take-length (repairs L e) in
       (all, turn .left ∙ ap (after e) whole, turn .written ∙ ap (sheetOf 1) whole)
+
+-- The disks that are left: those erased less the repairs.
+pub left-over : (z : Size) (e : ℕ → Bool) (erased made : ℕ) → erased ≡ count (disks z) e → made ≡ length (repairs (gridOf z) e)
+    → (made ≤ erased) × (erased - made ≡ lost (gridOf z) e)
+left-over z e erased made all some =
+    let sum = repairs-lost (gridOf z) e in
+    let same = ap (λ (n : ℕ). count n e) (grid-disks z) in
+    (omega arith, omega arith)
