@@ -53,7 +53,8 @@ module _ (L : Layout) (e : ℕ → Bool) (d : ℕ) (inside : d < L .disks) where
 
     on-second : on L d high ≡ true
     unfolding on among
-    on-second = ap (among high) two ∙ ap (λ (b : Bool). eqb high low || (b || false)) (eq-eqb high high refl) ∙ or-true (eqb high low)
+    on-second =
+        ap (among high) two ∙ ap (λ (b : Bool). eqb high low || (b || false)) (eq-eqb high high refl) ∙ or-true (eqb high low)
 
     pub some-count : someAllowed L e d (L .through d) ≡ (e d && (eqb (degree L e low) 1 || eqb (degree L e high) 1))
     unfolding someAllowed
@@ -68,7 +69,8 @@ module _ (L : Layout) (e : ℕ → Bool) (d : ℕ) (inside : d < L .disks) where
         go true false false = refl
         go false x y = refl
 
-    pub first-count : someAllowed L e d (L .through d) ≡ true → firstAllowed L e d (L .through d) ≡ cond (eqb (degree L e low) 1) low high
+    pub first-count : someAllowed L e d (L .through d) ≡ true
+        → firstAllowed L e d (L .through d) ≡ cond (eqb (degree L e low) 1) low high
     unfolding firstAllowed
     first-count h =
         ap (firstAllowed L e d) two

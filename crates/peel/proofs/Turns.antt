@@ -56,7 +56,8 @@ unfolding repairOf
 next-fits z fits e d s q =
     let L : Layout = gridOf z in
     let (l, is) = subst (Says L e) (sym q) (picked-says L e) in
-    let a : Allowed L e d s = subst (λ (r : Entry). Allowed L e (r .disk) (r .stripe)) is (allowed-is L e _ _ (next-allowed L e l)) in
+    let a : Allowed L e d s =
+    subst (λ (r : Entry). Allowed L e (r .disk) (r .stripe)) is (allowed-is L e _ _ (next-allowed L e l)) in
     let f : Fits z = size-fits z fits in
     let inside : d < disks z = subst (λ (n : ℕ). d < n) (grid-disks z) (a .disk) in
     let stripe : s < L .stripeBound = on-bound L (gridOf-two z fits) d (a .disk) s (a .here) in
@@ -81,7 +82,8 @@ pub turn-none : (z : Size) (work counts sheet : List ℕ) → Tallied z work cou
 unfolding after
 turn-none z work counts sheet tallied blank = record { within = zero-le; tallied = tallied; left = refl; written = blank }
 
-module _ {z : Size} (fits : sizeFits z ≡ true) {e : ℕ → Bool} {work counts sheet : List ℕ} {k : ℕ} (turn : Turn z e work counts sheet k) where
+module _ {z : Size} (fits : sizeFits z ≡ true) {e : ℕ → Bool} {work counts sheet : List ℕ} {k : ℕ}
+    (turn : Turn z e work counts sheet k) where
   -- There are fewer repairs than records.
   pub turn-short : k < 32
   turn-short =
@@ -126,7 +128,8 @@ module _ {z : Size} (fits : sizeFits z ≡ true) {e : ℕ → Bool} {work counts
   unfolding repairs residual
   turn-ends q =
       let L : Layout = gridOf z in
-      let all : k ≡ length (repairs L e) = peel-stops L (L .disks) e (count-le (L .disks) e) k (turn .within) (says-then Nothing q) in
+      let all : k ≡ length (repairs L e) =
+      peel-stops L (L .disks) e (count-le (L .disks) e) k (turn .within) (says-then Nothing q) in
       let whole : take k (repairs L e) ≡ repairs L e = ap (λ (n : ℕ). take n (repairs L e)) all ∙ take-length (repairs L e) in
       (all, turn .left ∙ ap (after e) whole, turn .written ∙ ap (sheetOf 1) whole)
 

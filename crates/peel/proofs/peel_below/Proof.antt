@@ -50,10 +50,11 @@ layout c = gridOf (start c .args .size)
 abbrev erased : tie.After-peel-all → ℕ → Bool
 erased c = below (start c .args .k) (erasures (start c .args .map .now))
 
+loaded : (c : tie.After-peel-all) → erasures (c .before .before .before .before .before .before .before .load .last .1 .1 .1 .0) ≡ erased c
+loaded c = c .before .before .before .before .before .before .before .load .ensures .1 .0
+
 made : (c : tie.After-peel-all) → c .peel-all .result ≡ length (repairs (layout c) (erased c))
-made c =
-    c .peel-all .ensures .0
-    ∙ ap (λ (e : ℕ → Bool). length (repairs (layout c) e)) (c .before .before .before .before .before .before .before .load .ensures .1 .0)
+made c = c .peel-all .ensures .0 ∙ ap (λ (e : ℕ → Bool). length (repairs (layout c) e)) (loaded c)
 
 left : (c : tie.After-peel-all) →
     let all = c .before .before .before .before .before .before .before .load .result in
@@ -67,18 +68,16 @@ same-length : tie.Need-same-length
 same-length c = search needs
 
 same-length-2 : tie.Need-same-length-2
-same-length-2 c = c .before .before .before .before .before .peel-all .kept .1 .1 .1 .0 ∙ length-set (start (c .before .before .before .before .before) .args .sheet .now) 0 1
+same-length-2 c =
+    let p = c .before .before .before .before .before in
+    p .peel-all .kept .1 .1 .1 .0 ∙ length-set (start p .args .sheet .now) 0 1
 
 returns : tie.Need-returns
 returns c =
     let p = c .before .before .before .before .before in
-    let loaded = p .before .before .before .before .before .before .before .load .ensures .1 .0 in (
-      made p,
-      (
-        left p .1,
-        (p .peel-all .ensures .1 .0 ∙ ap (residual (layout p)) loaded, p .peel-all .ensures .1 .1 ∙ ap (λ (e : ℕ → Bool). sheetOf 1 (repairs (layout p) e)) loaded),
-      ),
-    )
+    let work = p .peel-all .ensures .1 .0 ∙ ap (residual (layout p)) (loaded p) in
+    let sheet = p .peel-all .ensures .1 .1 ∙ ap (λ (e : ℕ → Bool). sheetOf 1 (repairs (layout p) e)) (loaded p) in
+    (made p, (left p .1, (work, sheet)))
 
 pub peel-below-spec : {M : Type 1} → statement M
 peel-below-spec =

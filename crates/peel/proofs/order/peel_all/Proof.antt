@@ -40,7 +40,8 @@ enum-told c = c .match .keys2
 -- The lists keep their lengths.
 lengths : (l : tie.At-loop Inv-loop μ-loop) →
     let s = l .before .before .before .before .args in
-    (length (l .loop .work) ≡ length (s .work .now)) × (length (l .loop .counts) ≡ length (s .counts .now)) × (length (l .loop .sheet) ≡ length (s .sheet .now))
+    (length (l .loop .work) ≡ length (s .work .now)) × (length (l .loop .counts) ≡ length (s .counts .now))
+    × (length (l .loop .sheet) ≡ length (s .sheet .now))
 lengths l =
     let s = l .before .before .before .before in
     let t = l .loop .inv in (
@@ -73,8 +74,10 @@ take-requires c κs =
 append-requires : tie.Need-append-requires Inv-loop μ-loop
 append-requires c κs =
     let a = c .before .before .before .before .before .before .before .before .before in
-    let l = a .before .before .before .before .before .before in
-    (turn-sheet (l .before .before .before .before .pre .0) (l .loop .inv), (a .before .before .before .before .before .loop-test .taken, (fitting a .disk256, fitting a .stripe256)))
+    let t = a .before .before .before .before .before in
+    let l = t .before in
+    let long = turn-sheet (l .before .before .before .before .pre .0) (l .loop .inv) in
+    (long, (t .loop-test .taken, (fitting a .disk256, fitting a .stripe256)))
 
 add-k : tie.Need-add-k Inv-loop μ-loop
 add-k c = search needs
@@ -89,7 +92,8 @@ loop-again c =
     let a = c .before .before .before .before .before .before .before .before .before .before .before .before in
     let l = a .before .before .before .before .before .before in
     let s = l .before .before .before .before in
-    turn-next (s .pre .0) (l .loop .inv) _ _ (answered a) (take .last .1 .0) (take .last .1 .1 .0) (append .last .0) (take .ensures .1) (take .ensures .0) (append .ensures)
+    turn-next (s .pre .0) (l .loop .inv) _ _ (answered a) (take .last .1 .0) (take .last .1 .1 .0) (append .last .0)
+    (take .ensures .1) (take .ensures .0) (append .ensures)
 
 same-length : tie.Need-same-length Inv-loop μ-loop
 same-length c = lengths (c .before) .0

@@ -11,7 +11,6 @@ use borrow.Author.Count.{below-more}
 use lib.Dec.{eqb}
 use lib.ListN.{length, getD}
 use Rattle.model.specs.Repair.{erasures}
-use Rattle.model.proofs.Grid.{size-fits}
 use Rattle.peel.specs.Pick.{lowestInRow}
 use Rattle.peel.proofs.Rows.{tested, test-row, test-column, test-present, test-crowded, places, in-row-is}
 use Rattle.peel.proofs.pick.in_row.Statement.{statement}
@@ -29,12 +28,11 @@ across-requires : tie.Need-across-requires Inv-loop μ-loop
 across-requires c κs = c .before .before .pre .0
 
 -- The places that are read.
-reads-at : (c : tie.After-across Inv-loop μ-loop) → let s = c .before .before .before .args in
-    (s .row < length (s .counts .now)) × (s .row * c .across .result + c .across .result ≤ length (s .work .now)) × (16 + c .across .result ≤ length (s .counts .now))
-reads-at c =
-    let s = c .before .before .before in
-    places (s .args .size) (size-fits (s .args .size) (s .pre .0)) (s .args .work .now) (s .args .counts .now) (s .pre .1 .0) (s .args .row) (s .pre .1 .1)
-    (c .across .result) (c .across .ensures)
+reads-at : (c : tie.After-across Inv-loop μ-loop) →
+    let s = c .before .before .before .args in
+    let a = c .across .result in
+    (s .row < length (s .counts .now)) × (s .row * a + a ≤ length (s .work .now)) × (16 + a ≤ length (s .counts .now))
+reads-at c = let p = c .before .before .before .pre in places (p .0) (p .1 .0) (p .1 .1) (c .across .ensures)
 
 mul-first : tie.Need-mul-first Inv-loop μ-loop
 mul-first c = let h = reads-at c in search needs
@@ -51,18 +49,20 @@ add-if1 c = search needs
 shared-slice-read-if1 : tie.Need-shared-slice-read-if1 Inv-loop μ-loop
 shared-slice-read-if1 c = search needs
 
--- The column at which the loop is left, where it passes the test or there are no more columns.
+-- The column at which the loop is left: it passes the test, or there are no more columns.
 abbrev test : tie.At-loop Inv-loop μ-loop → ℕ → Bool
 test l =
     let s = l .before .before .before .before .before .args in
-    tested (s .work .now) (s .counts .now) (s .row * l .before .before .across .result) (eqb (getD (s .counts .now) (s .row) 0) 1)
+    let first = s .row * l .before .before .across .result in
+    tested (s .work .now) (s .counts .now) first (eqb (getD (s .counts .now) (s .row) 0) 1)
 
-answer : (l : tie.At-loop Inv-loop μ-loop) → let s = l .before .before .before .before .before .args in
-    (l .loop .c < l .before .before .across .result → test l (l .loop .c) ≡ true) → l .loop .c ≡ lowestInRow (s .size) (erasures (s .work .now)) (s .row)
+answer : (l : tie.At-loop Inv-loop μ-loop) →
+    let s = l .before .before .before .before .before .args in
+    (l .loop .c < l .before .before .across .result → test l (l .loop .c) ≡ true)
+    → l .loop .c ≡ lowestInRow (s .size) (erasures (s .work .now)) (s .row)
 answer l found =
-    let s = l .before .before .before .before .before in
-    in-row-is (s .args .size) (size-fits (s .args .size) (s .pre .0)) (s .args .work .now) (s .args .counts .now) (s .pre .1 .0) (s .args .row) (s .pre .1 .1)
-    (l .before .before .across .result) (l .before .before .across .ensures) (l .loop .c)
+    let p = l .before .before .before .before .before .pre in
+    in-row-is (p .0) (p .1 .0) (p .1 .1) (l .before .before .across .ensures) (l .loop .c)
     (record { within = l .loop .inv .0; none = l .loop .inv .3; found = found })
 
 returns : tie.Need-returns Inv-loop μ-loop
@@ -76,7 +76,8 @@ shared-slice-read-if3 c = search needs
 
 returns-2 : tie.Need-returns-2 Inv-loop μ-loop
 returns-2 c =
-    answer (c .before .before .before .before .before .before) (λ h. test-column _ _ _ _ _ (c .before .before .before .if1 .taken) (c .if3 .taken))
+    answer (c .before .before .before .before .before .before)
+    (λ h. test-column _ _ _ _ _ (c .before .before .before .if1 .taken) (c .if3 .taken))
 
 add-c : tie.Need-add-c Inv-loop μ-loop
 add-c c = search needs

@@ -11,7 +11,6 @@ use lib.Dec.{eqb}
 use lib.ListN.{length, getD}
 use Rattle.model.specs.Grid.{rows, gridOf}
 use Rattle.model.specs.Repair.{erasures}
-use Rattle.model.proofs.Grid.{size-fits}
 use Rattle.peel.specs.declared.Next.the-variants.{Repair}
 use Rattle.peel.specs.Pick.{picked}
 use Rattle.peel.proofs.Rows.{places, row-empty, row-none, Passed, passed-none, passed-next, picked-at, picked-none}
@@ -34,7 +33,8 @@ rows-requires : tie.Need-rows-requires Inv-loop μ-loop
 rows-requires c κs = search needs
 
 -- In the loop the row is one of the grid.
-inside : (c : tie.Then1 Inv-loop μ-loop) → c .before .before .loop .row ≤ rows (c .before .before .before .before .before .before .args .size)
+inside : (c : tie.Then1 Inv-loop μ-loop) →
+    c .before .before .loop .row ≤ rows (c .before .before .before .before .before .before .args .size)
 inside c = let h = c .if1 .taken in let e = c .before .rows .ensures in omega arith
 
 reads-at : (c : tie.Then1 Inv-loop μ-loop) →
@@ -43,9 +43,8 @@ reads-at : (c : tie.Then1 Inv-loop μ-loop) →
     let r = c .before .before .loop .row in
     (r < length (s .counts .now)) × (r * a + a ≤ length (s .work .now)) × (16 + a ≤ length (s .counts .now))
 reads-at c =
-    let s = c .before .before .before .before .before .before in
-    places (s .args .size) (size-fits (s .args .size) (s .pre .0)) (s .args .work .now) (s .args .counts .now) (s .pre .1)
-    (c .before .before .loop .row) (inside c) (c .before .before .before .across .result) (c .before .before .before .across .ensures)
+    let p = c .before .before .before .before .before .before .pre in
+    places (p .0) (p .1) (inside c) (c .before .before .before .across .ensures)
 
 shared-slice-read-if2 : tie.Need-shared-slice-read-if2 Inv-loop μ-loop
 shared-slice-read-if2 c = reads-at (c .before) .0
@@ -74,11 +73,10 @@ found : (c : tie.Then3 Inv-loop μ-loop) (one : Bool) →
     → Repair (l .loop .row * a + k) (cond one (l .loop .row) (16 + k)) ≡ picked (gridOf (s .size)) (erasures (s .work .now))
 found c one e =
     let l = c .before .before .before .before .before .before in
-    let s = l .before .before .before .before in
+    let p = l .before .before .before .before .pre in
     sym
-    (picked-at (s .args .size) (size-fits (s .args .size) (s .pre .0)) (s .args .work .now) (s .args .counts .now) (s .pre .1)
-    (l .loop .row) (inside (c .before .before .before .before)) (l .loop .inv) (l .before .across .result) (l .before .across .ensures)
-    (c .before .in-row .result) (c .if3 .taken) (c .before .in-row .ensures) one e)
+    (picked-at (p .0) (p .1) (inside (c .before .before .before .before)) (l .loop .inv) (l .before .across .ensures)
+    (c .if3 .taken) (c .before .in-row .ensures) one e)
 
 returns : tie.Need-returns Inv-loop μ-loop
 returns c = found (c .before .before) true (eq-eqb _ 1 (c .if4 .taken))
@@ -99,16 +97,10 @@ loop-again : tie.Need-loop-again Inv-loop μ-loop
 loop-again c =
     let t = c .before .before in
     let l = t .before .before in
-    let s = l .before .before .before .before in
-    passed-next (s .args .size) (erasures (s .args .work .now)) (l .loop .row) (inside t) (l .loop .inv)
-    (⊎-elim
-    (λ w.
-    row-none (s .args .size) (erasures (s .args .work .now)) (l .loop .row) (l .before .across .result) (w .1 .result)
-    (l .before .across .ensures) (w .1 .ensures) (w .2 .left))
-    (λ w.
-    row-empty (s .args .size) (size-fits (s .args .size) (s .pre .0)) (s .args .work .now) (s .args .counts .now) (s .pre .1)
-    (l .loop .row) (inside t) (w .left))
-    (c .if2 .came))
+    let p = l .before .before .before .before .pre in
+    passed-next (inside t) (l .loop .inv)
+    (⊎-elim (λ w. row-none _ _ _ (l .before .across .ensures) (w .1 .ensures) (w .2 .left))
+    (λ w. row-empty (p .0) (p .1) (inside t) (w .left)) (c .if2 .came))
 
 returns-3 : tie.Need-returns-3 Inv-loop μ-loop
 returns-3 c =
