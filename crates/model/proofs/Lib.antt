@@ -6,6 +6,9 @@ pub mod Refusal
 pub mod Peel
 pub mod Degree
 pub mod Core
+pub mod Counts
+pub mod Walk
+pub mod Trace
 pub mod Seal
 pub mod Check
 pub mod Write

@@ -4,7 +4,10 @@ ghost use mathlib.Core.Path.{_≡_};
 ghost use Rattle.model.specs.Grid.{square};
 ghost use Rattle.model.specs.Array.{sealStatus, sealArray, checked, checkStatus, checkStripe, writeStatus, writeArray};
 ghost use Rattle.model.specs.Array.{lookLength, lookPlace};
+ghost use Rattle.model.specs.Rebuild.{planOutcome, planSheet, outcomeStatus, outcomeCount};
+ghost use Rattle.model.specs.Rebuild.{rebuildOutcome, rebuildArray, rebuildSheet};
 use model::Checked;
+use model::Outcome;
 use model::Size;
 
 #[no_mangle]
@@ -66,4 +69,61 @@ pub extern "C" fn raid2d_look(
     }
     *offset = disk * block;
     len
+}
+
+// The number of an outcome; its count goes to `count`, if it has one.
+fn report(answer: Outcome, count: &mut usize) -> u32
+    ensures status { λ r. ⌜ r ≡ outcomeStatus answer ⌝ }
+    ensures count { λ r. ⌜ now (count .exit) ≡ outcomeCount answer (now (count .entry)) ⌝ }
+{
+    match answer {
+        Outcome::Repairs(number) => {
+            *count = number;
+            0
+        }
+        Outcome::Fatal(number) => {
+            *count = number;
+            6
+        }
+        Outcome::Refused(status) => status,
+    }
+}
+
+#[no_mangle]
+pub extern "C" fn raid2d_plan(n: usize, map: &[u8], sheet: &mut [u8], count: &mut usize) -> u32
+    ensures status { λ r. ⌜ r ≡ outcomeStatus (planOutcome (square n) (now (map .entry)) (now (sheet .entry))) ⌝ }
+    ensures sheet { λ r. ⌜ now (sheet .exit) ≡ planSheet (square n) (now (map .entry)) (now (sheet .entry)) ⌝ }
+    ensures count { λ r. ⌜
+        now (count .exit) ≡ outcomeCount (planOutcome (square n) (now (map .entry)) (now (sheet .entry))) (now (count .entry))
+        ⌝ }
+{
+    let answer = plan::plan(Size { side: n }, map, sheet);
+    report(answer, count)
+}
+
+#[no_mangle]
+pub extern "C" fn raid2d_rebuild(
+    n: usize,
+    block: usize,
+    array: &mut [u8],
+    map: &[u8],
+    sheet: &mut [u8],
+    count: &mut usize,
+) -> u32
+    ensures status { λ r. ⌜
+        r ≡ outcomeStatus (rebuildOutcome (square n) block (now (array .entry)) (now (map .entry)) (now (sheet .entry)))
+        ⌝ }
+    ensures array { λ r. ⌜
+        now (array .exit) ≡ rebuildArray (square n) block (now (array .entry)) (now (map .entry)) (now (sheet .entry))
+        ⌝ }
+    ensures sheet { λ r. ⌜
+        now (sheet .exit) ≡ rebuildSheet (square n) block (now (array .entry)) (now (map .entry)) (now (sheet .entry))
+        ⌝ }
+    ensures count { λ r. ⌜
+        now (count .exit) ≡ outcomeCount
+        (rebuildOutcome (square n) block (now (array .entry)) (now (map .entry)) (now (sheet .entry))) (now (count .entry))
+        ⌝ }
+{
+    let answer = rebuild::rebuild(Size { side: n }, block, array, map, sheet);
+    report(answer, count)
 }

@@ -1,0 +1,46 @@
+// Demand 3 of paper 01 about the calls themselves: both are made on one input, and what they answer and leave behind is what
+// the demand says.
+ghost use mathlib.Core.Path.{_≡_};
+ghost use lib.ListN.{length};
+ghost use Rattle.model.specs.Refusal.{refusal};
+ghost use Rattle.model.specs.Rebuild.{planTests, rebuildTests};
+ghost use Rattle.model.specs.Demand3.{Demand3};
+use model::Outcome;
+use model::Size;
+
+// The two answers.
+pub struct Answers {
+    pub planned: Outcome,
+    pub rebuilt: Outcome,
+}
+
+// Plans the repair of a loss into one sheet, and rebuilds the array with another. For every input that the refusals before 6 let
+// through, demand 3 holds.
+pub fn plan_and_rebuild(
+    size: Size,
+    block: usize,
+    array: &mut [u8],
+    map: &[u8],
+    plan_sheet: &mut [u8],
+    sheet: &mut [u8],
+) -> Answers
+    ensures demand3 { λ r. ⌜
+        (refusal (planTests size (now (map .entry)) (length (now (plan_sheet .entry)))) ≡ 0
+        → refusal (rebuildTests size block (length (now (array .entry))) (now (map .entry)) (length (now (sheet .entry)))) ≡ 0
+        → Demand3 size block (now (array .entry)) (now (map .entry))
+        (record {
+          planned = r .planned;
+          planSheet = now (plan_sheet .exit);
+          rebuilt = r .rebuilt;
+          array = now (array .exit);
+          sheet = now (sheet .exit);
+        }))
+        ⌝ }
+{
+    let planned = plan::plan(size, map, plan_sheet);
+    let rebuilt = rebuild::rebuild(size, block, array, map, sheet);
+    Answers {
+        planned: planned,
+        rebuilt: rebuilt,
+    }
+}
