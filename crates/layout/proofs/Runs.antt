@@ -4,7 +4,7 @@ use mathlib.Core.Path.{_≡_, refl, sym, _∙_, ap, ap₂, subst}
 use mathlib.Core.Bool.{Bool, true, false, _||_, or-false}
 use mathlib.Core.Logic.{⊎-elim}
 use Prim.Native.Nat.{ℕ, _+_, _*_, _-_, _/_, _%_, _≤_, _<_}
-use native.Mathlib.Nat.{add-sub-of-le, le-refl, lt-irrefl, le-of-lt, lt-trans, lt-of-mul-lt-mul-right, eq-of-mul-eq-mul-right}
+use native.Mathlib.Nat.{add-sub-of-le, lt-trans, lt-of-mul-lt-mul-right, eq-of-mul-eq-mul-right}
 use native.Mathlib.Omega.{arith}
 use borrow.Author.Tests.{eq-eqb, ne-eqb, eqb-true, lt-ltb, le-ltb}
 use lib.Dec.{eqb}
@@ -12,7 +12,7 @@ use Rattle.model.specs.Fold.{xsum, lowest}
 use Rattle.model.specs.Stripes.{among, on, sumOver}
 use Rattle.model.specs.Grid.{grid, rows, columns, across, gridOf, disks, diskAt}
 use Rattle.model.specs.declared.Size.{Size}
-use Rattle.model.proofs.Fold.{same-test, by-cases, lt-or-le, xsum-ext, Lowest, lowest-is, lowest-unique}
+use Rattle.model.proofs.Fold.{same-test, by-cases, lt-or-le, xsum-ext, lowest-found, lowest-end}
 use Rattle.model.proofs.Grid.{Fits, across-positive, row-over, column-over, column-inside, row-of, column-of, disk-below, disk-is, row-within, column-within}
 use Rattle.layout.specs.Stripe.{disksOn, placeOn}
 use Rattle.layout.specs.declared.Run.{Run}
@@ -137,21 +137,9 @@ module _ (z : Size) (s : ℕ) (run : Run) (place : ℕ → ℕ) (r : RunOf z s r
         → t (run .first + k * run .step) ≡ true → run .first + k * run .step ≡ lowest (disks z) t
     lowest-on k h none found =
         let l : run .first + k * run .step < disks z = r .inside k h in
-        lowest-unique (disks z) t _ _
-        (record {
-          within = le-of-lt l;
-          none = λ d b. passed-none k none d (lt-trans b l) (λ o. place-below d (lt-trans b l) o k b);
-          found = λ b. found;
-        })
-        (lowest-is (disks z) t)
+        lowest-found (disks z) t (run .first + k * run .step) l
+        (λ d b. passed-none k none d (lt-trans b l) (λ o. place-below d (lt-trans b l) o k b)) found
 
     -- and there is none where it holds at no place.
     pub none-on : ((j : ℕ) → j < run .count → t (run .first + j * run .step) ≡ false) → disks z ≡ lowest (disks z) t
-    none-on none =
-        lowest-unique (disks z) t _ _
-        (record {
-          within = le-refl (disks z);
-          none = λ d l. passed-none (run .count) none d l (r .within d l);
-          found = λ l. absurd (lt-irrefl (disks z) l);
-        })
-        (lowest-is (disks z) t)
+    none-on none = lowest-end (disks z) t (λ d l. passed-none (run .count) none d l (r .within d l))
