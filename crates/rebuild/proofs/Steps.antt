@@ -49,7 +49,8 @@ module _ (z : Size) (B : ℕ) (a : List ℕ) (long : length a ≡ arrayBytes z B
   unfolding sumOfOthers others
   others-on p =
       r .summed _
-      ∙ xsum-ext (run .count) (λ k h. ap (λ (t : Bool). gate (not t) (byte (whole B) a (run .first + k * run .step) p)) (same-place k h))
+      ∙ xsum-ext (run .count)
+      (λ k h. ap (λ (t : Bool). gate (not t) (byte (whole B) a (run .first + k * run .step) p)) (same-place k h))
 
   -- The blocks of the run lie within the array and apart from each other,
   run-spaced : Spaced a (run .first * B) (run .step * B) (run .count) own B
@@ -84,7 +85,8 @@ pub record Repair (z : Size) (B : ℕ) (a : List ℕ) (d s : ℕ) (run : Run) (o
   pub start : run .first * B ≤ length a
   pub stride : run .step * B ≤ 65536
   pub spaced : Spaced a (run .first * B) (run .step * B) (run .count) own B
-  pub made : filled B a (run .first * B) (run .step * B) (run .count) own ≡ repaired (gridOf z) (whole B) a (record { disk = d; stripe = s })
+  pub made : filled B a (run .first * B) (run .step * B) (run .count) own
+      ≡ repaired (gridOf z) (whole B) a (record { disk = d; stripe = s })
 
 pub repair-is : (z : Size) (B : ℕ) (a : List ℕ) → refusal (arrayTests z B (length a)) ≡ 0
     → (d s : ℕ) → d < disks z → on (gridOf z) d s ≡ true
@@ -92,7 +94,8 @@ pub repair-is : (z : Size) (B : ℕ) (a : List ℕ) → refusal (arrayTests z B 
 repair-is z B a ok d s below there run run-is own own-is =
     let fits = array-fits z B (length a) ok in
     let size = size-fits z (fits .size) in
-    let r : RunOf z s run (λ d. placeOn z d s) = subst (λ (run : Run). RunOf z s run (λ d. placeOn z d s)) (sym run-is) (run-of z size d s below there) in
+    let r : RunOf z s run (λ d. placeOn z d s) =
+    subst (λ (run : Run). RunOf z s run (λ d. placeOn z d s)) (sym run-is) (run-of z size d s below there) in
     let spaced = run-spaced z B a (fits .long) d s below there run (λ d. placeOn z d s) r own own-is in
     let small : run .step ≤ 16 = subst (λ (run : Run). run .step ≤ 16) (sym run-is) (step-small z size s) in
     record {
@@ -117,7 +120,8 @@ module _ (L : Layout) (x : Stretch) (a sheet : List ℕ) where
   records-none = refl
 
   -- The repair that record k names, after those before it.
-  pub records-next : (k : ℕ) (b : List ℕ) → b ≡ rebuilt L x a (records sheet k) → (d s : ℕ) → d ≡ recordDisk sheet k → s ≡ recordStripe sheet k
+  pub records-next : (k : ℕ) (b : List ℕ) → b ≡ rebuilt L x a (records sheet k)
+      → (d s : ℕ) → d ≡ recordDisk sheet k → s ≡ recordStripe sheet k
       → repaired L x b (record { disk = d; stripe = s }) ≡ rebuilt L x a (records sheet (k + 1))
   unfolding records
   records-next k b e d s disk-is stripe-is =

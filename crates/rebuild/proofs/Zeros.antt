@@ -54,7 +54,8 @@ module _ (z : Size) (B : ℕ) (a : List ℕ) (long : length a ≡ arrayBytes z B
         (λ d l.
         ⊎-elim (λ h. simp (lt-ltb d k h, lt-ltb d (k + 1) (omega arith)))
         (λ h.
-        ⊎-elim (λ q. let same : d ≡ k = sym q in simp (same, present, and-false)) (λ (q : k < d). simp (le-ltb d k h, le-ltb d (k + 1) (omega arith))) (eq-or-lt-of-le h))
+        ⊎-elim (λ q. let same : d ≡ k = sym q in simp (same, present, and-false))
+        (λ (q : k < d). simp (le-ltb d k h, le-ltb d (k + 1) (omega arith))) (eq-or-lt-of-le h))
         (lt-or-le d k))
 
     pub zeroed-erased : e k ≡ true → stored b (k * B) B (λ i. 0) ≡ zeroed (whole B) a (below (k + 1) e)

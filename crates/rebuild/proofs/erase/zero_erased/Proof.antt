@@ -1,14 +1,13 @@
 -- `rebuild::erase::zero_erased` meets its contract: after d turns the erased disks below d are zero.
 -- Assumes nothing.
-use mathlib.Core.Path.{_≡_, _∙_, ap, sym}
+use mathlib.Core.Path.{_≡_, _∙_, ap}
 use mathlib.Core.Logic.{⊎-elim}
-use Prim.Native.Nat.{ℕ, _+_, _*_, _≤_, _<_, _-_}
+use Prim.Native.Nat.{ℕ, _+_, _*_, _≤_, _-_}
 use native.Mathlib.Omega.{arith}
 use borrow.Author.Needs.{needs}
 use borrow.Author.Tests.{eq-eqb, ne-eqb}
 use lib.ListN.{length}
 use Rattle.model.specs.Stripes.{whole}
-use Rattle.model.specs.Grid.{disks}
 use Rattle.model.specs.Repair.{erasures, zeroed}
 use Rattle.model.specs.Cycle.{below}
 use Rattle.model.proofs.Refusal.{ArrayFits, array-fits}
@@ -73,8 +72,14 @@ loop-again c =
     let l = c .before .before .before .loop in (
       search needs,
       ⊎-elim
-          (λ w. w .5 ∙ w .2 .ensures ∙ zeroed-erased (a .size) (a .block) (a .array .now) (sized s .long) (erasures (a .map .now)) (l .d) (l .array) (l .inv .1) (eq-eqb _ 1 (w .0 .taken)))
-          (λ w. w .1 ∙ zeroed-present (a .size) (a .block) (a .array .now) (sized s .long) (erasures (a .map .now)) (l .d) (l .array) (l .inv .1) (ne-eqb _ 1 (w .0 .left)))
+          (λ w.
+          w .5 ∙ w .2 .ensures
+          ∙ zeroed-erased (a .size) (a .block) (a .array .now) (sized s .long) (erasures (a .map .now)) (l .d) (l .array) (l .inv .1)
+          (eq-eqb _ 1 (w .0 .taken)))
+          (λ w.
+          w .1
+          ∙ zeroed-present (a .size) (a .block) (a .array .now) (sized s .long) (erasures (a .map .now)) (l .d) (l .array) (l .inv .1)
+          (ne-eqb _ 1 (w .0 .left)))
           (c .if1 .came),
     )
 

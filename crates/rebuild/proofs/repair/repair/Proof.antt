@@ -19,7 +19,8 @@ known : (c : tie.After-place-on) → let a = c .before .before .before .args in
 known c =
     let s = c .before .before .before in
     let a = s .args in
-    repair-is (a .size) (a .block) (a .array .now) (s .pre .0) (a .disk) (a .stripe) (s .pre .1 .0) (s .pre .1 .1) _ (c .before .disks-on .ensures) _ (c .place-on .ensures)
+    repair-is (a .size) (a .block) (a .array .now) (s .pre .0) (a .disk) (a .stripe) (s .pre .1 .0) (s .pre .1 .1)
+    _ (c .before .disks-on .ensures) _ (c .place-on .ensures)
 
 disks-on-requires : tie.Need-disks-on-requires
 disks-on-requires c κs = fitting (c .before)

@@ -1,14 +1,12 @@
 -- `rebuild::repair::repair_all` meets its contract: after k turns the first k records are made.
 -- Assumes nothing.
-use mathlib.Core.Path.{_≡_, _∙_, sym, ap, ap₂}
-use mathlib.Core.Bool.{true}
-use mathlib.Core.List.{List}
-use Prim.Native.Nat.{ℕ, _≤_, _<_, _-_}
+use mathlib.Core.Path.{_≡_, _∙_, ap, ap₂}
+use Prim.Native.Nat.{ℕ, _≤_, _-_}
 use native.Mathlib.Omega.{arith}
 use borrow.Author.Needs.{needs}
 use lib.ListN.{length}
 use Rattle.model.specs.Stripes.{on, whole}
-use Rattle.model.specs.Grid.{gridOf, disks}
+use Rattle.model.specs.Grid.{gridOf}
 use Rattle.model.specs.Refusal.{refusal, arrayTests}
 use Rattle.model.specs.Repair.{rebuilt}
 use Rattle.model.proofs.Restore.{length-rebuilt}
@@ -18,17 +16,23 @@ use Rattle.rebuild.proofs.repair.repair_all.Statement.{statement}
 use Rattle.rebuild.proofs.repair.repair_all.Tie as tie
 
 abbrev Inv-loop : tie.InvT-loop
-Inv-loop size block array₀ sheet count k₀ array k = (k ≤ count) × (array ≡ rebuilt (gridOf size) (whole block) array₀ (records sheet k))
+Inv-loop size block array₀ sheet count k₀ array k =
+    (k ≤ count) × (array ≡ rebuilt (gridOf size) (whole block) array₀ (records sheet k))
 
 abbrev μ-loop : tie.MeasureT-loop
 μ-loop size block array₀ sheet count k₀ array k = count - k
 
 -- The array keeps its length.
 kept : (c : tie.At-loop Inv-loop μ-loop) → length (c .loop .array) ≡ length (c .before .before .before .args .array .now)
-kept c = let a = c .before .before .before .args in ap length (c .loop .inv .1) ∙ length-rebuilt (gridOf (a .size)) (whole (a .block)) (a .array .now) (records (a .sheet .now) (c .loop .k))
+kept c =
+    let a = c .before .before .before .args in
+    ap length (c .loop .inv .1)
+    ∙ length-rebuilt (gridOf (a .size)) (whole (a .block)) (a .array .now) (records (a .sheet .now) (c .loop .k))
 
 loop-holds : tie.Need-loop-holds Inv-loop μ-loop
-loop-holds c = let a = c .before .before .args in (search needs, records-none (gridOf (a .size)) (whole (a .block)) (a .array .now) (a .sheet .now))
+loop-holds c =
+    let a = c .before .before .args in
+    (search needs, records-none (gridOf (a .size)) (whole (a .block)) (a .array .now) (a .sheet .now))
 
 record-disk-requires : tie.Need-record-disk-requires Inv-loop μ-loop
 record-disk-requires c κs = search needs
@@ -59,9 +63,12 @@ loop-less c = search needs
 loop-again : tie.Need-loop-again Inv-loop μ-loop
 loop-again c =
     let a = c .before .before .before .before .before .before .before .before .before .before .args in
-    let l = c .before .before .before .before .before .before .before .loop in
-    let made = c .before .before .repair .ensures in
-    (search needs, made ∙ records-next (gridOf (a .size)) (whole (a .block)) (a .array .now) (a .sheet .now) (l .k) (l .array) (l .inv .1) _ _ (c .before .before .before .before .before .record-disk .ensures) (c .before .before .before .before .record-stripe .ensures))
+    let l = c .before .before .before .before .before .before .before .loop in (
+      search needs,
+      c .before .before .repair .ensures
+          ∙ records-next (gridOf (a .size)) (whole (a .block)) (a .array .now) (a .sheet .now) (l .k) (l .array) (l .inv .1) _ _
+          (c .before .before .before .before .before .record-disk .ensures) (c .before .before .before .before .record-stripe .ensures),
+    )
 
 same-length : tie.Need-same-length Inv-loop μ-loop
 same-length c = kept (c .before)
@@ -70,7 +77,8 @@ returns : tie.Need-returns Inv-loop μ-loop
 returns c =
     let a = c .before .before .before .before .args in
     let l = c .before .loop in
-    l .inv .1 ∙ ap (λ (n : ℕ). rebuilt (gridOf (a .size)) (whole (a .block)) (a .array .now) (records (a .sheet .now) n)) (omega arith)
+    l .inv .1
+    ∙ ap (λ (n : ℕ). rebuilt (gridOf (a .size)) (whole (a .block)) (a .array .now) (records (a .sheet .now) n)) (omega arith)
 
 pub repair-all-spec : {M : Type 1} → statement M
 repair-all-spec =
