@@ -9,10 +9,13 @@ pub mod Core
 pub mod Counts
 pub mod Walk
 pub mod Trace
+pub mod Loop
 pub mod Seal
 pub mod Check
 pub mod Write
 pub mod Restore
 pub mod Accept
 pub mod Demand2
+pub mod Outcomes
+pub mod Demand3
 pub mod Cases

@@ -1,11 +1,11 @@
 -- The cycle that is shown of a set of disks with just two on each stripe touched.
 -- Assumes nothing.
 use mathlib.Core.Path.{_≡_, refl, sym, _∙_, ap, ap₂, subst}
-use mathlib.Core.Bool.{Bool, true, false, cond}
+use mathlib.Core.Bool.{Bool, true, cond}
 use mathlib.Core.Logic.{_⊎_, inl, inr, ⊎-elim}
 use mathlib.Core.List.{List, [], _∷_}
 use Prim.Native.Nat.{ℕ, zero, suc, _+_, _≤_, _<_, zero-le}
-use native.Mathlib.Nat.{le-refl, le-of-suc-le}
+use native.Mathlib.Nat.{le-refl, le-of-suc-le, eq-or-lt-of-le, ne-of-lt}
 use native.Mathlib.Omega.{arith}
 use borrow.Author.Tests.{eqb-true, eqb-false, eq-eqb, ne-eqb, ltb-true, lt-ltb}
 use lib.Dec.{eqb, ltb}
@@ -40,15 +40,21 @@ getD-table at z i (suc n) zero l = ap at (omega arith)
 getD-table at z i (suc n) (suc j) l = getD-table at z (suc i) n j (omega arith) ∙ ap at (omega arith)
 
 -- The number after i in turn.
+pub following-last : (w : List Entry) (i : ℕ) → suc i ≡ length w → following w i ≡ 0
+unfolding following
+following-last w i e = ap (λ (b : Bool). cond b 0 (suc i)) (eq-eqb (suc i) (length w) e)
+
+pub following-inner : (w : List Entry) (i : ℕ) → suc i < length w → following w i ≡ suc i
+unfolding following
+following-inner w i l = ap (λ (b : Bool). cond b 0 (suc i)) (ne-eqb (suc i) (length w) (ne-of-lt l))
+
 pub following-is : (w : List Entry) (i : ℕ) → i < length w
     → ((suc i ≡ length w) × (following w i ≡ 0)) ⊎ ((suc i < length w) × (following w i ≡ suc i))
-unfolding following
-following-is w i l = go (eqb (suc i) (length w)) refl
-  where
-    go : (b : Bool) → eqb (suc i) (length w) ≡ b
-        → ((suc i ≡ length w) × (cond b 0 (suc i) ≡ 0)) ⊎ ((suc i < length w) × (cond b 0 (suc i) ≡ suc i))
-    go true e = inl (eqb-true (suc i) (length w) e, refl)
-    go false e = let d = eqb-false (suc i) (length w) e in inr (omega arith, refl)
+following-is w i l =
+    ⊎-elim (λ e. inl (e, following-last w i e)) (λ k. inr (k, following-inner w i k)) (eq-or-lt-of-le l)
+
+pub following-below : (w : List Entry) (i : ℕ) → i < length w → following w i < length w
+following-below w i l = ⊎-elim (λ p. omega (arith, p .1)) (λ p. omega (arith, p .0, p .1)) (following-is w i l)
 
 -- The list of a walk up to entry m.
 walked : (ℕ → Entry) → ℕ → List Entry

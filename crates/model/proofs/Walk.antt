@@ -39,29 +39,27 @@ module _ (L : Layout) (two : TwoStripes L) (d : ℕ) (l : d < L .disks) where
   apart : two .high d ≡ two .low d → ⊥
   apart e = let h = two .order d l in omega arith
 
+  besides-of : (s t a b : ℕ) → s ≡ a → t ≡ b → (b ≡ a → ⊥) → on L d b ≡ true
+      → ((x : ℕ) → on L d x ≡ true → (x ≡ a) ⊎ (x ≡ b)) → Besides L d s t
+  besides-of s t a b p q differs lies which =
+      record {
+        lies = ap (on L d) q ∙ lies;
+        differs = λ k. differs (sym q ∙ k ∙ p);
+        only = λ x k. ⊎-elim (λ f. inl (f ∙ sym p)) (λ f. inr (f ∙ sym q)) (which x k);
+      }
+
   -- The one besides a given one is the first of the list that differs from it.
   pub besides : (s : ℕ) → on L d s ≡ true → Besides L d s (otherThan s (L .through d))
-  besides s h = ⊎-elim from-low from-high (on-which L two d l s h)
-    where
-      from-low : s ≡ two .low d → Besides L d s (otherThan s (L .through d))
-      from-low e =
-          let it : otherThan s (L .through d) ≡ two .high d =
-          ap₂ otherThan e (two .two d l) ∙ other-first (two .low d) (two .high d) apart in
-          record {
-            lies = ap (on L d) it ∙ on-high L two d l;
-            differs = λ q. apart (sym it ∙ q ∙ e);
-            only = λ x k. ⊎-elim (λ f. inl (f ∙ sym e)) (λ f. inr (f ∙ sym it)) (on-which L two d l x k);
-          }
-
-      from-high : s ≡ two .high d → Besides L d s (otherThan s (L .through d))
-      from-high e =
-          let it : otherThan s (L .through d) ≡ two .low d =
-          ap₂ otherThan e (two .two d l) ∙ other-second (two .low d) (two .high d) apart in
-          record {
-            lies = ap (on L d) it ∙ on-low L two d l;
-            differs = λ q. apart (sym e ∙ sym q ∙ it);
-            only = λ x k. ⊎-elim (λ f. inr (f ∙ sym it)) (λ f. inl (f ∙ sym e)) (on-which L two d l x k);
-          }
+  besides s h =
+      ⊎-elim
+      (λ e.
+      besides-of s (otherThan s (L .through d)) (two .low d) (two .high d) e
+      (ap₂ otherThan e (two .two d l) ∙ other-first (two .low d) (two .high d) apart) apart (on-high L two d l) (on-which L two d l))
+      (λ e.
+      besides-of s (otherThan s (L .through d)) (two .high d) (two .low d) e
+      (ap₂ otherThan e (two .two d l) ∙ other-second (two .low d) (two .high d) apart) (λ q. apart (sym q)) (on-low L two d l)
+      (λ x k. ⊎-elim inr inl (on-which L two d l x k)))
+      (on-which L two d l s h)
 
 -- ---- one step
 

@@ -2,14 +2,14 @@
 -- survivors are the disks that the map has as present; x is the whole block, e the erased disks, L the grid.
 -- Assumes nothing.
 use mathlib.Core.Path.{_≡_}
-use mathlib.Core.Bool.{Bool, true, false}
+use mathlib.Core.Bool.{Bool, true}
 use mathlib.Core.Logic.{_↔_}
 use mathlib.Core.List.{List}
 use Prim.Native.Nat.{ℕ, _≤_, _<_}
 use lib.Dec.{eqb}
 use lib.ListN.{length, take}
 use Rattle.model.specs.Fold.{bit, count}
-use Rattle.model.specs.Stripes.{Layout, Stretch, whole, Codeword}
+use Rattle.model.specs.Stripes.{Layout, whole, Codeword}
 use Rattle.model.specs.Grid.{gridOf, disks}
 use Rattle.model.specs.Repair.{erasures, Entry, allowed, after, zeroed, Agree, Belongs, Ambiguous}
 use Rattle.model.specs.Cycle.{diskOf, stripeOf, Loop}
@@ -17,7 +17,7 @@ use Rattle.model.specs.Sheet.{sheetOf, blankSheet}
 use Rattle.model.specs.Rebuild.{outcomeStatus}
 use Rattle.model.specs.declared.Size.{Size}
 use Rattle.model.specs.declared.Outcome.{Outcome}
-use Rattle.model.specs.declared.Outcome.the-variants.{Repairs, Fatal}
+use Rattle.model.specs.declared.Outcome.the-variants.{Repairs}
 
 -- A list of repairs in plan's order that leaves nothing erased.
 pub record InOrder (L : Layout) (e : ℕ → Bool) (w : List Entry) : Type 0 where
