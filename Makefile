@@ -59,8 +59,8 @@ test-c: $(BUILD)/host $(BUILD)/tests-c
 	$(BUILD)/host | diff examples/host.expected -
 	$(BUILD)/tests-c
 
-test-rust: lib
-	RAID2D_LIB_DIR=$(abspath $(BUILD)) cargo run --release --offline \
+test-rust: $(LIB)
+	RAID2D_LIB_DIR=$(abspath $(dir $(LIB))) cargo run --release --offline \
 	    --manifest-path tests/rust/Cargo.toml --target-dir $(BUILD)/rust
 
 bench: $(LIB)

@@ -1,6 +1,6 @@
 /*
- * What the calls answer where they do not refuse, and the bytes they leave,
- * against plain loops over the order's definitions.
+ * What seal, check, write and look answer where they do not refuse, and the
+ * bytes they leave, against plain loops over the order's definitions.
  */
 #include <string.h>
 
@@ -9,13 +9,6 @@
 
 /* Stripes are numbered below this; the numbers from n+1 to 15 stand empty. */
 #define STRIPES 32
-
-/* The byte at a place of the disk in row r and column c. */
-static uint8_t *cell(uint8_t *array, size_t n, size_t block,
-                     size_t r, size_t c, size_t place)
-{
-    return &array[(r * (n + 1) + c) * block + place];
-}
 
 static uint8_t sum_of_stripe(uint8_t *array, size_t n, size_t block,
                              size_t stripe, size_t place)
@@ -39,47 +32,6 @@ static void sum_stripes(uint8_t *array, size_t n, size_t block, uint8_t *sums)
         for (place = 0; place < block; place++)
             sums[stripe * block + place] =
                 sum_of_stripe(array, n, block, stripe, place);
-}
-
-/* The parities at one place, straight from their definitions: the
-   superparity is the sum of all data. */
-static void define_parities_at(uint8_t *array, size_t n, size_t block,
-                               size_t place)
-{
-    uint8_t *superparity = cell(array, n, block, n, n, place);
-    size_t r, c;
-
-    *superparity = 0;
-    for (r = 0; r < n; r++) {
-        *cell(array, n, block, r, n, place) = 0;
-        *cell(array, n, block, n, r, place) = 0;
-    }
-    for (r = 0; r < n; r++)
-        for (c = 0; c < n; c++) {
-            uint8_t data = *cell(array, n, block, r, c, place);
-
-            *cell(array, n, block, r, n, place) ^= data;
-            *cell(array, n, block, n, c, place) ^= data;
-            *superparity ^= data;
-        }
-}
-
-static void define_parities(uint8_t *array, size_t n, size_t block)
-{
-    size_t place;
-
-    for (place = 0; place < block; place++)
-        define_parities_at(array, n, block, place);
-}
-
-/* A call on an array that is sealed by its definition. */
-static struct call sealed_call(enum function function, size_t n, size_t block)
-{
-    struct call c = fitting_call(function, n, block);
-
-    define_parities(c.array.bytes, n, block);
-    expect_as_now(&c);
-    return c;
 }
 
 /* ---- Seal ---- */

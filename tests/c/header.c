@@ -1,6 +1,7 @@
 /*
- * What the header itself gives: limits, sizes, statuses and their words. The
- * file is C and C++, so that the header can be compiled as both.
+ * What the header itself gives: limits, sizes, statuses and their words, and
+ * the readers of a sheet. The file is C and C++, so that the header can be
+ * compiled as both.
  */
 #include <string.h>
 
@@ -11,7 +12,7 @@
 /* The largest array, as a static one. */
 static uint8_t largest[RAID2D_ARRAY_BYTES(RAID2D_SIDE_MAX, RAID2D_BLOCK_MAX)];
 
-static const uint32_t statuses[] = { 0, 1, 2, 3, 8, 9, 64 };
+static const uint32_t statuses[] = { 0, 1, 2, 3, 4, 5, 6, 7, 8, 9, 64 };
 
 #define STATUSES (sizeof statuses / sizeof statuses[0])
 
@@ -25,6 +26,9 @@ static void limits_and_sizes(void)
     expect(RAID2D_DISKS(2) == 9 && RAID2D_DISKS(15) == 256, "disks");
     expect(RAID2D_DISKS(1 + 1) == 9, "disks, from an expression");
     expect(RAID2D_ARRAY_BYTES(1 + 1, 1 + 2) == 27, "bytes, from expressions");
+    expect(RAID2D_SHEET_BYTES == 98, "bytes of a sheet");
+    expect(RAID2D_SHEET_RECORDS == 32, "records of a sheet");
+    expect(RAID2D_SHEET_REPAIRS == 1 && RAID2D_SHEET_CYCLE == 2, "kinds");
 }
 
 static void numbers_of_statuses(void)
@@ -33,6 +37,10 @@ static void numbers_of_statuses(void)
     expect(RAID2D_ERR_SIDE == 1, "number of a wrong n");
     expect(RAID2D_ERR_BLOCK == 2, "number of a wrong block");
     expect(RAID2D_ERR_ARRAY_LENGTH == 3, "number of a wrong array length");
+    expect(RAID2D_ERR_MAP == 4, "number of a wrong map");
+    expect(RAID2D_ERR_SHEET_LENGTH == 5, "number of a wrong sheet length");
+    expect(RAID2D_FATAL == 6, "number of a fatal loss");
+    expect(RAID2D_ERR_SURVIVORS == 7, "number of wrong survivors");
     expect(RAID2D_ERR_DISK == 8, "number of a wrong disk");
     expect(RAID2D_ERR_DATA_LENGTH == 9, "number of a wrong data length");
     expect(RAID2D_NOT_SEALED == 64, "number of an array that is not sealed");
@@ -41,7 +49,7 @@ static void numbers_of_statuses(void)
 /* Each status has words of its own; all other numbers share theirs. */
 static void words_of_statuses(void)
 {
-    static const uint32_t others[] = { 4, 10, 63, 65, 256, 0xffffffffu };
+    static const uint32_t others[] = { 10, 63, 65, 256, 0xffffffffu };
     const char *unknown = raid2d_strerror(others[0]);
     size_t i, j;
 
@@ -58,9 +66,58 @@ static void words_of_statuses(void)
                "words of unknown status %u", others[i]);
 }
 
+/* A sheet with a different byte at each place: records 1 and 32. */
+static void readers_of_places(void)
+{
+    uint8_t sheet[RAID2D_SHEET_BYTES];
+    size_t i;
+
+    for (i = 0; i < RAID2D_SHEET_BYTES; i++)
+        sheet[i] = (uint8_t)(100 + i);
+    expect(raid2d_sheet_kind(sheet) == 100, "place of the kind");
+    expect(raid2d_sheet_first(sheet) == 101, "place of the first number");
+    expect(raid2d_sheet_disk(sheet, 1) == 102, "disk of record 1");
+    expect(raid2d_sheet_stripe(sheet, 1) == 103, "stripe of record 1");
+    expect(raid2d_sheet_next(sheet, 1) == 104, "next of record 1");
+    expect(raid2d_sheet_disk(sheet, 32) == 195, "disk of record 32");
+    expect(raid2d_sheet_stripe(sheet, 32) == 196, "stripe of record 32");
+    expect(raid2d_sheet_next(sheet, 32) == 197, "next of record 32");
+}
+
+/* The header's two sheets, read as it says. */
+static void readers_of_sheets(void)
+{
+    static const uint8_t sheets[2][RAID2D_SHEET_BYTES] = {
+        { 1, 1, 2, 18, 2, 0, 0, 3, 6, 2, 0 },
+        { 2, 1, 0, 0, 2, 2, 18, 3, 8, 2, 4, 6, 16, 0 }
+    };
+    static const size_t records[2][4][2] = {
+        { { 2, 18 }, { 0, 0 }, { 6, 2 }, { 0, 0 } },
+        { { 0, 0 }, { 2, 18 }, { 8, 2 }, { 6, 16 } }
+    };
+    size_t s, k, count;
+
+    for (s = 0; s < 2; s++) {
+        const uint8_t *sheet = sheets[s];
+
+        count = 0;
+        for (k = raid2d_sheet_first(sheet); k != 0;
+             k = raid2d_sheet_next(sheet, k)) {
+            expect(raid2d_sheet_disk(sheet, k) == records[s][count][0],
+                   "disk of record %u", (unsigned)k);
+            expect(raid2d_sheet_stripe(sheet, k) == records[s][count][1],
+                   "stripe of record %u", (unsigned)k);
+            count++;
+        }
+        expect(count == 3 + s, "records of a sheet");
+    }
+}
+
 void test_header(void)
 {
     limits_and_sizes();
     numbers_of_statuses();
     words_of_statuses();
+    readers_of_places();
+    readers_of_sheets();
 }

@@ -1,8 +1,11 @@
 /*
  * Refusals: every wrong argument alone, and every pair of them, from calls
  * that are otherwise right. Of a pair the one that comes first in the order's
- * list is returned. Nothing that is lent may change.
+ * list is returned. Nothing that is lent may change, but for what the order
+ * says of 6 and 7.
  */
+#include <string.h>
+
 #include "raid2d.h"
 #include "suite.h"
 
@@ -19,7 +22,10 @@
 enum argument {
     SIDE, BLOCK, ARRAY_LENGTH,
     PARITY_DISK, DATA_LENGTH,              /* write only */
-    MAP_LENGTH, MAP_BYTE, NO_DISK, ERASED, /* look only */
+    MAP_LENGTH, MAP_BYTE,                  /* look, plan and rebuild */
+    NO_DISK, ERASED,                       /* look only */
+    SHEET_LENGTH, LOSS,                    /* plan and rebuild */
+    DAMAGE,                                /* rebuild only */
     ARGUMENTS
 };
 
@@ -37,7 +43,8 @@ struct values {
 
 /* The tests of a call in the order's sequence, and what it returns where one
    fails. Accepted is what it returns where none fails: arbitrary bytes are
-   not sealed. For look that is the block's length. */
+   not sealed, and rebuild gets an array that is. For look that is the block's
+   length. */
 struct tests {
     enum function function;
     size_t accepted;
@@ -45,7 +52,7 @@ struct tests {
     struct {
         enum argument argument;
         size_t status;
-    } test[7];
+    } test[8];
 };
 
 static const struct tests tests[] = {
@@ -55,7 +62,12 @@ static const struct tests tests[] = {
                      { PARITY_DISK, 8 }, { DATA_LENGTH, 9 } } },
     { LOOK, 0, 7, { { SIDE, 0 }, { BLOCK, 0 }, { ARRAY_LENGTH, 0 },
                     { MAP_LENGTH, 0 }, { MAP_BYTE, 0 }, { NO_DISK, 0 },
-                    { ERASED, 0 } } }
+                    { ERASED, 0 } } },
+    { PLAN, 0, 5, { { SIDE, 1 }, { MAP_LENGTH, 4 }, { MAP_BYTE, 4 },
+                    { SHEET_LENGTH, 5 }, { LOSS, 6 } } },
+    { REBUILD, 0, 8, { { SIDE, 1 }, { BLOCK, 2 }, { ARRAY_LENGTH, 3 },
+                       { MAP_LENGTH, 4 }, { MAP_BYTE, 4 },
+                       { SHEET_LENGTH, 5 }, { LOSS, 6 }, { DAMAGE, 7 } } }
 };
 
 static void add(struct values *v, size_t value)
@@ -154,7 +166,8 @@ static size_t fitting(const struct arguments *a, size_t block, size_t base)
 static struct values values_of(enum argument argument,
                                const struct arguments *a)
 {
-    const struct values erased = { 2, { 0, 1 } };
+    const struct values right_or_wrong = { 2, { 0, 1 } };
+    const struct values damages = { 4, { 0, 1, 2, 3 } };
 
     switch (argument) {
     case SIDE:
@@ -173,20 +186,92 @@ static struct values values_of(enum argument argument,
         return map_bytes(a->of[MAP_LENGTH]);
     case NO_DISK:
         return no_disks(a->n);
+    case SHEET_LENGTH:
+        return lengths(RAID2D_SHEET_BYTES);
+    case DAMAGE:
+        return damages;
     default:
-        return erased;
+        return right_or_wrong;
     }
+}
+
+/* Erases a disk and puts arbitrary bytes there, where the buffers have it. */
+static void lose(struct call *c, const struct arguments *a, size_t disk)
+{
+    if (disk < c->map.len)
+        c->map.bytes[disk] = 1;
+    if (disk < c->array.len / a->block)
+        fill(c->array.bytes + disk * a->block, a->block);
+}
+
+/* A change on a survivor in row 1, the same there and on another survivor of
+   the row, or the same there and on another survivor of the column. */
+static void damage(struct call *c, const struct arguments *a)
+{
+    size_t place = a->block - 1;
+
+    *cell(c->array.bytes, a->n, a->block, 1, 1, place) ^= 64;
+    if (a->of[DAMAGE] == 2)
+        *cell(c->array.bytes, a->n, a->block, 1, a->n, place) ^= 64;
+    if (a->of[DAMAGE] == 3)
+        *cell(c->array.bytes, a->n, a->block, a->n, 1, place) ^= 64;
+}
+
+/* What plan and rebuild are tried on: a sealed array that has lost disk 1, or
+   the four corners of the grid, which is fatal. */
+static void prepare_loss(struct call *c, const struct arguments *a)
+{
+    size_t last_row = a->n * (a->n + 1);
+    int fits = c->array.len == RAID2D_ARRAY_BYTES(a->n, a->block);
+
+    if (fits)
+        define_parities(c->array.bytes, a->n, a->block);
+    if (a->of[LOSS]) {
+        lose(c, a, 0);
+        lose(c, a, a->n);
+        lose(c, a, last_row);
+        lose(c, a, last_row + a->n);
+    } else {
+        lose(c, a, 1);
+    }
+    if (fits && a->of[DAMAGE])
+        damage(c, a);
+}
+
+/* With 6 the sheet lists the corners; with 7 the sheet and the erased disk 1
+   are zero. Returns what the out-parameter is expected to be. */
+static size_t expect_refusal(struct call *c, const struct arguments *a,
+                             size_t status)
+{
+    uint8_t n = (uint8_t)a->n, last_row = (uint8_t)(n * (n + 1));
+    const uint8_t corners[] = {
+        2, 1,
+        0, 0, 2,
+        n, (uint8_t)(16 + n), 3,
+        (uint8_t)(last_row + n), n, 4,
+        last_row, 16, 0
+    };
+
+    if (status == 6 || status == 7)
+        memset(c->sheet.expected, 0, c->sheet.len);
+    if (status == 6)
+        memcpy(c->sheet.expected, corners, sizeof corners);
+    if (status == 7)
+        memset(c->array.expected + c->block, 0, c->block);
+    return status == 6 ? 4 : OUT_BEFORE;
 }
 
 static struct call call_with(enum function function, const struct arguments *a)
 {
     struct call c = new_call(function, a->of[SIDE], a->of[BLOCK],
                              a->of[ARRAY_LENGTH], a->of[MAP_LENGTH],
-                             a->of[DATA_LENGTH]);
+                             a->of[DATA_LENGTH], a->of[SHEET_LENGTH]);
 
     c.disk = function == WRITE ? a->of[PARITY_DISK] : a->of[NO_DISK];
     if (a->of[ERASED] && c.disk < c.map.len)
         c.map.bytes[c.disk] = 1;
+    if (function == PLAN || function == REBUILD)
+        prepare_loss(&c, a);
     if (a->of[MAP_BYTE])
         c.map.bytes[a->of[MAP_BYTE] / 256] = (uint8_t)(a->of[MAP_BYTE] % 256);
     expect_as_now(&c);
@@ -201,7 +286,7 @@ static void try_call(const struct tests *t, const struct arguments *a,
     size_t accepted = t->function == LOOK ? a->block : t->accepted;
 
     if (wrong > 0)
-        expect_run(&c, status, OUT_BEFORE, "refusal");
+        expect_run(&c, status, expect_refusal(&c, a, status), "refusal");
     else
         expect(run(&c) == accepted, "call %d with nothing wrong",
                (int)t->function);
@@ -241,16 +326,19 @@ static void one_and_two_wrong(size_t n, size_t block)
         try_from(&tests[i], 0, start, 0, 0);
 }
 
-/* The four calls with the same sizes. All refuse with the status, but look,
-   which returns 0. */
+/* All calls with the same sizes. They refuse with the status, but look, which
+   returns 0. Plan takes no block: it is called where n is wrong. */
 static void all_refuse(size_t n, size_t block, size_t array_len,
                        size_t status, const char *what)
 {
-    const enum function functions[] = { SEAL, CHECK, WRITE, LOOK };
+    const enum function functions[] = {
+        SEAL, CHECK, WRITE, LOOK, REBUILD, PLAN
+    };
     size_t i;
 
-    for (i = 0; i < 4; i++) {
-        struct call c = new_call(functions[i], n, block, array_len, 9, 1);
+    for (i = 0; i < (status == 1 ? 6 : 5); i++) {
+        struct call c = new_call(functions[i], n, block, array_len, 9, 1,
+                                 RAID2D_SHEET_BYTES);
 
         expect_run(&c, functions[i] == LOOK ? 0 : status, OUT_BEFORE, what);
         end_call(&c);
@@ -282,19 +370,26 @@ static void lengths_that_wrap(void)
 /* A length of 0 is refused like any other, with NULL and without. */
 static void empty_buffers(void)
 {
-    const enum function functions[] = { SEAL, CHECK, WRITE, LOOK };
+    static const struct {
+        enum function function;
+        size_t result;
+    } calls[] = {
+        { SEAL, 3 }, { CHECK, 3 }, { WRITE, 3 }, { LOOK, 0 }, { PLAN, 4 },
+        { REBUILD, 3 }
+    };
     size_t i, null;
 
-    for (i = 0; i < 4; i++)
+    for (i = 0; i < sizeof calls / sizeof calls[0]; i++)
         for (null = 0; null < 2; null++) {
-            struct call c = new_call(functions[i], 2, 1, 0, 0, 0);
+            struct call c = new_call(calls[i].function, 2, 1, 0, 0, 0, 0);
 
             if (!null) {
                 c.array.bytes = c.array.memory + 1;
                 c.map.bytes = c.map.memory + 1;
                 c.data.bytes = c.data.memory + 1;
+                c.sheet.bytes = c.sheet.memory + 1;
             }
-            expect_run(&c, functions[i] == LOOK ? 0 : 3, OUT_BEFORE, "empty");
+            expect_run(&c, calls[i].result, OUT_BEFORE, "empty");
             end_call(&c);
         }
 }

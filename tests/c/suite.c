@@ -1,5 +1,5 @@
 /*
- * The tests of the four calls through C: counting, lent memory, main.
+ * The tests of all calls through C: counting, lent memory, main.
  *
  * Prints the checks that fail, then one line that counts all of them. The
  * exit status is 0 where none failed.
@@ -102,7 +102,8 @@ static void end_lent(struct lent *l)
 }
 
 struct call new_call(enum function function, size_t n, size_t block,
-                     size_t array_len, size_t map_len, size_t data_len)
+                     size_t array_len, size_t map_len, size_t data_len,
+                     size_t sheet_len)
 {
     struct call c;
 
@@ -113,6 +114,7 @@ struct call new_call(enum function function, size_t n, size_t block,
     c.array = lend(array_len);
     c.map = lend(map_len);
     c.data = lend(data_len);
+    c.sheet = lend(sheet_len);
     /* The guards' nearest bytes too, so that who reads past the map finds a
        present disk there. */
     memset(c.map.memory + GUARD - 1, 0, map_len + 2);
@@ -123,7 +125,52 @@ struct call new_call(enum function function, size_t n, size_t block,
 struct call fitting_call(enum function function, size_t n, size_t block)
 {
     return new_call(function, n, block, (n + 1) * (n + 1) * block,
-                    (n + 1) * (n + 1), block);
+                    (n + 1) * (n + 1), block, RAID2D_SHEET_BYTES);
+}
+
+struct call sealed_call(enum function function, size_t n, size_t block)
+{
+    struct call c = fitting_call(function, n, block);
+
+    define_parities(c.array.bytes, n, block);
+    expect_as_now(&c);
+    return c;
+}
+
+uint8_t *cell(uint8_t *array, size_t n, size_t block,
+              size_t r, size_t c, size_t place)
+{
+    return &array[(r * (n + 1) + c) * block + place];
+}
+
+/* The superparity is the sum of all data. */
+static void define_parities_at(uint8_t *array, size_t n, size_t block,
+                               size_t place)
+{
+    uint8_t *superparity = cell(array, n, block, n, n, place);
+    size_t r, c;
+
+    *superparity = 0;
+    for (r = 0; r < n; r++) {
+        *cell(array, n, block, r, n, place) = 0;
+        *cell(array, n, block, n, r, place) = 0;
+    }
+    for (r = 0; r < n; r++)
+        for (c = 0; c < n; c++) {
+            uint8_t data = *cell(array, n, block, r, c, place);
+
+            *cell(array, n, block, r, n, place) ^= data;
+            *cell(array, n, block, n, c, place) ^= data;
+            *superparity ^= data;
+        }
+}
+
+void define_parities(uint8_t *array, size_t n, size_t block)
+{
+    size_t place;
+
+    for (place = 0; place < block; place++)
+        define_parities_at(array, n, block, place);
 }
 
 void expect_as_now(struct call *c)
@@ -131,6 +178,7 @@ void expect_as_now(struct call *c)
     expect_lent_as_now(&c->array);
     expect_lent_as_now(&c->map);
     expect_lent_as_now(&c->data);
+    expect_lent_as_now(&c->sheet);
 }
 
 size_t run(struct call *c)
@@ -145,27 +193,37 @@ size_t run(struct call *c)
     case WRITE:
         return raid2d_write(c->n, c->block, c->array.bytes, c->array.len,
                             c->disk, c->data.bytes, c->data.len);
-    default:
+    case LOOK:
         return raid2d_look(c->n, c->block, c->array.bytes, c->array.len,
                            c->map.bytes, c->map.len, c->disk, &c->out[1]);
+    case PLAN:
+        return raid2d_plan(c->n, c->map.bytes, c->map.len, c->sheet.bytes,
+                           c->sheet.len, &c->out[1]);
+    default:
+        return raid2d_rebuild(c->n, c->block, c->array.bytes, c->array.len,
+                              c->map.bytes, c->map.len, c->sheet.bytes,
+                              c->sheet.len, &c->out[1]);
     }
 }
 
 void expect_run(struct call *c, size_t result, size_t out, const char *what)
 {
-    static const char *const names[] = { "seal", "check", "write", "look" };
+    static const char *const names[] = {
+        "seal", "check", "write", "look", "plan", "rebuild"
+    };
     size_t actual = run(c);
     int bytes = lent_is_as_expected(&c->array) && lent_is_as_expected(&c->map)
                 && lent_is_as_expected(&c->data)
+                && lent_is_as_expected(&c->sheet)
                 && c->out[0] == OUT_BEFORE && c->out[2] == OUT_BEFORE;
 
     expect(actual == result && c->out[1] == out && bytes,
            "%s: %s with n %zu, block %zu, disk %zu, lengths %zu (array), "
-           "%zu (map), %zu (data): result %zu for %zu, out-parameter %zu "
-           "for %zu, bytes %s",
+           "%zu (map), %zu (data), %zu (sheet): result %zu for %zu, "
+           "out-parameter %zu for %zu, bytes %s",
            what, names[c->function], c->n, c->block, c->disk, c->array.len,
-           c->map.len, c->data.len, actual, result, c->out[1], out,
-           bytes ? "as expected" : "NOT as expected");
+           c->map.len, c->data.len, c->sheet.len, actual, result, c->out[1],
+           out, bytes ? "as expected" : "NOT as expected");
 }
 
 void end_call(struct call *c)
@@ -173,6 +231,7 @@ void end_call(struct call *c)
     end_lent(&c->array);
     end_lent(&c->map);
     end_lent(&c->data);
+    end_lent(&c->sheet);
 }
 
 int main(void)
@@ -182,6 +241,7 @@ int main(void)
     test_header();
     test_refusals();
     test_answers();
+    test_losses();
     printf("%lu passed, %lu failed\n", passed, failed);
     return failed == 0 ? 0 : 1;
 }

@@ -22,29 +22,40 @@ struct lent {
     uint8_t *memory, *expected_memory;
 };
 
-enum function { SEAL, CHECK, WRITE, LOOK };
+enum function { SEAL, CHECK, WRITE, LOOK, PLAN, REBUILD };
 
 /* A call: its numbers, what it is lent, and its out-parameter with a guard
    on either side. Calls pass over what they have no parameter for. */
 struct call {
     enum function function;
     size_t n, block, disk;
-    struct lent array, map, data;
+    struct lent array, map, data, sheet;
     size_t out[3];
 };
 
-/* What an out-parameter holds before each call: no stripe and no offset, and
-   no byte of it zero. */
+/* What an out-parameter holds before each call: no stripe, no offset and no
+   count, and no byte of it zero. */
 #define OUT_BEFORE (SIZE_MAX / 255 * 0x5a)
 
-/* A call lent buffers of these lengths. The array and the data are filled
-   with arbitrary bytes, the same in every run; the map says that all disks
-   are present. */
+/* A call lent buffers of these lengths. The array, the data and the sheet are
+   filled with arbitrary bytes, the same in every run; the map says that all
+   disks are present. */
 struct call new_call(enum function function, size_t n, size_t block,
-                     size_t array_len, size_t map_len, size_t data_len);
+                     size_t array_len, size_t map_len, size_t data_len,
+                     size_t sheet_len);
 
 /* The same, with the lengths that n and block ask for. */
 struct call fitting_call(enum function function, size_t n, size_t block);
+
+/* The same, on an array that is sealed by its definition. */
+struct call sealed_call(enum function function, size_t n, size_t block);
+
+/* The byte at a place of the disk in row r and column c. */
+uint8_t *cell(uint8_t *array, size_t n, size_t block,
+              size_t r, size_t c, size_t place);
+
+/* Sets the parities of an array, straight from their definitions. */
+void define_parities(uint8_t *array, size_t n, size_t block);
 
 /* Fills a buffer with arbitrary bytes, the same in every run. */
 void fill(uint8_t *bytes, size_t len);
@@ -68,5 +79,6 @@ void end_call(struct call *call);
 void test_header(void);
 void test_refusals(void);
 void test_answers(void);
+void test_losses(void);
 
 #endif

@@ -115,7 +115,8 @@ no-record kind = refl
 abbrev entryFrom : List ℕ → ℕ → Entry
 entryFrom l i = record { disk = getD l i 0; stripe = getD l (suc i) 0 }
 
-chain-at : (n : ℕ) (w : List Entry) (k : ℕ) → k < length w → entryFrom (chain n w) (3 * k + 1) ≡ getD w k (record { disk = 0; stripe = 0 })
+chain-at : (n : ℕ) (w : List Entry) (k : ℕ) → k < length w
+    → entryFrom (chain n w) (3 * k + 1) ≡ getD w k (record { disk = 0; stripe = 0 })
 unfolding chain
 chain-at n [] k h = absurd (not-suc-le-zero h)
 chain-at n (r ∷ rs) zero h = refl
@@ -126,7 +127,8 @@ chain-at n (r ∷ rs) (suc k) h =
 -- Where the list fits the sheet, its disks and stripes stand in the records.
 module _ (kind : ℕ) (w : List Entry) (fits : length w ≤ 32) where
   record-is : (k : ℕ) → k < length w
-      → record { disk = recordDisk (sheetOf kind w) k; stripe = recordStripe (sheetOf kind w) k } ≡ getD w k (record { disk = 0; stripe = 0 })
+      → record { disk = recordDisk (sheetOf kind w) k; stripe = recordStripe (sheetOf kind w) k }
+      ≡ getD w k (record { disk = 0; stripe = 0 })
   unfolding recordDisk recordStripe sheetOf
   record-is k h =
       ap₂ (λ (d s : ℕ). record { disk = d; stripe = s }) (at (3 * k + 2) (3 * k + 1) (omega arith) (omega arith))

@@ -2,7 +2,10 @@
 //! to refuse and the order of the refusals is seen.
 
 use crate::inputs::{Size, BLOCK_MAX, SIDE_MAX};
+use crate::losses;
+use crate::model::disk_count;
 use crate::random::Random;
+use crate::sheet::SHEET;
 
 /// Buffers in these tests are no longer than this.
 const LONGEST: usize = 1 << 21;
@@ -71,4 +74,32 @@ pub fn array(random: &mut Random) -> Array {
 pub fn disk(random: &mut Random, size: Size) -> usize {
     let good = random.below(size.disks());
     number(random, good, &[size.disks(), size.disks() + 1, 255, 256, 256 + good])
+}
+
+/// A map for n: a loss of any kind, or now and then one of a wrong length or with a byte above 1.
+pub fn map(random: &mut Random, n: usize) -> Vec<u8> {
+    let kind = random.below(losses::KINDS);
+    let mut map = losses::map(random, n, kind);
+    map.resize(length(random, disk_count(n)), 0);
+    if random.one_in(BAD) {
+        spoil(random, &mut map, 0);
+    }
+    map
+}
+
+/// Spoils one byte of a map: its first, its last, that of the disk, or any.
+pub fn spoil(random: &mut Random, map: &mut [u8], disk: usize) {
+    if map.is_empty() {
+        return;
+    }
+    let any = random.below(map.len());
+    let at = random.pick(&[0, map.len() - 1, disk % map.len(), any]);
+    let value = random.between(2, 255) as u8;
+    map[at] = random.pick(&[2, 3, 128, 255, value]);
+}
+
+/// A sheet of random bytes, now and then of a wrong length.
+pub fn sheet(random: &mut Random) -> Vec<u8> {
+    let length = length(random, SHEET);
+    random.bytes(length)
 }

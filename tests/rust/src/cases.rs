@@ -1,8 +1,10 @@
-//! The cases of paper 01 that concern these calls: 1, 9, 10, and of 11 the write to card 2. The paper's outcome is
-//! expected of the library and of the model, which ties the model to the paper.
+//! The cases of paper 01. The paper's outcome is expected of the library and of the model, which ties the model to the
+//! paper.
 
-use crate::model::disk_count;
+use crate::losses::map_of;
+use crate::model::{disk_count, FATAL};
 use crate::outcome::Outcome;
+use crate::sheet::SHEET;
 use crate::{ffi, model, Run};
 
 /// The paper's sealed array A, for n = 2 and block = 1.
@@ -25,6 +27,103 @@ fn write(run: &mut Run, case: &str, disk: usize, data: &[u8], status: usize, aft
     stated(run, case, expected, || ffi::write(2, 1, &A, disk, data), model::write(2, 1, &A, disk, data));
 }
 
+/// A sheet that begins with these bytes, then zeros.
+fn sheet(begins: &[u8]) -> Vec<u8> {
+    let mut sheet = begins.to_vec();
+    sheet.resize(SHEET, 0);
+    sheet
+}
+
+/// What is in the sheet before a call.
+const OLD: [u8; SHEET] = [77; SHEET];
+
+/// The paper's outcome is expected of plan. The model leaves the loop open, so that of a fatal loss it has only the
+/// status and the count.
+fn plan(run: &mut Run, case: &str, map: &[u8], status: usize, count: usize, begins: &[u8]) {
+    let expected = Outcome { answer: status, out: Some(count), written: vec![sheet(begins)] };
+    let mut model = model::plan(2, map, &OLD);
+    if status == FATAL {
+        model.written = expected.written.clone();
+    }
+    stated(run, &format!("{case}, plan"), expected, || ffi::plan(2, map, &OLD), model);
+}
+
+/// The same of rebuild, with 99 on the marked cards.
+fn rebuild(run: &mut Run, case: &str, array: [u8; 9], map: &[u8], expected: Outcome) {
+    let mut lost = array;
+    (0..9).filter(|&card| map[card] == 1).for_each(|card| lost[card] = 99);
+    let mut model = model::rebuild(2, 1, &lost, map, &OLD);
+    if expected.answer == FATAL {
+        model.written[1] = expected.written[1].clone();
+    }
+    stated(run, &format!("{case}, rebuild"), expected, || ffi::rebuild(2, 1, &lost, map, &OLD), model);
+}
+
+fn restored(run: &mut Run, case: &str, marked: &[usize], begins: &[u8]) {
+    let (map, count) = (map_of(2, marked), marked.len());
+    plan(run, case, &map, 0, count, begins);
+    let written = vec![A.to_vec(), sheet(begins)];
+    rebuild(run, case, A, &map, Outcome { answer: 0, out: Some(count), written });
+}
+
+fn fatal(run: &mut Run, case: &str, marked: &[usize], begins: &[u8]) {
+    let (map, count) = (map_of(2, marked), marked.len());
+    let mut kept = A;
+    marked.iter().for_each(|&card| kept[card] = 99);
+    plan(run, case, &map, FATAL, count, begins);
+    let written = vec![kept.to_vec(), sheet(begins)];
+    rebuild(run, case, A, &map, Outcome { answer: FATAL, out: Some(count), written });
+}
+
+/// Cases 2 to 8. The paper gives no sheets for 5 and 7: there is one loop in 5, and 7 follows plan's order by hand.
+fn losses(run: &mut Run) {
+    restored(run, "2", &[], &[1]);
+    restored(run, "3", &[0, 2, 6], &[1, 1, 2, 18, 2, 0, 0, 3, 6, 2, 0]);
+    fatal(run, "4", &[0, 2, 6, 8], &[2, 1, 0, 0, 2, 2, 18, 3, 8, 2, 4, 6, 16, 0]);
+    fatal(run, "5", &[0, 1, 3, 4], &[2, 1, 0, 0, 2, 1, 17, 3, 4, 1, 4, 3, 16, 0]);
+    restored(run, "6", &[0, 4, 8], &[1, 1, 0, 0, 2, 4, 1, 3, 8, 2, 0]);
+    restored(run, "7", &[0, 1, 2, 3, 6], &[1, 1, 1, 17, 2, 2, 18, 3, 0, 0, 4, 3, 1, 5, 6, 2, 0]);
+    let (mut contradictory, mut zeroed) = (A, A);
+    (contradictory[8], zeroed[8], zeroed[0]) = (14, 14, 0);
+    let written = vec![zeroed.to_vec(), sheet(&[])];
+    rebuild(run, "8", contradictory, &map_of(2, &[0]), Outcome { answer: 7, out: None, written });
+}
+
+/// Cases 10 and 11 for plan and rebuild: sizes, a map byte of 2.
+fn refused(run: &mut Run, case: &str, n: usize, block: usize, map: &[u8], status: usize) {
+    let array = vec![7; map.len() * block];
+    let expected = Outcome { answer: status, out: None, written: vec![array.clone(), OLD.to_vec()] };
+    let model = model::rebuild(n, block, &array, map, &OLD);
+    stated(run, &format!("{case}, rebuild"), expected, || ffi::rebuild(n, block, &array, map, &OLD), model);
+    if status != 2 {
+        let expected = Outcome { answer: status, out: None, written: vec![OLD.to_vec()] };
+        let model = model::plan(n, map, &OLD);
+        stated(run, &format!("{case}, plan"), expected, || ffi::plan(n, map, &OLD), model);
+    }
+}
+
+/// How many losses of so many cards are fatal, by the library and by the model.
+fn fatal_sets(n: usize, cards: u32) -> [usize; 2] {
+    let sets = (0..1_usize << disk_count(n)).filter(|set| set.count_ones() == cards);
+    let maps = sets.map(|set| (0..disk_count(n)).map(|card| (set >> card & 1) as u8).collect::<Vec<u8>>());
+    maps.fold([0, 0], |[library, model], map| {
+        let fatal = ffi::plan(n, &map, &OLD).is_ok_and(|outcome| outcome.answer == FATAL);
+        [library + fatal as usize, model + (model::plan(n, &map, &OLD).answer == FATAL) as usize]
+    })
+}
+
+/// Case 12: of the sets of four n²(n+1)²/4 are fatal, of the sets of three none.
+fn counted(run: &mut Run) {
+    for n in 2..=4 {
+        for (cards, count) in [(3, 0), (4, n * n * (n + 1) * (n + 1) / 4)] {
+            let [library, model] = fatal_sets(n, cards);
+            let case = format!("12, n {n}, sets of {cards}");
+            let found = |count: usize| Outcome::reading(FATAL, Some(count));
+            stated(run, &case, found(count), || Ok(found(library)), found(model));
+        }
+    }
+}
+
 pub fn run(run: &mut Run) {
     seal(run, "1", 2, 1, &[1, 2, 99, 4, 8, 7, 6, 5, 4], 0, &A);
     let sealed = Outcome::reading(0, None);
@@ -40,4 +139,11 @@ pub fn run(run: &mut Run) {
     let long = vec![7; 9 * 4097];
     seal(run, "10, block 4,097", 2, 4097, &long, 2, &long);
     write(run, "11", 2, &[9], 8, &A);
+    losses(run);
+    refused(run, "10, n 1", 1, 1, &[0; 4], 1);
+    refused(run, "10, n 16", 16, 1, &[0; 289], 1);
+    refused(run, "10, block 0", 2, 0, &[0; 9], 2);
+    refused(run, "10, block 4,097", 2, 4097, &[0; 9], 2);
+    refused(run, "11", 2, 1, &[0, 0, 0, 0, 2, 0, 0, 0, 0], 4);
+    counted(run);
 }

@@ -3,11 +3,13 @@
 
 use crate::guard::Out;
 use crate::outcome::Outcome;
+use crate::sheet::SHEET;
 use crate::{ffi, Run};
 
 /// n = 2 and block = 1: nine disks, nine bytes.
 const RIGHT: usize = 9;
 const ARRAY: [u8; RIGHT] = [7; RIGHT];
+const MAP: [u8; RIGHT] = [0; RIGHT];
 
 /// Zeros that the system lends without touching them, none where it will not.
 fn zeros(length: usize) -> Option<Vec<u8>> {
@@ -23,12 +25,33 @@ fn refused(run: &mut Run, call: &str, status: usize, found: usize, out: Out) {
     run.tally.compare(|| format!("{call} of 2^32 bytes too many"), &Outcome::reading(status, None), answer);
 }
 
+/// Plan and rebuild with a buffer that has 2^32 bytes more than it should.
+fn maps_and_sheets(run: &mut Run, at: *mut u8) {
+    let (len, sheet_len) = ((1 << 32) + RIGHT, (1 << 32) + SHEET);
+    let (mut array, map, mut sheet) = (ARRAY, MAP.as_ptr(), [7; SHEET]);
+    let (array, sheet) = (array.as_mut_ptr(), sheet.as_mut_ptr());
+    let mut out = [0; 5].map(|_| Out::new());
+    let counts = out.each_mut().map(|out| out.pointer());
+    let found = unsafe {
+        [
+            ("plan, map", 4, ffi::raid2d_plan(2, at, len, sheet, SHEET, counts[0])),
+            ("plan, sheet", 5, ffi::raid2d_plan(2, map, RIGHT, at, sheet_len, counts[1])),
+            ("rebuild, array", 3, ffi::raid2d_rebuild(2, 1, at, len, map, RIGHT, sheet, SHEET, counts[2])),
+            ("rebuild, map", 4, ffi::raid2d_rebuild(2, 1, array, RIGHT, at, len, sheet, SHEET, counts[3])),
+            ("rebuild, sheet", 5, ffi::raid2d_rebuild(2, 1, array, RIGHT, map, RIGHT, at, sheet_len, counts[4])),
+        ]
+    };
+    for ((call, due, status), out) in found.into_iter().zip(out) {
+        refused(run, call, due, status as usize, out);
+    }
+}
+
 pub fn run(run: &mut Run) {
-    let Some(mut huge) = zeros((1 << 32) + RIGHT) else {
+    let Some(mut huge) = zeros((1 << 32) + SHEET) else {
         println!("buffers above 2^32 bytes: left out, the system lends none");
         return;
     };
-    let (at, len) = (huge.as_mut_ptr(), huge.len());
+    let (at, len) = (huge.as_mut_ptr(), (1 << 32) + RIGHT);
     let mut array = ARRAY;
     let array = array.as_mut_ptr();
     let (mut stripe, mut offset, mut map_offset) = (Out::new(), Out::new(), Out::new());
@@ -42,10 +65,11 @@ pub fn run(run: &mut Run) {
         refused(run, "write, array", 3, status as usize, Out::new());
         let status = ffi::raid2d_write(2, 1, array, RIGHT, 0, at, len - RIGHT + 1);
         refused(run, "write, data", 9, status as usize, Out::new());
-        let length = ffi::raid2d_look(2, 1, at, len, [0; RIGHT].as_ptr(), RIGHT, 0, offset.pointer());
+        let length = ffi::raid2d_look(2, 1, at, len, MAP.as_ptr(), RIGHT, 0, offset.pointer());
         refused(run, "look, array", 0, length, offset);
         let length = ffi::raid2d_look(2, 1, array, RIGHT, at, len, 0, map_offset.pointer());
         refused(run, "look, map", 0, length, map_offset);
     }
-    run.tally.report("buffers above 2^32 bytes", &[0, 3, 9]);
+    maps_and_sheets(run, at);
+    run.tally.report("buffers above 2^32 bytes", &[0, 3, 4, 5, 9]);
 }

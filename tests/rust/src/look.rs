@@ -24,17 +24,6 @@ fn map(run: &mut Run, disks: usize) -> Vec<u8> {
     }
 }
 
-/// Spoils one byte of a map: its first, its last, that of the disk, or any.
-fn spoil(run: &mut Run, map: &mut [u8], disk: usize) {
-    if map.is_empty() {
-        return;
-    }
-    let any = run.random.below(map.len());
-    let at = run.random.pick(&[0, map.len() - 1, disk % map.len(), any]);
-    let value = run.random.between(2, 255) as u8;
-    map[at] = run.random.pick(&[2, 3, 128, 255, value]);
-}
-
 /// Every disk erased, present, and now and then present under a spoiled map; then the first numbers outside the grid.
 pub fn contents(run: &mut Run, size: Size) {
     let array = random_array(&mut run.random, size);
@@ -45,7 +34,7 @@ pub fn contents(run: &mut Run, size: Size) {
             compare(&mut run.tally, size.n, size.block, &array, &map, disk);
         }
         if run.random.one_in(8) {
-            spoil(run, &mut map, disk);
+            arguments::spoil(&mut run.random, &mut map, disk);
             compare(&mut run.tally, size.n, size.block, &array, &map, disk);
         }
     }
@@ -61,7 +50,7 @@ pub fn refusals(run: &mut Run) {
     let length = arguments::length(&mut run.random, drawn.made_for.disks());
     let mut map = map(run, length);
     if run.random.one_in(5) {
-        spoil(run, &mut map, disk);
+        arguments::spoil(&mut run.random, &mut map, disk);
     }
     compare(&mut run.tally, drawn.n, drawn.block, &drawn.bytes, &map, disk);
 }

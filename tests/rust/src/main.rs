@@ -7,15 +7,22 @@
 mod arguments;
 mod cases;
 mod check;
+mod equations;
+mod exhaustive;
+mod faults;
 mod ffi;
 mod guard;
 mod huge;
 mod inputs;
 mod look;
+mod losses;
 mod model;
 mod outcome;
+mod plan;
 mod random;
+mod rebuild;
 mod seal;
+mod sheet;
 mod tally;
 mod write;
 
@@ -44,7 +51,7 @@ struct Call {
     answers: &'static [usize],
 }
 
-const CALLS: [Call; 4] = [
+const CALLS: [Call; 6] = [
     Call { name: "seal", contents: seal::contents, refusals: seal::refusals, draws: 30_000, answers: &[0, 1, 2, 3] },
     Call {
         name: "check",
@@ -67,6 +74,14 @@ const CALLS: [Call; 4] = [
         refusals: look::refusals,
         draws: 45_000,
         answers: &[0, 1, inputs::BLOCK_MAX],
+    },
+    Call { name: "plan", contents: plan::contents, refusals: plan::refusals, draws: 45_000, answers: &[0, 1, 4, 5, 6] },
+    Call {
+        name: "rebuild",
+        contents: rebuild::contents,
+        refusals: rebuild::refusals,
+        draws: 60_000,
+        answers: &[0, 1, 2, 3, 4, 5, 6, 7],
     },
 ];
 
@@ -101,11 +116,13 @@ fn main() -> ExitCode {
     println!("seed {seed}, rounds {rounds}");
     let mut run = Run { random: Random::new(seed), tally: Tally::new(is_set("RAID2D_TRACE")) };
     cases::run(&mut run);
-    run.tally.report("paper's cases", &[0, 1, 2, 8]);
+    run.tally.report("paper's cases", &[0, 1, 2, 4, 6, 7, 8]);
     huge::run(&mut run);
     for call in &CALLS {
         run.compare(call, rounds);
     }
+    faults::run(&mut run);
+    exhaustive::run(&mut run, rounds);
     if run.tally.finish() {
         ExitCode::SUCCESS
     } else {

@@ -3,10 +3,16 @@
 //!
 //! The paper's words: a disk is its card, a stripe its line, an erased disk a marked card.
 
+use crate::equations::{sums_of_survivors, Equations};
 use crate::outcome::Outcome;
+use crate::sheet;
 
 /// The status of a call that refuses nothing.
 const SUCCESS: usize = 0;
+/// The status of a loss that is fatal.
+pub const FATAL: usize = 6;
+/// The status of survivors that belong to no sealed array.
+const CONTRADICTORY: usize = 7;
 /// What check answers for an array that is not sealed. Paper 01 gives no number; the C interface does.
 const NOT_SEALED: usize = 64;
 /// Column c is stripe 16 + c.
@@ -49,10 +55,19 @@ fn sum(array: &[u8], block: usize, disks: &[usize]) -> Vec<u8> {
     disks.iter().fold(vec![0; block], |sum, &disk| exclusive_or(&sum, block_of(array, block, disk)))
 }
 
-/// Refusals 1, 2 and 3, with which seal, check and write begin; 0 where none applies.
+/// Refusal 1, with which every call begins; 0 where it does not apply.
+fn side_refusal(n: usize) -> usize {
+    if (2..=15).contains(&n) {
+        SUCCESS
+    } else {
+        1
+    }
+}
+
+/// Refusals 1, 2 and 3, with which the calls on an array begin; 0 where none applies.
 fn array_refusal(n: usize, block: usize, array: &[u8]) -> usize {
-    if !(2..=15).contains(&n) {
-        return 1;
+    if side_refusal(n) != SUCCESS {
+        return side_refusal(n);
     }
     if !(1..=4096).contains(&block) {
         return 2;
@@ -135,17 +150,104 @@ pub fn write(n: usize, block: usize, array: &[u8], disk: usize, data: &[u8]) -> 
     Outcome::writing(SUCCESS, written)
 }
 
+fn map_fits(n: usize, map: &[u8]) -> bool {
+    map.len() == disk_count(n) && map.iter().all(|&mark| mark <= 1)
+}
+
 /// The block of one present disk, by its length and its place in the array; length 0 where anything is wrong.
 pub fn look(n: usize, block: usize, array: &[u8], map: &[u8], disk: usize) -> Outcome {
     let empty = Outcome::reading(0, None);
     if array_refusal(n, block, array) != SUCCESS {
         return empty;
     }
-    if map.len() != disk_count(n) || map.iter().any(|&mark| mark > 1) {
+    if !map_fits(n, map) {
         return empty;
     }
     if disk >= disk_count(n) || map[disk] == 1 {
         return empty;
     }
     Outcome::reading(block, Some(disk * block))
+}
+
+/// Refusals 4 and 5, which come after those of the size and the array.
+fn map_refusal(n: usize, map: &[u8], sheet: &[u8]) -> usize {
+    if !map_fits(n, map) {
+        return 4;
+    }
+    if sheet.len() != sheet::SHEET {
+        return 5;
+    }
+    SUCCESS
+}
+
+/// A loss: the stripe equations say whether it is fatal, plan's order how it is repaired.
+struct Loss {
+    fatal: bool,
+    equations: Equations,
+    /// The number of repairs, or of lost disks.
+    count: usize,
+    sheet: Vec<u8>,
+}
+
+impl Loss {
+    fn new(n: usize, map: &[u8]) -> Loss {
+        let erased: Vec<usize> = (0..map.len()).filter(|&disk| map[disk] == 1).collect();
+        let mut equations = Equations::new(n);
+        let independent = erased.iter().filter(|&&disk| equations.add(disk)).count();
+        let fatal = independent < erased.len();
+        let (repairs, lost) = sheet::plans_order(n, &erased);
+        // Demand 3 says so. A model that contradicts itself would be nothing to compare with.
+        assert_eq!(fatal, !lost.is_empty(), "rank and repairs differ, n {n}, map {map:?}");
+        if fatal {
+            return Loss { fatal, equations, count: lost.len(), sheet: sheet::ANY_LOOP.to_vec() };
+        }
+        Loss { fatal, equations, count: erased.len(), sheet: sheet::of_repairs(&repairs) }
+    }
+}
+
+/// The repairs in plan's order and their number, or any loop and the number of lost disks.
+pub fn plan(n: usize, map: &[u8], sheet: &[u8]) -> Outcome {
+    let mut refusal = side_refusal(n);
+    if refusal == SUCCESS {
+        refusal = map_refusal(n, map, sheet);
+    }
+    if refusal != SUCCESS {
+        return Outcome { answer: refusal, out: None, written: vec![sheet.to_vec()] };
+    }
+    let loss = Loss::new(n, map);
+    Outcome { answer: if loss.fatal { FATAL } else { SUCCESS }, out: Some(loss.count), written: vec![loss.sheet] }
+}
+
+/// The array with other blocks on the erased disks.
+fn with_erased(block: usize, array: &[u8], map: &[u8], erased: &[u8]) -> Vec<u8> {
+    let mut changed = array.to_vec();
+    for (disk, bytes) in changed.chunks_exact_mut(block).enumerate().filter(|&(disk, _)| map[disk] == 1) {
+        bytes.copy_from_slice(block_of(erased, block, disk));
+    }
+    changed
+}
+
+/// The sealed array to which the survivors belong. With 7 the erased blocks and the whole sheet are zero.
+pub fn rebuild(n: usize, block: usize, array: &[u8], map: &[u8], sheet: &[u8]) -> Outcome {
+    let mut refusal = array_refusal(n, block, array);
+    if refusal == SUCCESS {
+        refusal = map_refusal(n, map, sheet);
+    }
+    if refusal != SUCCESS {
+        return Outcome { answer: refusal, out: None, written: vec![array.to_vec(), sheet.to_vec()] };
+    }
+    let loss = Loss::new(n, map);
+    if loss.fatal {
+        return Outcome { answer: FATAL, out: Some(loss.count), written: vec![array.to_vec(), loss.sheet] };
+    }
+    match loss.equations.solve(sums_of_survivors(n, block, array, map)) {
+        Some(erased) => {
+            let restored = with_erased(block, array, map, &erased);
+            Outcome { answer: SUCCESS, out: Some(loss.count), written: vec![restored, loss.sheet] }
+        }
+        None => {
+            let zeroed = with_erased(block, array, map, &vec![0; array.len()]);
+            Outcome { answer: CONTRADICTORY, out: None, written: vec![zeroed, vec![0; sheet::SHEET]] }
+        }
+    }
 }

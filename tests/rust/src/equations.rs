@@ -1,0 +1,88 @@
+//! The stripe equations, solved by elimination over one bit. The unknowns are the erased disks; each equation says that
+//! the sum over a stripe is zero. Nothing here repairs disk by disk: whether a loss is fatal and what the erased blocks
+//! were is decided without plan's order.
+
+/// Stripe numbers lie below this.
+pub const STRIPES: usize = 32;
+
+/// A set of disks, by their bits.
+type Disks = [u64; 4];
+
+/// Some of the unknowns, added up: the stripes on which they do not cancel, of which one is the pivot.
+struct Kept {
+    disks: Disks,
+    stripes: u32,
+    pivot: usize,
+}
+
+/// The unknowns that are independent so far, each reduced by those before it. So no pivot occurs in a later one.
+pub struct Equations {
+    n: usize,
+    kept: Vec<Kept>,
+}
+
+impl Equations {
+    pub fn new(n: usize) -> Equations {
+        Equations { n, kept: Vec::new() }
+    }
+
+    /// Adds the block of a disk as an unknown. It is left out, and the answer is no, if its column of the equations
+    /// is a sum of those before it.
+    pub fn add(&mut self, disk: usize) -> bool {
+        let mut disks = [0; 4];
+        disks[disk / 64] = 1 << (disk % 64);
+        let [row, column] = stripes_through(self.n, disk);
+        let mut stripes = 1 << row | 1 << column;
+        for kept in &self.kept {
+            if stripes >> kept.pivot & 1 == 1 {
+                stripes ^= kept.stripes;
+                (0..4).for_each(|i| disks[i] ^= kept.disks[i]);
+            }
+        }
+        if stripes != 0 {
+            self.kept.push(Kept { disks, stripes, pivot: stripes.trailing_zeros() as usize });
+        }
+        stripes != 0
+    }
+
+    /// The blocks of the unknowns that make every stripe's sum zero, for these sums of the other disks: an array with
+    /// them, and zeros on all other disks. None where no blocks do.
+    pub fn solve(&self, mut sums: Vec<Vec<u8>>) -> Option<Vec<u8>> {
+        let block = sums[0].len();
+        let mut solution = vec![0; (self.n + 1) * (self.n + 1) * block];
+        for kept in &self.kept {
+            let value = sums[kept.pivot].clone();
+            for (stripe, sum) in sums.iter_mut().enumerate() {
+                if kept.stripes >> stripe & 1 == 1 {
+                    add(sum, &value);
+                }
+            }
+            for (disk, bytes) in solution.chunks_exact_mut(block).enumerate() {
+                if kept.disks[disk / 64] >> (disk % 64) & 1 == 1 {
+                    add(bytes, &value);
+                }
+            }
+        }
+        sums.iter().flatten().all(|&byte| byte == 0).then_some(solution)
+    }
+}
+
+/// The two stripes through a disk: row r is stripe r, column c is stripe 16 + c.
+pub fn stripes_through(n: usize, disk: usize) -> [usize; 2] {
+    [disk / (n + 1), 16 + disk % (n + 1)]
+}
+
+/// The sum of each stripe over the disks that are not erased.
+pub fn sums_of_survivors(n: usize, block: usize, array: &[u8], map: &[u8]) -> Vec<Vec<u8>> {
+    let mut sums = vec![vec![0; block]; STRIPES];
+    for (disk, bytes) in array.chunks_exact(block).enumerate() {
+        if map[disk] == 0 {
+            stripes_through(n, disk).iter().for_each(|&stripe| add(&mut sums[stripe], bytes));
+        }
+    }
+    sums
+}
+
+pub fn add(to: &mut [u8], bytes: &[u8]) {
+    to.iter_mut().zip(bytes).for_each(|(x, y)| *x ^= y);
+}

@@ -1,0 +1,76 @@
+//! Every refusal of plan and rebuild alone, every pair of them, and every larger set: of those that apply, the first in
+//! the paper's list is due.
+
+use crate::inputs::{sealed_array, Size, SIDE_MAX};
+use crate::model::disk_at;
+use crate::random::Random;
+use crate::sheet::SHEET;
+use crate::{arguments, losses, plan, rebuild, Run};
+
+/// How often each set of faults is tried, each time with other values.
+const TURNS: usize = 40;
+
+/// The arguments of rebuild; those of plan are among them.
+struct Arguments {
+    n: usize,
+    block: usize,
+    array: Vec<u8>,
+    map: Vec<u8>,
+    sheet: Vec<u8>,
+}
+
+/// A call with nothing wrong: a sealed array that has lost one of its row parities.
+fn faultless(random: &mut Random) -> Arguments {
+    let size = Size { n: random.between(2, SIDE_MAX), block: random.between(1, 20) };
+    let map = losses::map_of(size.n, &[disk_at(size.n, random.below(size.n), size.n)]);
+    let mut array = sealed_array(random, size);
+    losses::forget(random, size, &mut array, &map);
+    Arguments { n: size.n, block: size.block, array, map, sheet: random.bytes(SHEET) }
+}
+
+/// One byte more or less, or another wrong length.
+fn resize(random: &mut Random, bytes: &mut Vec<u8>) {
+    let right = bytes.len();
+    while bytes.len() == right {
+        let length = arguments::length(random, right);
+        bytes.resize(length, 0);
+    }
+}
+
+/// What can be wrong, those of the contents first: they need the lengths to be right.
+const FAULTS: [fn(&mut Random, &mut Arguments); 8] = [
+    // 7: a data disk is changed. Its column then contradicts it.
+    |random, a| {
+        let disk = disk_at(a.n, random.below(a.n), random.below(a.n));
+        a.array[disk * a.block + random.below(a.block)] ^= random.between(1, 255) as u8;
+    },
+    // 6: the corners of a rectangle are lost.
+    |random, a| losses::ring(random, a.n, 2, 0).iter().for_each(|&disk| a.map[disk] = 1),
+    // 4, by a byte and by the length.
+    |random, a| arguments::spoil(random, &mut a.map, 0),
+    |random, a| resize(random, &mut a.map),
+    // 5
+    |random, a| resize(random, &mut a.sheet),
+    // 3
+    |random, a| resize(random, &mut a.array),
+    // 2
+    |random, a| a.block = random.pick(&[0, 4097, a.block + (1 << 16), a.block + (1 << 32), usize::MAX]),
+    // 1
+    |random, a| a.n = random.pick(&[0, 1, 16, a.n + 256, a.n + (1 << 32), usize::MAX - 1, usize::MAX]),
+];
+
+pub fn run(run: &mut Run) {
+    for set in 0..1_usize << FAULTS.len() {
+        for _ in 0..TURNS {
+            let mut a = faultless(&mut run.random);
+            for (i, fault) in FAULTS.iter().enumerate() {
+                if set >> i & 1 == 1 {
+                    fault(&mut run.random, &mut a);
+                }
+            }
+            plan::compare(&mut run.tally, a.n, &a.map, &a.sheet);
+            rebuild::compare(&mut run.tally, a.n, a.block, &a.array, &a.map, &a.sheet);
+        }
+    }
+    run.tally.report("every set of refusals", &[0, 1, 2, 3, 4, 5, 6, 7]);
+}
