@@ -15,11 +15,10 @@ use Rattle.model.specs.Cycle.{Paired, partner, otherThan, firstOf, trace, lowes
 use Rattle.model.specs.Sheet.{sheetOf}
 use Rattle.model.specs.declared.Size.{Size}
 use Rattle.model.proofs.Fold.{lowest-is}
-use Rattle.model.proofs.Grid.{size-fits, grid-disks, gridOf-two, disks-bound, across-bound, row-within}
+use Rattle.model.proofs.Grid.{size-fits, grid-disks, gridOf-two, disks-bound, across-bound, row-within, on-row}
 use Rattle.model.proofs.Degree.{on-bound}
 use Rattle.model.proofs.Walk.{Step, next, partner-is, next-step}
 use Rattle.layout.specs.Stripe.{rowStripe}
-use Rattle.layout.proofs.Runs.{on-row}
 use Rattle.sheet.specs.Record.{appended}
 use Rattle.sheet.proofs.Appended.{append-record, sheet-length}
 
@@ -72,7 +71,7 @@ module _ (z : Size) (fits : sizeFits z ≡ true) (set : List ℕ) where
           ∙ (unfold lowestOf in lowest-is (gridOf z .disks) (erasures set) .found (subst (λ (i : ℕ). i < gridOf z .disks) at inside))
 
       here : on (gridOf z) d s ≡ true
-      here = ap (on (gridOf z) d) row ∙ (unfold rowStripe in on-row z (size-fits z fits) d (d / across z) low ∙ eq-eqb (d / across z) (d / across z) refl)
+      here = ap (on (gridOf z) d) row ∙ (unfold rowStripe in on-row z d (d / across z) low ∙ eq-eqb (d / across z) (d / across z) refl)
         where
           low : d / across z < 16
           low = let h = size-fits z fits .rowsHigh in let b = row-within z d below in omega arith

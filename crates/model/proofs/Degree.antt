@@ -310,7 +310,6 @@ module _ (z : Size) where
       omega arith
 
 module _ (z : Size) (fits : sizeFits z ≡ true) where
-
   -- There are fewer repairs than that.
   pub grid-repairs : (e : ℕ → Bool) (w : List Entry) → Peels (gridOf z) e w → length w < (rows z + 1) + (columns z + 1)
   grid-repairs e [] p = omega arith
