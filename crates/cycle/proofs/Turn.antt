@@ -18,9 +18,10 @@ use Rattle.model.proofs.Fold.{lowest-is}
 use Rattle.model.proofs.Grid.{size-fits, grid-disks, gridOf-two, disks-bound, across-bound, row-within, on-row}
 use Rattle.model.proofs.Degree.{on-bound}
 use Rattle.model.proofs.Walk.{Step, next, partner-is, next-step}
+use Rattle.model.proofs.Sheets.{sheet-length}
 use Rattle.layout.specs.Stripe.{rowStripe}
 use Rattle.sheet.specs.Record.{appended}
-use Rattle.sheet.proofs.Appended.{append-record, sheet-length}
+use Rattle.sheet.proofs.Appended.{append-record}
 
 -- ---- one step of the definition
 module _ (L : Layout) (c : ℕ → Bool) (first k : ℕ) (r : Entry) where

@@ -17,6 +17,7 @@ pub mod Restore
 pub mod Contents
 pub mod Accept
 pub mod Demand2
+pub mod Sheets
 pub mod Outcomes
 pub mod Demand3
 pub mod Cases
