@@ -39,126 +39,122 @@ module _ (L : Layout) (c : ℕ → Bool) (first k : ℕ) (r : Entry) where
 abbrev pub onward : Size → List ℕ → ℕ → Entry → List Entry
 onward z set n r = trace (gridOf z) (erasures set) (lowestOf (gridOf z) (erasures set)) n r
 
--- After k turns the sheet lists the first k steps; the trace goes on with stripe s of disk d.
-pub record Turn (z : Size) (set sheet : List ℕ) (d s k : ℕ) : Type 0 where
+-- After k turns the sheet lists the first k steps, and the trace goes on with the step r.
+pub record Turn (z : Size) (set sheet : List ℕ) (r : Entry) (k : ℕ) : Type 0 where
   pub done : List Entry
   pub number : length done ≡ k
   pub listed : sheet ≡ sheetOf 2 done
-  pub whole : cycleOf (gridOf z) (erasures set) ≡ done ++ onward z set (16 + across z - k) (record { disk = d; stripe = s })
-  pub step : Step (gridOf z) (erasures set) (record { disk = d; stripe = s })
+  pub whole : cycleOf (gridOf z) (erasures set) ≡ done ++ onward z set (16 + across z - k) r
+  pub step : Step (gridOf z) (erasures set) r
 
-module _ (z : Size) (fits : sizeFits z ≡ true) (set : List ℕ) where
-  -- It begins at the lowest disk, with its row.
-  pub turn-first : lowestOf (gridOf z) (erasures set) < disks z → (sheet : List ℕ) → sheet ≡ sheetOf 2 []
-      → (d s : ℕ) → d ≡ lowestOf (gridOf z) (erasures set) → s ≡ rowStripe z d → Turn z set sheet d s 0
-  turn-first l sheet e d s at row =
+-- It begins at the lowest disk, with its row.
+module _ (z : Size) (fits : sizeFits z ≡ true) (set : List ℕ) (d s : ℕ)
+    (lowest : d ≡ lowestOf (gridOf z) (erasures set)) (row : s ≡ rowStripe z d) where
+  begins : cycleOf (gridOf z) (erasures set) ≡ onward z set (16 + across z - 0) (record { disk = d; stripe = s })
+  unfolding cycleOf firstOf gridOf grid across rowStripe
+  begins =
+      ap₂ (onward z set) (sym (sub-zero (16 + across z)))
+      (ap (λ (i : ℕ). record { disk = i; stripe = i / across z }) (sym lowest)
+      ∙ ap (λ (t : ℕ). record { disk = d; stripe = t }) (sym row))
+
+  on-first : d < disks z → on (gridOf z) d s ≡ true
+  unfolding rowStripe
+  on-first l =
+      let low : d / across z < 16 = let h = size-fits z fits .rowsHigh in let b = row-within z d l in omega arith in
+      ap (on (gridOf z) d) row ∙ on-row z d (d / across z) low ∙ eq-eqb (d / across z) (d / across z) refl
+
+  in-first : d < gridOf z .disks → erasures set d ≡ true
+  unfolding lowestOf
+  in-first l =
+      ap (erasures set) lowest
+      ∙ lowest-is (gridOf z .disks) (erasures set) .found (subst (λ (i : ℕ). i < gridOf z .disks) lowest l)
+
+  pub turn-first : lowestOf (gridOf z) (erasures set) < disks z → {sheet : List ℕ} → sheet ≡ sheetOf 2 []
+      → Turn z set sheet (record { disk = d; stripe = s }) 0
+  turn-first l e =
+      let below : d < disks z = omega arith in
+      let inside : d < gridOf z .disks = subst (λ (n : ℕ). d < n) (sym (grid-disks z)) below in
       record {
         done = [];
         number = refl;
         listed = e;
         whole = begins;
-        step = record { disk = inside; inside = found; lies = here };
+        step = record { disk = inside; inside = in-first inside; lies = on-first below };
       }
-    where
-      below : d < disks z
-      below = omega arith
 
-      inside : d < gridOf z .disks
-      inside = subst (λ (n : ℕ). d < n) (sym (grid-disks z)) below
+module _ {z : Size} (fits : sizeFits z ≡ true) {set sheet : List ℕ} {r : Entry} {k : ℕ} (t : Turn z set sheet r k) where
+  -- What is asked of disk and stripe, of the sheet, and of the disk that the step leads to.
+  pub turn-disk : r .disk < disks z
+  turn-disk = subst (λ (n : ℕ). r .disk < n) (grid-disks z) (t .step .disk)
 
-      found : erasures set d ≡ true
-      found =
-          ap (erasures set) at
-          ∙ (unfold lowestOf in lowest-is (gridOf z .disks) (erasures set) .found (subst (λ (i : ℕ). i < gridOf z .disks) at inside))
+  pub turn-small : (r .disk < 256) × (r .stripe < 256)
+  turn-small =
+      let b = disks-bound z (size-fits z fits) in
+      let w = across-bound z (size-fits z fits) in
+      let l = turn-disk in
+      let h : r .stripe < 16 + across z =
+      unfold gridOf grid across in on-bound (gridOf z) (gridOf-two z fits) (r .disk) (t .step .disk) (r .stripe) (t .step .lies) in
+      (omega arith, omega arith)
 
-      here : on (gridOf z) d s ≡ true
-      here = ap (on (gridOf z) d) row ∙ (unfold rowStripe in on-row z d (d / across z) low ∙ eq-eqb (d / across z) (d / across z) refl)
-        where
-          low : d / across z < 16
-          low = let h = size-fits z fits .rowsHigh in let b = row-within z d below in omega arith
+  pub turn-length : length sheet ≡ 98
+  turn-length = ap length (t .listed) ∙ sheet-length 2 (t .done)
 
-      begins : cycleOf (gridOf z) (erasures set) ≡ onward z set (16 + across z - 0) (record { disk = d; stripe = s })
-      begins =
-          unfold cycleOf firstOf gridOf grid across rowStripe in
-          ap₂ (onward z set) (sym (sub-zero (16 + across z)))
-          (ap (λ (i : ℕ). record { disk = i; stripe = i / across z }) (sym at) ∙ ap (λ (t : ℕ). record { disk = d; stripe = t }) (sym row))
-
-  -- What append and the next step ask.
-  pub turn-number : (k : ℕ) → k < 16 + across z → k < 32
-  turn-number k l = let b = across-bound z (size-fits z fits) in omega arith
-
-  module _ {sheet : List ℕ} {d s k : ℕ} (t : Turn z set sheet d s k) where
-    pub turn-disk : d < disks z
-    turn-disk = subst (λ (n : ℕ). d < n) (grid-disks z) (t .step .disk)
-
-    pub turn-partner : Paired (gridOf z) (erasures set) → (i : ℕ) → i ≡ partner (gridOf z) (erasures set) (record { disk = d; stripe = s }) → i < disks z
-    turn-partner paired i at =
+  module _ (paired : Paired (gridOf z) (erasures set)) (i : ℕ) (at : i ≡ partner (gridOf z) (erasures set) r) where
+    pub turn-partner : i < disks z
+    turn-partner =
         subst (λ (n : ℕ). i < n) (grid-disks z)
-        (subst (λ (j : ℕ). j < gridOf z .disks) (sym at) (partner-is (gridOf z) (erasures set) paired _ (t .step) .inside))
+        (subst (λ (j : ℕ). j < gridOf z .disks) (sym at) (partner-is (gridOf z) (erasures set) paired r (t .step) .inside))
 
-    pub turn-length : length sheet ≡ 98
-    turn-length = ap length (t .listed) ∙ sheet-length 2 (t .done)
+  -- After the last turn nothing is left to write.
+  pub turn-ends : 16 + across z ≤ k → sheet ≡ sheetOf 2 (cycleOf (gridOf z) (erasures set))
+  unfolding trace
+  turn-ends l =
+      let none : 16 + across z - k ≡ 0 = omega arith in
+      t .listed
+      ∙ ap (sheetOf 2) (sym (t .whole ∙ ap (λ (n : ℕ). t .done ++ onward z set n r) none ∙ append-nil (t .done)))
 
-    pub turn-small : (d < 256) × (s < 256)
-    turn-small =
-        let b = disks-bound z (size-fits z fits) in
-        let w = across-bound z (size-fits z fits) in
-        let l = turn-disk in
-        let h : s < 16 + across z =
-        unfold gridOf grid across in on-bound (gridOf z) (gridOf-two z fits) d (t .step .disk) s (t .step .lies) in
-        (omega arith, omega arith)
+  module _ (l : k < 16 + across z) where
+    pub turn-number : k < 32
+    turn-number = let b = across-bound z (size-fits z fits) in omega arith
 
-    -- After the last turn nothing is left to write.
-    pub turn-ends : 16 + across z ≤ k → sheet ≡ sheetOf 2 (cycleOf (gridOf z) (erasures set))
-    unfolding trace
-    turn-ends l =
-        t .listed
-        ∙ ap (sheetOf 2)
-        (sym (t .whole
-        ∙ ap (λ (n : ℕ). t .done ++ onward z set n (record { disk = d; stripe = s }))
-        (let none : 16 + across z - k ≡ 0 = omega arith in none)
-        ∙ append-nil (t .done)))
+    goes-on : cycleOf (gridOf z) (erasures set) ≡ t .done ++ onward z set (suc (16 + across z - (k + 1))) r
+    goes-on =
+        let one : 16 + across z - k ≡ suc (16 + across z - (k + 1)) = omega arith in
+        t .whole ∙ ap (λ (n : ℕ). t .done ++ onward z set n r) one
 
     -- A turn writes the record of its step,
-    module _ (l : k < 16 + across z) (new : List ℕ) (is-new : new ≡ appended sheet k d s)
-        (i : ℕ) (at : i ≡ partner (gridOf z) (erasures set) (record { disk = d; stripe = s })) where
-      written : new ≡ sheetOf 2 (t .done ++ (record { disk = d; stripe = s } ∷ []))
+    module _ (new : List ℕ) (is-new : new ≡ appended sheet k (r .disk) (r .stripe)) (i : ℕ) (at : i ≡ partner (gridOf z) (erasures set) r) where
+      written : new ≡ sheetOf 2 (t .done ++ (r ∷ []))
       written =
-          is-new ∙ ap₂ (λ (x : List ℕ) (n : ℕ). appended x n d s) (t .listed) (sym (t .number))
-          ∙ append-record 2 (t .done) d s (let h = turn-number k l in let q = t .number in omega arith)
-
-      goes-on : cycleOf (gridOf z) (erasures set) ≡ t .done ++ onward z set (suc (16 + across z - (k + 1))) (record { disk = d; stripe = s })
-      goes-on =
-          t .whole
-          ∙ ap (λ (n : ℕ). t .done ++ onward z set n (record { disk = d; stripe = s }))
-          (let one : 16 + across z - k ≡ suc (16 + across z - (k + 1)) = omega arith in one)
+          is-new ∙ ap₂ (λ (x : List ℕ) (n : ℕ). appended x n (r .disk) (r .stripe)) (t .listed) (sym (t .number))
+          ∙ append-record 2 (t .done) (r .disk) (r .stripe) (let h = turn-number in let q = t .number in omega arith)
 
       -- and is the last where it leads back to the first disk.
       pub turn-closes : i ≡ lowestOf (gridOf z) (erasures set) → new ≡ sheetOf 2 (cycleOf (gridOf z) (erasures set))
       turn-closes e =
-          written
-          ∙ ap (sheetOf 2)
-          (sym (goes-on
-          ∙ ap (λ (w : List Entry). t .done ++ w) (trace-closes (gridOf z) (erasures set) (lowestOf (gridOf z) (erasures set)) _ _ (sym at ∙ e))))
+          let last = trace-closes (gridOf z) (erasures set) (lowestOf (gridOf z) (erasures set)) (16 + across z - (k + 1)) r (sym at ∙ e) in
+          written ∙ ap (sheetOf 2) (sym (goes-on ∙ ap (λ (w : List Entry). t .done ++ w) last))
 
       -- Else the other stripe of the disk reached is next.
-      pub turn-next : Paired (gridOf z) (erasures set) → (i ≡ lowestOf (gridOf z) (erasures set) → ⊥)
-          → (u : ℕ) → u ≡ otherThan s (gridOf z .through i) → Turn z set new i u (k + 1)
-      turn-next paired n u other =
-          record {
-            done = t .done ++ (record { disk = d; stripe = s } ∷ []);
-            number = let q = t .number in length-append (t .done) (record { disk = d; stripe = s } ∷ []) ∙ (omega arith);
-            listed = written;
-            whole = goes-on
-                ∙ ap (λ (w : List Entry). t .done ++ w)
-                (trace-goes (gridOf z) (erasures set) (lowestOf (gridOf z) (erasures set)) _ _ (λ e. n (at ∙ e))
-                ∙ ap (λ (r : Entry). record { disk = d; stripe = s } ∷ onward z set (16 + across z - (k + 1)) r) reached)
-                ∙ sym (append-assoc (t .done) _ _);
-            step = subst (Step (gridOf z) (erasures set)) reached (next-step (gridOf z) (erasures set) paired _ (t .step) (gridOf-two z fits));
-          }
-        where
-          reached : next (gridOf z) (erasures set) (record { disk = d; stripe = s }) ≡ record { disk = i; stripe = u }
-          reached =
-              unfold next in
-              ap (λ (j : ℕ). record { disk = j; stripe = otherThan s (gridOf z .through j) }) (sym at)
-              ∙ ap (λ (v : ℕ). record { disk = i; stripe = v }) (sym other)
+      module _ (apart : i ≡ lowestOf (gridOf z) (erasures set) → ⊥) (u : ℕ) (other : u ≡ otherThan (r .stripe) (gridOf z .through i)) where
+        reached : next (gridOf z) (erasures set) r ≡ record { disk = i; stripe = u }
+        unfolding next
+        reached =
+            ap (λ (j : ℕ). record { disk = j; stripe = otherThan (r .stripe) (gridOf z .through j) }) (sym at)
+            ∙ ap (λ (v : ℕ). record { disk = i; stripe = v }) (sym other)
+
+        goes-to : onward z set (suc (16 + across z - (k + 1))) r ≡ r ∷ onward z set (16 + across z - (k + 1)) (record { disk = i; stripe = u })
+        goes-to =
+            trace-goes (gridOf z) (erasures set) (lowestOf (gridOf z) (erasures set)) (16 + across z - (k + 1)) r (λ e. apart (at ∙ e))
+            ∙ ap (λ (q : Entry). r ∷ onward z set (16 + across z - (k + 1)) q) reached
+
+        pub turn-next : Paired (gridOf z) (erasures set) → Turn z set new (record { disk = i; stripe = u }) (k + 1)
+        turn-next paired =
+            record {
+              done = t .done ++ (r ∷ []);
+              number = let q = t .number in length-append (t .done) (r ∷ []) ∙ (omega arith);
+              listed = written;
+              whole = goes-on ∙ ap (λ (w : List Entry). t .done ++ w) goes-to ∙ sym (append-assoc (t .done) (r ∷ []) _);
+              step = subst (Step (gridOf z) (erasures set)) reached
+                  (next-step (gridOf z) (erasures set) paired r (t .step) (gridOf-two z fits));
+            }

@@ -89,7 +89,9 @@ module _ (z : Size) (fits : Fits z) where
           let e : 16 + (s - 16) ≡ s = add-sub-of-le h in
           let q = eqb-true (s - 16) (d % across z) (sym (on-column z fits d (s - 16) l) ∙ ap (on (gridOf z) d) e ∙ o) in
           let b = column-within z d in
-          rw (le-ltb s 16 h) (subst (λ (t : ℕ). RunOf z t (record { first = s - 16; step = across z; count = rows z + 1 }) (λ d. d / across z)) e (column-run (s - 16) (omega arith)))
+          let run = column-run (s - 16) (omega arith) in
+          rw (le-ltb s 16 h)
+          (subst (λ (t : ℕ). RunOf z t (record { first = s - 16; step = across z; count = rows z + 1 }) (λ d. d / across z)) e run)
 
 -- ---- places, and the lowest disk on a stripe
 module _ (z : Size) (s : ℕ) (run : Run) (place : ℕ → ℕ) (r : RunOf z s run place) where

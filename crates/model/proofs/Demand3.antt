@@ -7,39 +7,62 @@ use mathlib.Core.Logic.{_↔_}
 use mathlib.Core.List.{List}
 use Prim.Native.Nat.{ℕ, _+_, _*_, _≤_, _<_}
 use native.Mathlib.Omega.{arith}
-use lib.ListN.{length}
+use lib.ListN.{length, getD}
 use Rattle.model.specs.Fold.{count}
-use Rattle.model.specs.Stripes.{Layout, TwoStripes, whole, Codeword}
+use Rattle.model.specs.Stripes.{Layout, TwoStripes, whole, Codeword, Bytes}
 use Rattle.model.specs.Grid.{square, rows, columns, gridOf, sizeFits}
 use Rattle.model.specs.Refusal.{refusal, arrayTests}
 use Rattle.model.specs.Repair.{erasures, Entry, Peels, Stuck, repairs, after, residual, fatal, rebuilt, consistent, Agree, Belongs, Ambiguous}
 use Rattle.model.specs.Cycle.{Cycle, Loop}
 use Rattle.model.specs.Rebuild.{planTests, mapOutcome, mapSheet, planOutcome, planSheet, rebuildTests, rebuildRefusal, repairedArray, choose, rebuildOutcome, rebuildArray, rebuildSheet}
-use Rattle.model.specs.Demand3.{Results, Demand3}
+use Rattle.model.specs.Demand3.{Demand3, resultsOf}
 use Rattle.model.specs.declared.Size.{Size}
+use Rattle.model.specs.declared.Outcome.the-variants.{Refused}
 use Rattle.model.proofs.Fold.{by-cases}
-use Rattle.model.proofs.Refusal.{ArrayFits, array-tests}
-use Rattle.model.proofs.Peel.{order-free-all, repairs-count}
+use Rattle.model.proofs.Grid.{gridOf-two}
+use Rattle.model.proofs.Refusal.{given-refused, ArrayFits, array-tests}
+use Rattle.model.proofs.Peel.{residual-stuck, order-free-all, repairs-count}
 use Rattle.model.proofs.Degree.{grid-repairs}
 use Rattle.model.proofs.Core.{ambiguous}
 use Rattle.model.proofs.Trace.{cycle-fatal, shown}
 use Rattle.model.proofs.Loop.{loop-cycle, loop-bound}
-use Rattle.model.proofs.Restore.{Small, two-bounded, whole-inside, judge, restored-is, unique}
-use Rattle.model.proofs.Accept.{SheetFits, plan-accepts, rebuild-accepts}
+use Rattle.model.proofs.Restore.{two-bounded, whole-inside, judge, restored-is, unique}
+use Rattle.model.proofs.Accept.{plan-accepts, rebuild-accepts}
 use Rattle.model.proofs.Outcomes.{when-fatal, when-restored, when-contradicted}
 
 -- ---- which arguments are taken
 
 -- Plan takes just these sizes, a map with a byte of 0 or 1 for each disk, and a sheet of 98 bytes.
-pub plan-takes : (n : ℕ) (m : List ℕ) (len : ℕ) → (refusal (planTests (square n) m len) ≡ 0) ↔ ((2 ≤ n) × (n ≤ 15) × SheetFits n m len)
+pub plan-takes : (n : ℕ) (m : List ℕ) (len : ℕ) → (refusal (planTests (square n) m len) ≡ 0)
+    ↔ ((2 ≤ n) × (n ≤ 15) × ((length m ≡ (n + 1) * (n + 1)) × ((d : ℕ) → d < length m → getD m d 0 ≤ 1) × (len ≡ 98)))
 plan-takes = plan-accepts
 
 -- Rebuild takes, besides, just the blocks and the arrays that every call on an array takes.
 pub rebuild-takes : (n B arrayLen : ℕ) (m : List ℕ) (len : ℕ) → (refusal (rebuildTests (square n) B arrayLen m len) ≡ 0)
-    ↔ ((refusal (arrayTests (square n) B arrayLen) ≡ 0) × SheetFits n m len)
+    ↔ ((refusal (arrayTests (square n) B arrayLen) ≡ 0)
+    × ((length m ≡ (n + 1) * (n + 1)) × ((d : ℕ) → d < length m → getD m d 0 ≤ 1) × (len ≡ 98)))
 rebuild-takes = rebuild-accepts
 
--- ---- any system in which every disk lies on two stripes
+-- One that is refused by these tests changes nothing.
+pub plan-refused : (z : Size) (m sheet : List ℕ) → (refusal (planTests z m (length sheet)) ≡ 0 → ⊥)
+    → (planOutcome z m sheet ≡ Refused (refusal (planTests z m (length sheet)))) × (planSheet z m sheet ≡ sheet)
+unfolding planOutcome planSheet
+plan-refused z m sheet refused = (given-refused (refusal (planTests z m (length sheet))) _ _ refused, given-refused (refusal (planTests z m (length sheet))) _ _ refused)
+
+pub rebuild-refused : (z : Size) (B : ℕ) (a m sheet : List ℕ) → (rebuildRefusal z B a m sheet ≡ 0 → ⊥)
+    → (rebuildOutcome z B a m sheet ≡ Refused (rebuildRefusal z B a m sheet)) × (rebuildArray z B a m sheet ≡ a)
+    × (rebuildSheet z B a m sheet ≡ sheet)
+unfolding rebuildOutcome rebuildArray rebuildSheet choose
+rebuild-refused z B a m sheet refused = (
+  given-refused (rebuildRefusal z B a m sheet) _ _ refused,
+  given-refused (rebuildRefusal z B a m sheet) _ _ refused,
+  given-refused (rebuildRefusal z B a m sheet) _ _ refused,
+)
+
+-- ---- any system in which every disk lies on two stripes, and the grid is one
+pub grid-system : (z : Size) → sizeFits z ≡ true → TwoStripes (gridOf z)
+grid-system = gridOf-two
+
 module _ (L : Layout) (two : TwoStripes L) (e : ℕ → Bool) where
   -- A loss is fatal exactly if a cycle of erased disks exists,
   pub fatal-cycle : (fatal L e ≡ true) ↔ ((w : List Entry) × Cycle L e w)
@@ -53,7 +76,10 @@ module _ (L : Layout) (two : TwoStripes L) (e : ℕ → Bool) where
     λ both. by-cases (λ (f : Bool). f ≡ true) (fatal L e) (λ lossy. refl) (λ fine. absurd (unique L (two-bounded L two) e fine B both)),
   )
 
-  -- What is left does not depend on the order of the repairs.
+  -- Where plan's order ends, no repair is allowed, and what is left does not depend on the order of the repairs.
+  pub none-allowed : Stuck L (residual L e)
+  none-allowed = residual-stuck L e
+
   pub same-left : (w : List Entry) → Peels L e w → Stuck L (after e w) → after e w ≡ residual L e
   same-left w = order-free-all L e w
 
@@ -69,7 +95,7 @@ module _ (L : Layout) (two : TwoStripes L) (e : ℕ → Bool) where
     all-restored B a b = restored-is L (two-bounded L two) e fine B a b
 
     -- and they leave a stripe whose sum is not zero exactly if there is no such codeword.
-    pub all-judged : (B : ℕ) (a : List ℕ) → length a ≡ L .disks * B → Small a
+    pub all-judged : (B : ℕ) (a : List ℕ) → length a ≡ L .disks * B → Bytes a
         → (consistent L (whole B) (rebuilt L (whole B) a (repairs L e)) ≡ true) ↔ Belongs L (whole B) e a
     unfolding whole
     all-judged B a = judge L (two-bounded L two) e fine (whole B) (whole-inside B) a
@@ -85,19 +111,8 @@ loop-few z fits e w loop = let few = loop-bound z fits e w (loop-cycle z fits e 
 
 -- ---- the demand
 
--- What plan and rebuild are defined to answer and to leave behind.
-unfoldable pub resultsOf : Size → ℕ → (a m planSheet sheet : List ℕ) → Results
-resultsOf z B a m s₁ s₂ =
-    record {
-      planned = planOutcome z m s₁;
-      planSheet = planSheet z m s₁;
-      rebuilt = rebuildOutcome z B a m s₂;
-      array = rebuildArray z B a m s₂;
-      sheet = rebuildSheet z B a m s₂;
-    }
-
--- Demand 3 holds of it for every input that the refusals before 6 let through. An array of bytes has numbers below 256.
-pub demand3 : (z : Size) (B : ℕ) (a m s₁ s₂ : List ℕ) → Small a
+-- Demand 3 holds of what plan and rebuild are defined to give, for every input that the refusals before 6 let through.
+pub demand3 : (z : Size) (B : ℕ) (a m s₁ s₂ : List ℕ) → Bytes a
     → refusal (planTests z m (length s₁)) ≡ 0 → refusal (rebuildTests z B (length a) m (length s₂)) ≡ 0
     → Demand3 z B a m (resultsOf z B a m s₁ s₂)
 unfolding resultsOf planOutcome planSheet rebuildOutcome rebuildArray rebuildSheet rebuildRefusal choose mapOutcome mapSheet rebuildTests

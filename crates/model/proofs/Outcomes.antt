@@ -3,13 +3,13 @@
 use mathlib.Core.Path.{_≡_, refl, sym, _∙_, ap}
 use mathlib.Core.Bool.{true, false, true≢false}
 use mathlib.Core.List.{List}
-use Prim.Native.Nat.{ℕ, _≤_}
+use Prim.Native.Nat.{ℕ, _+_, _≤_}
 use native.Mathlib.Nat.{le-of-lt}
 use native.Mathlib.Omega.{arith}
 use lib.ListN.{length}
 use Rattle.model.specs.Fold.{count}
-use Rattle.model.specs.Stripes.{whole}
-use Rattle.model.specs.Grid.{gridOf, disks}
+use Rattle.model.specs.Stripes.{whole, Bytes}
+use Rattle.model.specs.Grid.{gridOf, disks, rows, columns}
 use Rattle.model.specs.Repair.{erasures, repairs, lost, fatal, rebuilt, zeroed, consistent, Belongs, Ambiguous}
 use Rattle.model.specs.Cycle.{shownCycle}
 use Rattle.model.specs.Sheet.{sheetOf, blankSheet}
@@ -20,9 +20,9 @@ use Rattle.model.specs.declared.Outcome.the-variants.{Repairs, Fatal, Re
 use Rattle.model.proofs.Grid.{block-fits, gridOf-two, grid-disks}
 use Rattle.model.proofs.Refusal.{ArrayFits}
 use Rattle.model.proofs.Peel.{repairs-peels, repairs-count, in-order}
-use Rattle.model.proofs.Degree.{grid-repairs-bound}
+use Rattle.model.proofs.Degree.{grid-repairs, grid-repairs-bound}
 use Rattle.model.proofs.Core.{ambiguous}
-use Rattle.model.proofs.Restore.{Small, grid-bounded, grid-sized, whole-inside, judge, restored-is, unique}
+use Rattle.model.proofs.Restore.{grid-bounded, grid-sized, whole-inside, judge, restored-is, unique}
 use Rattle.model.proofs.Loop.{shown-loop, shown-fits, three}
 
 -- Numbers that are not those of the outcome.
@@ -38,7 +38,7 @@ six-seven e = omega arith
 seven-six : (_≡_ {A = ℕ} 7 6) → ⊥
 seven-six e = omega arith
 
-module _ (z : Size) (B : ℕ) (a m : List ℕ) (small : Small a) (fits : ArrayFits z B (length a)) where
+module _ (z : Size) (B : ℕ) (a m : List ℕ) (small : Bytes a) (fits : ArrayFits z B (length a)) where
   -- Which loss is fatal.
   is-ambiguous : fatal (gridOf z) (erasures m) ≡ true → Ambiguous (gridOf z) (whole B) (erasures m)
   unfolding whole
@@ -68,6 +68,12 @@ module _ (z : Size) (B : ℕ) (a m : List ℕ) (small : Small a) (fits : ArrayFi
   counted : fatal (gridOf z) (erasures m) ≡ false → length (repairs (gridOf z) (erasures m)) ≡ count (disks z) (erasures m)
   counted fine = repairs-count (gridOf z) (erasures m) fine ∙ ap (λ (n : ℕ). count n (erasures m)) (grid-disks z)
 
+  few : fatal (gridOf z) (erasures m) ≡ false → count (disks z) (erasures m) ≤ rows z + columns z + 1
+  few fine =
+      let number = counted fine in
+      let most = grid-repairs z (fits .size) (erasures m) (repairs (gridOf z) (erasures m)) (repairs-peels (gridOf z) (erasures m)) in
+      omega arith
+
   -- A fatal loss.
   pub when-fatal : fatal (gridOf z) (erasures m) ≡ true
       → Demand3 z B a m
@@ -87,6 +93,7 @@ module _ (z : Size) (B : ℕ) (a m : List ℕ) (small : Small a) (fits : ArrayFi
         kept = λ s. refl;
         planLoop = λ s. loop-sheet lossy;
         rebuildLoop = λ s. loop-sheet lossy;
+        lostCount = λ s. (refl, refl, refl);
         planRepairs = λ no. absurd (no both);
         restored = λ no b word agree. absurd (no both);
         contradicted = (λ s. absurd (six-seven s), λ h. absurd (h .0 both));
@@ -114,7 +121,8 @@ module _ (z : Size) (B : ℕ) (a m : List ℕ) (small : Small a) (fits : ArrayFi
         kept = λ s. absurd (zero-six s);
         planLoop = λ s. absurd (zero-six s);
         rebuildLoop = λ s. absurd (zero-six s);
-        planRepairs = λ no. (ap Repairs (counted fine), repair-sheet fine);
+        lostCount = λ s. absurd (zero-six s);
+        planRepairs = λ no. (ap Repairs (counted fine), few fine, repair-sheet fine);
         restored = λ no b word agree.
             (refl, refl, restored-is (gridOf z) (grid-bounded z (fits .size)) (erasures m) fine B a b sized word agree);
         contradicted = (λ s. absurd (zero-seven s), λ h. absurd (h .1 belongs));
@@ -143,7 +151,8 @@ module _ (z : Size) (B : ℕ) (a m : List ℕ) (small : Small a) (fits : ArrayFi
         kept = λ s. absurd (seven-six s);
         planLoop = λ s. absurd (zero-six s);
         rebuildLoop = λ s. absurd (seven-six s);
-        planRepairs = λ no. (ap Repairs (counted fine), repair-sheet fine);
+        lostCount = λ s. absurd (zero-six s);
+        planRepairs = λ no. (ap Repairs (counted fine), few fine, repair-sheet fine);
         restored = λ no b word agree. absurd (none (b, word, agree));
         contradicted = (λ s. (not-ambiguous fine, none), λ h. refl);
         zeros = λ s. (refl, refl);

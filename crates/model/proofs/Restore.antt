@@ -13,7 +13,7 @@ use lib.Dec.{eqb, leb, ltb}
 use lib.ListN.{length, getD, List·getD-eq-default}
 use lib.Seq.{ext-getD}
 use Rattle.model.specs.Fold.{_⊕_, gate}
-use Rattle.model.specs.Stripes.{Layout, TwoStripes, among, on, Stretch, whole, byte, sumOver, stripeSum, Codeword}
+use Rattle.model.specs.Stripes.{Layout, TwoStripes, among, on, Stretch, whole, byte, sumOver, stripeSum, Codeword, Bytes}
 use Rattle.model.specs.Grid.{gridOf, disks, arrayBytes, arrayOf, sizeFits}
 use Rattle.model.specs.Refusal.{refusal, arrayTests}
 use Rattle.model.specs.Array.{checked}
@@ -28,10 +28,6 @@ use Rattle.model.proofs.Refusal.{array-fits}
 use Rattle.model.proofs.Check.{sums-of-zero, zero-of-sums, answer-sealed}
 use Rattle.model.proofs.Write.{sumOver-ext, sumOver-⊕}
 use Rattle.model.proofs.Peel.{without-other, Allowed, allowed-is, repairs-peels, not-fatal}
-
--- All bytes of an array are below 256.
-abbrev pub Small : List ℕ → Type 0
-Small a = (i : ℕ) → i < length a → getD a i 0 < 256
 
 -- ---- places of a stretch
 
@@ -77,7 +73,7 @@ module _ (x : Stretch) (a : List ℕ) (f : ℕ → ℕ → ℕ) where
       List·getD-eq-default (changed x a f) 0 out ∙ sym (List·getD-eq-default a 0 o))
       (lt-or-le i (length a))
 
-  pub changed-small : ((d p : ℕ) → f d p < 256) → Small a → Small (changed x a f)
+  pub changed-small : ((d p : ℕ) → f d p < 256) → Bytes a → Bytes (changed x a f)
   changed-small new old i l =
       let b : i < length a = subst (λ (n : ℕ). i < n) length-changed l in
       subst (λ (v : ℕ). v < 256) (sym (changed-at i b))
@@ -131,11 +127,11 @@ module _ (L : Layout) (x : Stretch) where
   length-rebuilt a [] = refl
   length-rebuilt a (r ∷ rs) = length-rebuilt (repaired L x a r) rs ∙ length-repaired a r
 
-  others-small : (a : List ℕ) → Small a → (r : Entry) (p : ℕ) → sumOfOthers L x a r p < 256
+  others-small : (a : List ℕ) → Bytes a → (r : Entry) (p : ℕ) → sumOfOthers L x a r p < 256
   unfolding sumOfOthers sumOver
   others-small a small r p = xsum-byte (L .disks) (λ d l. gate-small _ (gate-small _ (small-byte a small x d p)))
 
-  pub repaired-small : (a : List ℕ) (r : Entry) → Small a → Small (repaired L x a r)
+  pub repaired-small : (a : List ℕ) (r : Entry) → Bytes a → Bytes (repaired L x a r)
   unfolding repaired
   repaired-small a r small =
       changed-small x a _
@@ -144,7 +140,7 @@ module _ (L : Layout) (x : Stretch) where
       (λ e. others-small a small r p) (λ e. small-byte a small x d p))
       small
 
-  pub rebuilt-small : (a : List ℕ) (w : List Entry) → Small a → Small (rebuilt L x a w)
+  pub rebuilt-small : (a : List ℕ) (w : List Entry) → Bytes a → Bytes (rebuilt L x a w)
   unfolding rebuilt
   rebuilt-small a [] small = small
   rebuilt-small a (r ∷ rs) small = rebuilt-small (repaired L x a r) rs (repaired-small a r small)
@@ -362,7 +358,7 @@ module _ (L : Layout) (bounded : Bounded L) (x : Stretch) (inside : x .offset + 
   restored-bytes b word same d p l h = restore L x inside bounded b word e a sized w peels same d l (none d l) p h
 
   -- Afterwards all sums are zero exactly if the survivors belong to a codeword.
-  pub consistent-belongs : Small a → (consistent L x (rebuilt L x a w) ≡ true) ↔ Belongs L x e a
+  pub consistent-belongs : Bytes a → (consistent L x (rebuilt L x a w) ≡ true) ↔ Belongs L x e a
   unfolding stripeSum
   consistent-belongs small = (
     λ ok. (
@@ -404,7 +400,7 @@ unfolding residual
 none-left L e = not-fatal L e .0
 
 module _ (L : Layout) (bounded : Bounded L) (e : ℕ → Bool) (survivable : fatal L e ≡ false) where
-  pub judge : (x : Stretch) → x .offset + x .width ≤ x .block → (a : List ℕ) → length a ≡ L .disks * x .block → Small a
+  pub judge : (x : Stretch) → x .offset + x .width ≤ x .block → (a : List ℕ) → length a ≡ L .disks * x .block → Bytes a
       → (consistent L x (rebuilt L x a (repairs L e)) ≡ true) ↔ Belongs L x e a
   judge x inside a sized small = consistent-belongs L bounded x inside e (repairs L e) (repairs-peels L e) (none-left L e survivable) a sized small
 

@@ -90,7 +90,8 @@ module _ (z : Size) (e : ℕ → Bool) where
           early = λ d l.
               by-cases (λ (f : Bool). f ≡ false) (fatal (gridOf z) (below (d + 1) e))
               (λ lossy.
-              sym (fatal-mono (gridOf z) (below (d + 1) e) (below (k + 1) e) (below-mono (gridOf z) e (d + 1) (k + 1) (omega arith)) lossy) ∙ fine)
+              let more = below-mono (gridOf z) e (d + 1) (k + 1) (omega arith) in
+              sym (fatal-mono (gridOf z) (below (d + 1) e) (below (k + 1) e) more lossy) ∙ fine)
               (λ h. refl);
         }
 

@@ -15,9 +15,9 @@ column-stripe-requires c κs = search needs
 
 returns : tie.Need-returns
 returns c =
-    let s = c .before .before .before in
+    let p = c .before .before .before .pre in
     c .column-stripe .ensures
-    ∙ column-other (s .args .size) (s .args .disk) (s .args .stripe) (size-fits (s .args .size) (s .pre .0)) (s .pre .1) (sym (c .before .before .row-stripe .ensures) ∙ c .before .if1 .taken)
+    ∙ column-other _ _ _ (size-fits _ (p .0)) (p .1) (sym (c .before .before .row-stripe .ensures) ∙ c .before .if1 .taken)
 
 returns-2 : tie.Need-returns-2
 returns-2 c =

@@ -1,6 +1,6 @@
 -- `cycle::trace` meets its contract: the sheet lists the steps so far.
 -- Assumes nothing.
-use mathlib.Core.Path.{_∙_, sym, ap}
+use mathlib.Core.Path.{_≡_, _∙_, sym, ap}
 use mathlib.Core.List.{[]}
 use Prim.Native.Nat.{_+_, _-_, _<_}
 use native.Mathlib.Omega.{arith}
@@ -8,19 +8,27 @@ use lib.ListN.{length}
 use Rattle.model.specs.Grid.{across}
 use Rattle.model.proofs.Grid.{size-fits, across-bound}
 use Rattle.model.proofs.Sheets.{sheet-length}
-use Rattle.cycle.proofs.Turn.{Turn, turn-first, turn-number, turn-disk, turn-partner, turn-length, turn-small, turn-ends, turn-closes, turn-next}
+use Rattle.cycle.proofs.Turn.{Turn, turn-first, turn-disk, turn-small, turn-length, turn-partner, turn-ends, turn-number, turn-closes, turn-next}
 use Rattle.cycle.proofs.trace.Statement.{statement}
 use Rattle.cycle.proofs.trace.Tie as tie
 
 abbrev Inv-loop : tie.InvT-loop
-Inv-loop size set sheet₀ start disk₀ stripe₀ k₀ sheet disk stripe k = Turn size set sheet disk stripe k
+Inv-loop size set sheet₀ start disk₀ stripe₀ k₀ sheet disk stripe k = Turn size set sheet (record { disk = disk; stripe = stripe }) k
 
 abbrev μ-loop : tie.MeasureT-loop
 μ-loop size set sheet₀ start disk₀ stripe₀ k₀ sheet disk stripe k = 16 + across size - k
 
 -- A turn that is taken is within the bound.
-begun : (c : tie.Then1 Inv-loop μ-loop) → c .before .before .loop .k < 16 + across (c .before .before .before .before .before .before .before .args .size)
+begun : (c : tie.Then1 Inv-loop μ-loop) →
+    let l = c .before .before in
+    l .loop .k < 16 + across (l .before .before .before .before .before .args .size)
 begun c = let e = c .before .across .ensures in let h = c .if1 .taken in omega arith
+
+-- The sheet keeps its length.
+same : (l : tie.At-loop Inv-loop μ-loop) → length (l .loop .sheet) ≡ length (l .before .before .before .before .before .args .sheet .now)
+same l =
+    let s = l .before .before .before .before .before in
+    turn-length (s .pre .0) (l .loop .inv) ∙ sym (ap length (s .pre .1 .1 .1 .1) ∙ sheet-length 2 [])
 
 lowest-requires : tie.Need-lowest-requires Inv-loop μ-loop
 lowest-requires c κs = let p = c .before .before .pre in (p .0, p .1 .0)
@@ -30,8 +38,8 @@ row-stripe-requires c κs = c .before .before .before .pre .0
 
 loop-holds : tie.Need-loop-holds Inv-loop μ-loop
 loop-holds c =
-    let s = c .before .before .before .before in
-    turn-first (s .args .size) (s .pre .0) (s .args .set .now) (s .pre .1 .1 .1 .0) (s .args .sheet .now) (s .pre .1 .1 .1 .1) _ _ (c .before .lowest .ensures) (c .row-stripe .ensures)
+    let p = c .before .before .before .before .pre in
+    turn-first _ (p .0) _ _ _ (c .before .lowest .ensures) (c .row-stripe .ensures) (p .1 .1 .1 .0) (p .1 .1 .1 .1)
 
 across-requires : tie.Need-across-requires Inv-loop μ-loop
 across-requires c κs = c .before .before .before .before .before .pre .0
@@ -45,26 +53,28 @@ add-if1 c =
 
 append-requires : tie.Need-append-requires Inv-loop μ-loop
 append-requires c κs =
-    let s = c .before .before .before .before .before .before .before .before in
-    let t = c .before .before .before .loop .inv in
-    let small = turn-small (s .args .size) (s .pre .0) (s .args .set .now) t in
-    (turn-length _ (s .pre .0) _ t, (turn-number (s .args .size) (s .pre .0) (s .args .set .now) _ (begun (c .before)), (small .0, small .1)))
+    let l = c .before .before .before in
+    let fits = l .before .before .before .before .before .pre .0 in
+    let small = turn-small fits (l .loop .inv) in
+    (turn-length fits (l .loop .inv), (turn-number fits (l .loop .inv) (begun (c .before)), (small .0, small .1)))
 
 partner-on-requires : tie.Need-partner-on-requires Inv-loop μ-loop
 partner-on-requires c κs =
-    let s = c .before .before .before .before .before .before .before .before .before .before .before in
-    let t = c .before .before .before .before .before .before .loop .inv in
-    (s .pre .0, (s .pre .1 .0, (turn-disk _ (s .pre .0) _ t, t .step .lies)))
+    let l = c .before .before .before .before .before .before in
+    let p = l .before .before .before .before .before .pre in
+    (p .0, (p .1 .0, (turn-disk (p .0) (l .loop .inv), l .loop .inv .step .lies)))
 
 other-stripe-requires : tie.Need-other-stripe-requires Inv-loop μ-loop
 other-stripe-requires c κs =
-    let s = c .before .before .before .before .before .before .before .before .before .before .before .before .before in
-    (s .pre .0, turn-partner (s .args .size) (s .pre .0) (s .args .set .now) (c .before .before .before .before .before .before .before .before .loop .inv) (s .pre .1 .1 .0) _ (c .before .partner-on .ensures))
+    let l = c .before .before .before .before .before .before .before .before in
+    let p = l .before .before .before .before .before .pre in
+    (p .0, turn-partner (p .0) (l .loop .inv) (p .1 .1 .0) _ (c .before .partner-on .ensures))
 
 add-k : tie.Need-add-k Inv-loop μ-loop
 add-k c =
-    let s = c .before .before .before .before .before .before .before .before .before .before .before .before .before .before in
-    let h = turn-number (s .args .size) (s .pre .0) (s .args .set .now) _ (begun (c .before .before .before .before .before .before .before)) in
+    let t = c .before .before .before .before .before .before .before in
+    let l = t .before .before in
+    let h = turn-number (l .before .before .before .before .before .pre .0) (l .loop .inv) (begun t) in
     omega arith
 
 loop-less : tie.Need-loop-less Inv-loop μ-loop
@@ -72,32 +82,33 @@ loop-less c = let h = begun (c .before .before .before .before .before .before .
 
 loop-again : tie.Need-loop-again Inv-loop μ-loop
 loop-again c =
-    let s = c .before .before .before .before .before .before .before .before .before .before .before .before .before .before in
-    turn-next (s .args .size) (s .pre .0) (s .args .set .now) (c .before .before .before .before .before .before .before .before .before .loop .inv) (begun (c .before .before .before .before .before .before .before)) _ (c .before .before .before .before .before .append .ensures)
-    _ (c .before .before .partner-on .ensures) (s .pre .1 .1 .0) (λ e. c .before .if2 .left (e ∙ sym (c .before .before .before .before .before .before .before .before .before .before .before .lowest .ensures))) _ (c .other-stripe .ensures)
+    let a = c .before .before .before .before .before in
+    let t = a .before .before in
+    let l = t .before .before in
+    let p = l .before .before .before .before .before .pre in
+    turn-next (p .0) (l .loop .inv) (begun t) _ (a .append .ensures) _ (c .before .before .partner-on .ensures)
+    (λ e. c .before .if2 .left (e ∙ sym (l .before .before .lowest .ensures))) _ (c .other-stripe .ensures) (p .1 .1 .0)
 
 same-length : tie.Need-same-length Inv-loop μ-loop
-same-length c =
-    let s = c .before .before .before .before .before .before .before in
-    turn-length _ (s .pre .0) _ (c .before .before .loop .inv) ∙ sym (ap length (s .pre .1 .1 .1 .1) ∙ sheet-length 2 [])
+same-length c = same (c .before .before)
 
 returns : tie.Need-returns Inv-loop μ-loop
 returns c =
-    let s = c .before .before .before .before .before .before .before in
+    let l = c .before .before in
     let e = c .before .across .ensures in
     let h = c .if1 .left in
-    turn-ends (s .args .size) (s .pre .0) (s .args .set .now) (c .before .before .loop .inv) (omega arith)
+    turn-ends (l .before .before .before .before .before .pre .0) (l .loop .inv) (omega arith)
 
 same-length-2 : tie.Need-same-length-2 Inv-loop μ-loop
-same-length-2 c =
-    let s = c .before .before .before .before .before .before .before .before .before .before .before .before .before in
-    c .before .before .before .before .append .kept .0 ∙ turn-length _ (s .pre .0) _ (c .before .before .before .before .before .before .before .before .loop .inv) ∙ sym (ap length (s .pre .1 .1 .1 .1) ∙ sheet-length 2 [])
+same-length-2 c = c .before .before .before .before .append .kept .0 ∙ same (c .before .before .before .before .before .before .before .before)
 
 returns-2 : tie.Need-returns-2 Inv-loop μ-loop
 returns-2 c =
-    let s = c .before .before .before .before .before .before .before .before .before .before .before .before .before in
-    turn-closes (s .args .size) (s .pre .0) (s .args .set .now) (c .before .before .before .before .before .before .before .before .loop .inv) (begun (c .before .before .before .before .before .before)) _ (c .before .before .before .before .append .ensures)
-    _ (c .before .partner-on .ensures) (c .if2 .taken ∙ c .before .before .before .before .before .before .before .before .before .before .lowest .ensures)
+    let a = c .before .before .before .before in
+    let t = a .before .before in
+    let l = t .before .before in
+    turn-closes (l .before .before .before .before .before .pre .0) (l .loop .inv) (begun t) _ (a .append .ensures) _ (c .before .partner-on .ensures)
+    (c .if2 .taken ∙ l .before .before .lowest .ensures)
 
 pub trace-spec : {M : Type 1} → statement M
 trace-spec =

@@ -1,32 +1,38 @@
+-- `raid2d::report` meets its contract: each case of the answer has its number and its count.
+-- Assumes nothing.
+use mathlib.Core.Path.{_≡_, sym, ap}
+use Prim.Native.Nat.{ℕ}
 use borrow.Author.Needs.{needs}
+use Rattle.model.specs.Rebuild.{outcomeStatus, outcomeCount}
+use Rattle.model.specs.declared.Outcome.{Outcome}
 use Rattle.raid2d.proofs.report.Statement.{statement}
 use Rattle.raid2d.proofs.report.Tie as tie
-use Rattle.raid2d.proofs.report.Reads as reads
-use Rattle.raid2d.proofs.report.Lts as lts
 
--- src/lib.rt:80:26
+-- What an answer comes to, seen from its case.
+told : {answer case : Outcome} (before : ℕ) → answer ≡ case
+    → (outcomeStatus case ≡ outcomeStatus answer) × (outcomeCount case before ≡ outcomeCount answer before)
+told before e = (sym (ap outcomeStatus e), sym (ap (λ (o : Outcome). outcomeCount o before) e))
+
 enum-known-answer : tie.Need-enum-known-answer
 enum-known-answer c = search needs
 
--- src/lib.rt:84:24
 enum-known-answer-2 : tie.Need-enum-known-answer-2
 enum-known-answer-2 c = search needs
 
--- src/lib.rt:88:26
 enum-known-answer-3 : tie.Need-enum-known-answer-3
 enum-known-answer-3 c = search needs
 
--- src/lib.rt:75:1
 returns : tie.Need-returns
-returns c = ?
+unfolding outcomeStatus outcomeCount
+returns c = told (c .before .before .before .args .count .now) (c .before .answer .given .1)
 
--- src/lib.rt:75:1
 returns-2 : tie.Need-returns-2
-returns-2 c = ?
+unfolding outcomeStatus outcomeCount
+returns-2 c = told (c .before .before .before .args .count .now) (c .before .answer2 .given .1)
 
--- src/lib.rt:75:1
 returns-3 : tie.Need-returns-3
-returns-3 c = ?
+unfolding outcomeStatus outcomeCount
+returns-3 c = told (c .before .before .before .args .count .now) (c .before .answer3 .given .1)
 
 pub report-spec : {M : Type 1} → statement M
 report-spec =

@@ -16,7 +16,9 @@ abbrev μ-loop : tie.MeasureT-loop
 μ-loop size map low₀ high₀ low high = high - low
 
 -- The middle lies between the bounds, and all of them are small.
-middle : (c : tie.In-loop Inv-loop μ-loop) → let l = c .before .loop in (l .low ≤ (l .low + l .high) / 2) × ((l .low + l .high) / 2 < l .high) × (l .high < 256)
+middle : (c : tie.In-loop Inv-loop μ-loop) →
+    let l = c .before .loop in
+    (l .low ≤ (l .low + l .high) / 2) × ((l .low + l .high) / 2 < l .high) × (l .high < 256)
 middle c =
     let s = c .before .before .before .before in
     let half = half-between _ _ (c .loop-test .taken) in
@@ -28,12 +30,16 @@ disks-requires : tie.Need-disks-requires Inv-loop μ-loop
 disks-requires c κs = c .before .pre .0
 
 sub-high : tie.Need-sub-high Inv-loop μ-loop
-sub-high c = let s = c .before .before in let some = some-disk (s .args .size) (erasures (s .args .map .now)) (s .pre .1 .1) in let e = c .disks .ensures in omega arith
+sub-high c =
+    let some = some-disk _ _ (c .before .before .pre .1 .1) in
+    let e = c .disks .ensures in
+    omega arith
 
 loop-holds : tie.Need-loop-holds Inv-loop μ-loop
 loop-holds c =
     let s = c .before .before in
-    subst (λ (n : ℕ). Between (s .args .size) (erasures (s .args .map .now)) 0 (n - 1)) (sym (c .disks .ensures)) (between-first _ _ (s .pre .1 .1))
+    subst (λ (n : ℕ). Between (s .args .size) (erasures (s .args .map .now)) 0 (n - 1)) (sym (c .disks .ensures))
+    (between-first _ _ (s .pre .1 .1))
 
 add-middle : tie.Need-add-middle Inv-loop μ-loop
 add-middle c = let m = middle c in omega arith

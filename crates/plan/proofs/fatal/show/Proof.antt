@@ -43,11 +43,14 @@ slice-aggregate-trace-2 c = search needs
 
 trace-requires : tie.Need-trace-requires
 trace-requires c κs =
-    let s = c .before .before .before .before .before .before .before .before .before .before in
-    let last = c .before .before .before .before .before .before .before .closing-disk .ensures in
     let peeled = c .before .before .before .before .peel-below in
+    let d = c .before .before .before .before .before .before .before in
+    let p = d .before .before .before .pre in
+    let last = d .closing-disk .ensures in
     let left = peeled .ensures .1 .1 .0 in
-    (s .pre .0, (peeled .kept .1 .1 .1 .0, (left-paired _ _ (s .pre .1 .1 .0) _ last _ left (s .pre .0), (left-lowest _ _ (s .pre .1 .1 .0) _ last _ left, no-record 2))))
+    let paired = left-paired _ _ (p .1 .1 .0) _ last _ left (p .0) in
+    let low = left-lowest _ _ (p .1 .1 .0) _ last _ left in
+    (p .0, (peeled .kept .1 .1 .1 .0, (paired, (low, no-record 2))))
 
 slice-aggregate-copy : tie.Need-slice-aggregate-copy
 slice-aggregate-copy c = search needs
@@ -60,10 +63,11 @@ same-length c = search needs
 
 returns : tie.Need-returns
 returns c =
-    let s = c .before .before .before .before .before .before .before .before .before .before .before .before .before .before .before .before .before in
-    let left = c .before .before .before .before .before .before .before .before .before .before .before .peel-below .ensures .1 .1 .0 in
-    c .before .before .copy .ensures ∙ c .before .before .before .before .before .before .trace .ensures
-    ∙ ap (sheetOf 2) (left-cycle _ _ (s .pre .1 .1 .0) _ (c .before .before .before .before .before .before .before .before .before .before .before .before .before .before .closing-disk .ensures) _ left)
+    let t = c .before .before .before .before .before .before in
+    let left = t .before .before .before .before .before .peel-below .ensures .1 .1 .0 in
+    let d = t .before .before .before .before .before .before .before .before in
+    let cycle = left-cycle _ _ (d .before .before .before .pre .1 .1 .0) _ (d .closing-disk .ensures) _ left in
+    c .before .before .copy .ensures ∙ t .trace .ensures ∙ ap (sheetOf 2) cycle
 
 pub show-spec : {M : Type 1} → statement M
 show-spec =
