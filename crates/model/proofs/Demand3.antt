@@ -25,7 +25,7 @@ use Rattle.model.proofs.Peel.{residual-stuck, order-free-all, repairs-c
 use Rattle.model.proofs.Degree.{grid-repairs}
 use Rattle.model.proofs.Core.{ambiguous}
 use Rattle.model.proofs.Trace.{cycle-fatal, shown}
-use Rattle.model.proofs.Loop.{loop-bound}
+use Rattle.model.proofs.Loop.{loop-cycle, loop-bound}
 use Rattle.model.proofs.Restore.{two-bounded, whole-inside, judge, restored-is, unique}
 use Rattle.model.proofs.Accept.{plan-accepts, rebuild-accepts}
 use Rattle.model.proofs.Outcomes.{when-fatal, when-restored, when-contradicted}
@@ -107,7 +107,7 @@ pub repairs-few : (z : Size) → sizeFits z ≡ true → (e : ℕ → Bool) (w :
 repairs-few z fits e w peels = let few = grid-repairs z fits e w peels in omega arith
 
 pub loop-few : (z : Size) → sizeFits z ≡ true → (e : ℕ → Bool) (w : List Entry) → Loop z e w → length w ≤ rows z + columns z + 2
-loop-few z fits e w loop = let few = loop-bound z fits e w (loop .cycle) in omega arith
+loop-few z fits e w loop = let few = loop-bound z fits e w (loop-cycle z fits e w loop) in omega arith
 
 -- ---- the demand
 
