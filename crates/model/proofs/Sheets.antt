@@ -10,7 +10,7 @@ use lib.ListN.{length, getD}
 use lib.Seq.{ext-getD}
 use Rattle.model.specs.Repair.{Entry}
 use Rattle.model.specs.Cycle.{diskOf, stripeOf}
-use Rattle.model.specs.Sheet.{chain, sheetOf}
+use Rattle.model.specs.Sheet.{chain, sheetOf, recordAt, SheetBytes}
 use Rattle.model.proofs.Fold.{lt-or-le, length-tabulate, getD-tabulate}
 
 -- ---- the chain of records
@@ -87,24 +87,6 @@ module _ (kind : ℕ) (w : List Entry) where
     sheet-stripe k h = ap (λ (r : Entry). r .stripe) (sheet-entry k h)
 
 -- ---- paper 01's words
-
--- Where record k begins. Records are numbered from 1.
-abbrev pub recordAt : ℕ → ℕ
-recordAt k = 2 + 3 * (k - 1)
-
-pub record SheetBytes (kind : ℕ) (w : List Entry) (s : List ℕ) : Type 0 where
-  -- A sheet has 98 bytes. Byte 0 is the kind, byte 1 the number of the first record, 0 for none.
-  pub long : length s ≡ 98
-  pub kindFirst : getD s 0 0 ≡ kind
-  pub firstRecord : 1 ≤ length w → getD s 1 0 ≡ 1
-  pub noRecord : length w ≡ 0 → getD s 1 0 ≡ 0
-  -- Record k: its disk, its stripe, the number of the next record; 0 ends the chain. In a list the numbers begin with 0.
-  pub disk : (k : ℕ) → 1 ≤ k → k ≤ length w → getD s (recordAt k) 0 ≡ diskOf w (k - 1)
-  pub stripe : (k : ℕ) → 1 ≤ k → k ≤ length w → getD s (recordAt k + 1) 0 ≡ stripeOf w (k - 1)
-  pub next : (k : ℕ) → 1 ≤ k → k < length w → getD s (recordAt k + 2) 0 ≡ k + 1
-  pub last : (k : ℕ) → 1 ≤ k → k ≡ length w → getD s (recordAt k + 2) 0 ≡ 0
-  -- Behind the records stand zeros.
-  pub zeros : (i : ℕ) → 2 + 3 * length w ≤ i → i < 98 → getD s i 0 ≡ 0
 
 module _ (kind : ℕ) (w : List Entry) (fits : length w ≤ 32) where
   pub sheet-bytes : SheetBytes kind w (sheetOf kind w)

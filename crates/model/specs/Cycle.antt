@@ -71,7 +71,7 @@ below k e d = ltb d k && e d
 unfoldable pub closing : Layout → (ℕ → Bool) → ℕ
 closing L e = lowest (L .disks) (λ d. fatal L (below (suc d) e))
 
--- What is then left by plan's order is a single cycle.
+-- What plan's order then leaves. Each stripe touched by these disks holds exactly two of them, so they form a cycle.
 unfoldable pub core : Layout → (ℕ → Bool) → ℕ → Bool
 core L e = residual L (below (suc (closing L e)) e)
 
