@@ -26,7 +26,7 @@ use Rattle.model.proofs.Peel.{residual-stuck, order-free-all, repairs-c
 use Rattle.model.proofs.Degree.{grid-repairs}
 use Rattle.model.proofs.Core.{ambiguous}
 use Rattle.model.proofs.Trace.{cycle-fatal, shown}
-use Rattle.model.proofs.Loop.{loop-cycle, loop-bound}
+use Rattle.model.proofs.Loop.{grid-fatal-loop, loop-cycle, loop-bound}
 use Rattle.model.proofs.Restore.{two-bounded, whole-inside, judge, restored-is, unique}
 use Rattle.model.proofs.Sheets.{sheet-is}
 use Rattle.model.proofs.Contents.{same-outcome, same-sheet, same-array}
@@ -103,7 +103,11 @@ module _ (L : Layout) (two : TwoStripes L) (e : ℕ → Bool) where
     unfolding whole
     all-judged B a = judge L (two-bounded L two) e fine (whole B) (whole-inside B) a
 
--- ---- the grid: how many records a sheet needs
+-- ---- the grid
+
+-- There a loss is fatal exactly if a loop of paper 01 exists.
+pub fatal-loop : (z : Size) → sizeFits z ≡ true → (e : ℕ → Bool) → (fatal (gridOf z) e ≡ true) ↔ ((w : List Entry) × Loop z e w)
+fatal-loop = grid-fatal-loop
 
 -- At most rows + columns + 1 repairs, of the data rows and columns, and at most one disk more in a loop.
 pub repairs-few : (z : Size) → sizeFits z ≡ true → (e : ℕ → Bool) (w : List Entry) → Peels (gridOf z) e w → length w ≤ rows z + columns z + 1
