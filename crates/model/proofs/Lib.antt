@@ -20,4 +20,5 @@ pub mod Demand2
 pub mod Sheets
 pub mod Outcomes
 pub mod Demand3
+pub mod Listings
 pub mod Cases
