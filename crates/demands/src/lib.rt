@@ -3,7 +3,8 @@
 ghost use mathlib.Core.Path.{_≡_};
 ghost use lib.ListN.{length};
 ghost use Rattle.model.specs.Refusal.{refusal};
-ghost use Rattle.model.specs.Rebuild.{planTests, rebuildTests};
+ghost use Rattle.model.specs.Rebuild.{planTests, planOutcome, planSheet};
+ghost use Rattle.model.specs.Rebuild.{rebuildTests, rebuildOutcome, rebuildArray, rebuildSheet};
 ghost use Rattle.model.specs.Demand3.{Demand3};
 use model::Outcome;
 use model::Size;
@@ -14,30 +15,41 @@ pub struct Answers {
     pub rebuilt: Outcome,
 }
 
-// Plans the repair of a loss into one sheet, and rebuilds the array with another. For every input that the refusals before 6 let
+// Plans the repair of a loss into one sheet, the draft, and rebuilds the array with another. For every input that the refusals before 6 let
 // through, demand 3 holds.
 pub fn plan_and_rebuild(
     size: Size,
     block: usize,
     array: &mut [u8],
     map: &[u8],
-    plan_sheet: &mut [u8],
+    draft: &mut [u8],
     sheet: &mut [u8],
 ) -> Answers
+    ensures planned { λ r. ⌜ r .planned ≡ planOutcome size (now (map .entry)) (now (draft .entry)) ⌝ }
+    ensures draft { λ r. ⌜ now (draft .exit) ≡ planSheet size (now (map .entry)) (now (draft .entry)) ⌝ }
+    ensures rebuilt { λ r. ⌜
+        r .rebuilt ≡ rebuildOutcome size block (now (array .entry)) (now (map .entry)) (now (sheet .entry))
+        ⌝ }
+    ensures array { λ r. ⌜
+        now (array .exit) ≡ rebuildArray size block (now (array .entry)) (now (map .entry)) (now (sheet .entry))
+        ⌝ }
+    ensures sheet { λ r. ⌜
+        now (sheet .exit) ≡ rebuildSheet size block (now (array .entry)) (now (map .entry)) (now (sheet .entry))
+        ⌝ }
     ensures demand3 { λ r. ⌜
-        (refusal (planTests size (now (map .entry)) (length (now (plan_sheet .entry)))) ≡ 0
+        (refusal (planTests size (now (map .entry)) (length (now (draft .entry)))) ≡ 0
         → refusal (rebuildTests size block (length (now (array .entry))) (now (map .entry)) (length (now (sheet .entry)))) ≡ 0
         → Demand3 size block (now (array .entry)) (now (map .entry))
         (record {
           planned = r .planned;
-          planSheet = now (plan_sheet .exit);
+          planSheet = now (draft .exit);
           rebuilt = r .rebuilt;
           array = now (array .exit);
           sheet = now (sheet .exit);
         }))
         ⌝ }
 {
-    let planned = plan::plan(size, map, plan_sheet);
+    let planned = plan::plan(size, map, draft);
     let rebuilt = rebuild::rebuild(size, block, array, map, sheet);
     Answers {
         planned: planned,

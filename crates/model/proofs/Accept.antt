@@ -1,18 +1,21 @@
 -- Which arguments pass the tests: the tests of the definitions against the paper's numbers.
 -- Assumes nothing.
 use mathlib.Core.Path.{_≡_, _∙_, ap}
+use native.Mathlib.Omega.{arith}
 use mathlib.Core.Logic.{_↔_}
 use mathlib.Core.List.{List}
 use Prim.Native.Nat.{ℕ, _+_, _*_, _/_, _%_, _≤_, _<_}
-use borrow.Author.Tests.{le-leb, leb-true}
-use lib.Dec.{leb}
-use lib.ListN.{length}
-use Rattle.model.specs.Grid.{square, rows, columns, across, disks, diskAt, isData, arrayBytes, sizeFits, blockFits}
+use borrow.Author.Tests.{le-leb, leb-true, eq-eqb, eqb-true}
+use lib.Dec.{leb, eqb}
+use lib.ListN.{length, getD}
+use Rattle.model.specs.Fold.{every}
+use Rattle.model.specs.Grid.{square, rows, columns, across, disks, diskAt, isData, arrayBytes, sizeFits, blockFits, mapFits}
 use Rattle.model.specs.Refusal.{refusal, arrayTests}
 use Rattle.model.specs.Array.{writeStatus}
-use Rattle.model.proofs.Fold.{and-left, and-right, and-both}
+use Rattle.model.specs.Rebuild.{sheetTests, planTests, rebuildTests}
+use Rattle.model.proofs.Fold.{and-left, and-right, and-both, every-at, every-all}
 use Rattle.model.proofs.Grid.{block-fits, disk-is, data-at, data-row, data-column}
-use Rattle.model.proofs.Refusal.{array-fits, array-accepted}
+use Rattle.model.proofs.Refusal.{no-tests, passes, passed, array-fits, array-accepted, array-tests, array-passed}
 use Rattle.model.proofs.Write.{write-fits, status-none}
 
 pub array-accepts : (n B len : ℕ) → (refusal (arrayTests (square n) B len) ≡ 0)
@@ -42,4 +45,41 @@ block-accepts n B a d new = (
       let (r, c, row, column, at) = h .1 in
       status-none (square n) B a d new (array-fits (square n) B (length a) (h .0))
       (ap (isData (square n)) at ∙ data-at (square n) r c row column) (h .2),
+)
+
+-- The tests of the map and of the sheet's length.
+abbrev pub SheetFits : ℕ → List ℕ → ℕ → Type 0
+SheetFits n m len = (length m ≡ (n + 1) * (n + 1)) × ((d : ℕ) → d < length m → getD m d 0 ≤ 1) × (len ≡ 98)
+
+sheet-accepts : (n : ℕ) (m : List ℕ) (len : ℕ) → (refusal (sheetTests (square n) m len) ≡ 0) ↔ SheetFits n m len
+unfolding sheetTests mapFits square disks across rows columns
+sheet-accepts n m len = (
+  λ e.
+      let (map, e₂) = passed 4 (mapFits (square n) m) _ (omega arith) e in
+      let (long, e₃) = passed 5 (eqb len 98) _ (omega arith) e₂ in (
+        eqb-true _ _ (and-left (eqb (length m) (disks (square n))) (every (length m) (λ d. leb (getD m d 0) 1)) map),
+        λ d l. leb-true _ _ (every-at (length m) _ (and-right (eqb (length m) (disks (square n))) (every (length m) (λ d. leb (getD m d 0) 1)) map) d l),
+        eqb-true len 98 long,
+      ),
+  λ h.
+      passes 4 (mapFits (square n) m) _ (and-both (eq-eqb _ _ (h .0)) (every-all (length m) (λ d l. le-leb _ _ (h .1 d l))))
+      ∙ passes 5 (eqb len 98) _ (eq-eqb len 98 (h .2)) ∙ no-tests,
+)
+
+pub plan-accepts : (n : ℕ) (m : List ℕ) (len : ℕ) → (refusal (planTests (square n) m len) ≡ 0)
+    ↔ ((2 ≤ n) × (n ≤ 15) × SheetFits n m len)
+unfolding planTests sizeFits square
+plan-accepts n m len = (
+  λ e.
+      let (size, e₂) = passed 1 (sizeFits (square n)) _ (omega arith) e in
+      (leb-true 2 n (and-left (leb 2 n) (leb n 15) size), leb-true n 15 (and-right (leb 2 n) (leb n 15) size), sheet-accepts n m len .0 e₂),
+  λ h. passes 1 (sizeFits (square n)) _ (and-both (le-leb 2 n (h .0)) (le-leb n 15 (h .1))) ∙ sheet-accepts n m len .1 (h .2),
+)
+
+pub rebuild-accepts : (n B arrayLen : ℕ) (m : List ℕ) (len : ℕ) → (refusal (rebuildTests (square n) B arrayLen m len) ≡ 0)
+    ↔ ((refusal (arrayTests (square n) B arrayLen) ≡ 0) × SheetFits n m len)
+unfolding rebuildTests
+rebuild-accepts n B arrayLen m len = (
+  λ e. let (fits, e₂) = array-tests (square n) B arrayLen _ e in (array-accepted (square n) B arrayLen fits, sheet-accepts n m len .0 e₂),
+  λ h. array-passed (square n) B arrayLen (array-fits (square n) B arrayLen (h .0)) _ ∙ sheet-accepts n m len .1 (h .1),
 )

@@ -18,6 +18,11 @@ given-accepted k x y e = ap (λ (b : Bool). cond b x y) (eq-eqb k 0 e)
 pub given-refused {ℓ} : {A : Type ℓ} (k : ℕ) (x y : A) → (k ≡ 0 → ⊥) → cond (eqb k 0) x y ≡ y
 given-refused k x y e = ap (λ (b : Bool). cond b x y) (ne-eqb k 0 e)
 
+-- No tests, no refusal.
+pub no-tests : refusal [] ≡ 0
+unfolding refusal
+no-tests = refl
+
 -- The first test fails, or it is passed over.
 pub fails : (k : ℕ) (t : Bool) (ts : List Test) → t ≡ false → refusal (k unless t ∷ ts) ≡ k
 unfolding refusal

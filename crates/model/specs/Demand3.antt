@@ -2,19 +2,19 @@
 -- survivors are the disks that the map has as present; x is the whole block, e the erased disks, L the grid.
 -- Assumes nothing.
 use mathlib.Core.Path.{_≡_}
-use mathlib.Core.Bool.{Bool, true, false}
+use mathlib.Core.Bool.{Bool, true}
 use mathlib.Core.Logic.{_↔_}
 use mathlib.Core.List.{List}
-use Prim.Native.Nat.{ℕ, _≤_, _<_}
+use Prim.Native.Nat.{ℕ, _+_, _≤_, _<_}
 use lib.Dec.{eqb}
 use lib.ListN.{length, take}
 use Rattle.model.specs.Fold.{bit, count}
-use Rattle.model.specs.Stripes.{Layout, Stretch, whole, Codeword}
-use Rattle.model.specs.Grid.{gridOf, disks}
-use Rattle.model.specs.Repair.{erasures, Entry, allowed, after, zeroed, Agree, Belongs, Ambiguous}
+use Rattle.model.specs.Stripes.{Layout, whole, Codeword}
+use Rattle.model.specs.Grid.{gridOf, disks, rows, columns}
+use Rattle.model.specs.Repair.{erasures, Entry, allowed, after, lost, zeroed, Agree, Belongs, Ambiguous}
 use Rattle.model.specs.Cycle.{diskOf, stripeOf, Loop}
 use Rattle.model.specs.Sheet.{sheetOf, blankSheet}
-use Rattle.model.specs.Rebuild.{outcomeStatus}
+use Rattle.model.specs.Rebuild.{planOutcome, planSheet, outcomeStatus, rebuildOutcome, rebuildArray, rebuildSheet}
 use Rattle.model.specs.declared.Size.{Size}
 use Rattle.model.specs.declared.Outcome.{Outcome}
 use Rattle.model.specs.declared.Outcome.the-variants.{Repairs, Fatal}
@@ -44,6 +44,17 @@ pub record Results : Type 0 where
   pub array : List ℕ
   pub sheet : List ℕ
 
+-- What they are defined to give.
+unfoldable pub resultsOf : Size → ℕ → (a m planSheet sheet : List ℕ) → Results
+resultsOf z B a m s₁ s₂ =
+    record {
+      planned = planOutcome z m s₁;
+      planSheet = planSheet z m s₁;
+      rebuilt = rebuildOutcome z B a m s₂;
+      array = rebuildArray z B a m s₂;
+      sheet = rebuildSheet z B a m s₂;
+    }
+
 pub record Demand3 (z : Size) (B : ℕ) (a m : List ℕ) (r : Results) : Type 0 where
   -- Plan and rebuild each call the loss fatal, by 6, exactly if two different sealed arrays of that size and block length agree
   -- on every survivor; what the survivors hold has no part in it.
@@ -53,9 +64,13 @@ pub record Demand3 (z : Size) (B : ℕ) (a m : List ℕ) (r : Results) : Type 0 
   pub kept : outcomeStatus (r .rebuilt) ≡ 6 → r .array ≡ a
   pub planLoop : outcomeStatus (r .planned) ≡ 6 → LoopSheet z (erasures m) (r .planSheet)
   pub rebuildLoop : outcomeStatus (r .rebuilt) ≡ 6 → LoopSheet z (erasures m) (r .sheet)
-  -- Otherwise plan counts the erased disks, and its sheet lists their repairs.
+  -- Both give the count of the disks that no repair reaches, and the same loop.
+  pub lostCount : outcomeStatus (r .planned) ≡ 6
+      → (r .planned ≡ Fatal (lost (gridOf z) (erasures m))) × (r .rebuilt ≡ r .planned) × (r .sheet ≡ r .planSheet)
+  -- Otherwise plan counts the erased disks, no more than the data rows and columns and one, and its sheet lists their repairs.
   pub planRepairs : (Ambiguous (gridOf z) (whole B) (erasures m) → ⊥)
-      → (r .planned ≡ Repairs (count (disks z) (erasures m))) × RepairSheet (gridOf z) (erasures m) (r .planSheet)
+      → (r .planned ≡ Repairs (count (disks z) (erasures m))) × (count (disks z) (erasures m) ≤ rows z + columns z + 1)
+      × RepairSheet (gridOf z) (erasures m) (r .planSheet)
   -- If then the survivors belong to a sealed array, rebuild gives the same count and the same sheet, and the array equals
   -- that sealed array byte for byte.
   pub restored : (Ambiguous (gridOf z) (whole B) (erasures m) → ⊥) → (b : List ℕ) → Codeword (gridOf z) (whole B) b

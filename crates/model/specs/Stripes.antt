@@ -9,14 +9,14 @@ use lib.Dec.{eqb}
 use lib.ListN.{length, getD}
 use Rattle.model.specs.Fold.{xsum, gate, every}
 
--- Disks (paper 01: cards) and stripes (paper 01: lines), both numbered from 0. `through d` lists the stripes of disk d,
--- lowest first. Stripe numbers lie below `stripeBound`; one that no disk lists is an empty stripe.
+-- Disks (paper 01: cards) and stripes (paper 01: lines), both numbered from 0. `through d` lists the stripes of disk d.
+-- Sums are taken over the stripes below `stripeBound`; a number there that no disk lists is an empty stripe.
 pub record Layout : Type 0 where
   pub disks : ℕ
   pub stripeBound : ℕ
   pub through : ℕ → List ℕ
 
--- Every disk lies on just two stripes.
+-- Every disk lies on just two stripes, the lower one listed first, and both below the bound.
 pub record TwoStripes (L : Layout) : Type 0 where
   pub low : ℕ → ℕ
   pub high : ℕ → ℕ
@@ -60,8 +60,12 @@ stripeSum L x a s p = sumOver L (λ d. byte x a d p) s
 unfoldable pub sumsToZero : Layout → Stretch → List ℕ → ℕ → Bool
 sumsToZero L x a s = every (x .width) (λ p. eqb (stripeSum L x a s p) 0)
 
+-- A list of bytes.
+abbrev pub Bytes : List ℕ → Type 0
+Bytes a = (i : ℕ) → i < length a → getD a i 0 < 256
+
 -- Paper 01's sealed array: bytes, of the right length, with every stripe's sum zero at every place.
 pub record Codeword (L : Layout) (x : Stretch) (a : List ℕ) : Type 0 where
   pub sized : length a ≡ L .disks * x .block
-  pub bytes : (i : ℕ) → i < length a → getD a i 0 < 256
+  pub bytes : Bytes a
   pub sums : (s : ℕ) → s < L .stripeBound → (p : ℕ) → p < x .width → stripeSum L x a s p ≡ 0

@@ -1,1 +1,3 @@
 pub mod Prefix
+pub mod Appended
+pub mod Chained

@@ -3,7 +3,7 @@ ghost use mathlib.Core.Path.{_≡_};
 ghost use Prim.Native.Nat.{_<_};
 ghost use lib.ListN.{length};
 ghost use Rattle.model.specs.Sheet.{blankSheet};
-ghost use Rattle.sheet.specs.Record.{appended, recordDisk, recordStripe};
+ghost use Rattle.sheet.specs.Record.{appended, recordDisk, recordStripe, recordCount};
 
 // Writes record number k + 1, and its number where the chain ends so far: as the next of record k, or as the first.
 pub fn append(sheet: &mut [u8], k: usize, disk: usize, stripe: usize)
@@ -34,6 +34,21 @@ pub fn record_stripe(sheet: &[u8], k: usize) -> usize
     ensures { λ r. ⌜ r ≡ recordStripe (now (sheet .entry)) k ⌝ }
 {
     sheet[3 * k + 3] as usize
+}
+
+// The number of records, which stand in chain order.
+pub fn record_count(sheet: &[u8]) -> usize
+    requires { ⌜ length (now sheet) ≡ 98 ⌝ }
+    ensures { λ r. ⌜ r ≡ recordCount (now (sheet .entry)) ⌝ }
+{
+    let mut k = 0;
+    while k < 32 {
+        if sheet[3 * k + 1] == 0 {
+            return k;
+        }
+        k += 1;
+    }
+    k
 }
 
 // Copies one sheet over another.

@@ -1,7 +1,6 @@
 -- `layout::disks_on` meets its contract: a row below stripe 16, a column from there on.
 -- Assumes nothing.
 use mathlib.Core.Path.{_∙_, sym, ap, ap₂}
-use mathlib.Core.Bool.{Bool, cond}
 use Prim.Native.Nat.{ℕ, _+_, _*_, _-_}
 use native.Mathlib.Nat.{mul-le-mul}
 use native.Mathlib.Omega.{arith}
@@ -10,7 +9,6 @@ use borrow.Author.Tests.{lt-ltb, le-ltb}
 use Rattle.model.specs.Grid.{across, rows}
 use Rattle.model.proofs.Grid.{size-fits, across-bound}
 use Rattle.layout.specs.Stripe.{disksOn}
-use Rattle.layout.specs.declared.Run.{Run}
 use Rattle.layout.proofs.disks_on.Statement.{statement}
 use Rattle.layout.proofs.disks_on.Tie as tie
 

@@ -1,7 +1,7 @@
 -- `sheet::clear` meets its contract: the bytes so far are zero.
 -- Assumes nothing.
 use mathlib.Core.Path.{refl, _∙_, sym}
-use Prim.Native.Nat.{ℕ, _-_}
+use Prim.Native.Nat.{_-_}
 use native.Mathlib.Omega.{arith}
 use Rattle.model.specs.Sheet.{blankSheet}
 use Rattle.sheet.proofs.Prefix.{Prefix, prefix-none, prefix-next, prefix-all}

@@ -1,7 +1,7 @@
 -- `sheet::copy` meets its contract: the bytes so far are those of the other sheet.
 -- Assumes nothing.
 use mathlib.Core.Path.{_≡_, refl, _∙_, sym}
-use Prim.Native.Nat.{ℕ, _-_}
+use Prim.Native.Nat.{_-_}
 use native.Mathlib.Omega.{arith}
 use lib.ListN.{length, getD}
 use Rattle.model.proofs.Fold.{list-is}

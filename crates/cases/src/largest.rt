@@ -1,0 +1,54 @@
+// Case 10: the largest array, n = 15 with blocks of 4,096 bytes.
+ghost use mathlib.Core.Path.{_≡_};
+ghost use lib.ListN.{length};
+use crate::say;
+use model::Size;
+
+// The bytes of the largest array. The contract says how many they are, so that no proof counts them.
+fn blank() -> [u8; 1048576]
+    ensures { λ r. ⌜ length r ≡ 1048576 ⌝ }
+{
+    [0u8; 1048576]
+}
+
+// Spoils the blocks of the erased disks.
+fn spoil(array: &mut [u8], map: &[u8])
+    requires { ⌜ length (now array) ≡ 1048576 ⌝ }
+    requires { ⌜ length (now map) ≡ 256 ⌝ }
+{
+    let mut d = 0;
+    while d < 256 {
+        if map[d] == 1 {
+            let at = d * 4096;
+            trial::mark(array, at, at + 4096, 1, 165);
+        }
+        d += 1;
+    }
+}
+
+// Seals an array of many different bytes, loses the first row and the first column, which are as many disks as can come back,
+// and restores them.
+pub fn run() {
+    let size = Size { side: 15 };
+    let mut array = blank();
+    trial::mark(&mut array, 0, 1048576, 3, 7);
+    trial::mark(&mut array, 1, 1048576, 5, 90);
+    trial::mark(&mut array, 2, 1048576, 4099, 203);
+    say::status(
+        b"seal the largest array",
+        array::seal(size, 4096, &mut array),
+    );
+    say::checked(b"check it", array::check(size, 4096, &array));
+    let sealed = array;
+    let mut map = [0u8; 256];
+    trial::mark(&mut map, 0, 16, 1, 1);
+    trial::mark(&mut map, 0, 256, 16, 1);
+    spoil(&mut array, &map);
+    let mut sheet = [0u8; 98];
+    say::outcome(b"plan 31 repairs", plan::plan(size, &map, &mut sheet));
+    say::outcome(
+        b"rebuild 31 disks",
+        rebuild::rebuild(size, 4096, &mut array, &map, &mut sheet),
+    );
+    say::number(b"all bytes restored", check::same(&array, &sealed) as usize);
+}

@@ -1,0 +1,35 @@
+// The lines that the program prints, and the numbers of the papers for what the calls answer.
+use libc::STDOUT_FILENO;
+use model::Checked;
+use model::Outcome;
+
+// What was done, the number that came of it, and a line feed.
+pub fn number(what: &[u8], value: usize) {
+    io::write_all(STDOUT_FILENO, what);
+    io::write_all(STDOUT_FILENO, b": ");
+    io::print_decimal(STDOUT_FILENO, value as u64);
+    io::write_all(STDOUT_FILENO, b"\n");
+}
+
+// The same for a status.
+pub fn status(what: &[u8], value: u32) {
+    number(what, value as usize);
+}
+
+// The same for what check answers: 0 for sealed, 64 for not sealed, or a refusal.
+pub fn checked(what: &[u8], answer: Checked) {
+    match answer {
+        Checked::Sealed => status(what, 0),
+        Checked::Unsealed(_) => status(what, 64),
+        Checked::Refused(k) => status(what, k),
+    }
+}
+
+// The same for what plan and rebuild answer: 0 for repairs, 6 for a fatal loss, or a refusal.
+pub fn outcome(what: &[u8], answer: Outcome) {
+    match answer {
+        Outcome::Repairs(_) => status(what, 0),
+        Outcome::Fatal(_) => status(what, 6),
+        Outcome::Refused(k) => status(what, k),
+    }
+}

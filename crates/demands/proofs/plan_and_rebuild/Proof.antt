@@ -1,0 +1,55 @@
+-- `demands::plan_and_rebuild` meets its contract: what the two calls promise is what demand 3 is proved of.
+-- Assumes nothing.
+use mathlib.Core.Path.{sym, subst}
+use native.Mathlib.Omega.{arith}
+use borrow.Author.Needs.{needs}
+use Rattle.model.specs.Demand3.{Demand3, resultsOf}
+use Rattle.model.proofs.Demand3.{demand3}
+use Rattle.demands.proofs.plan_and_rebuild.Statement.{statement}
+use Rattle.demands.proofs.plan_and_rebuild.Tie as tie
+
+plan-requires : tie.Need-plan-requires
+plan-requires c κs = search needs
+
+rebuild-requires : tie.Need-rebuild-requires
+rebuild-requires c κs = search needs
+
+same-length : tie.Need-same-length
+same-length c = search needs
+
+same-length-2 : tie.Need-same-length-2
+same-length-2 c = search needs
+
+same-length-3 : tie.Need-same-length-3
+same-length-3 c = search needs
+
+returns : tie.Need-returns
+unfolding resultsOf
+returns c =
+    let a = c .before .before .before .before .before .before .before .before .before .before .before .before .before .before .before .args in
+    let (planned, draft) = c .before .before .before .before .before .before .before .before .before .plan .ensures in
+    let (rebuilt, (array, sheet)) = c .before .before .before .before .rebuild .ensures in
+    let found = c .before .before .before .before .before .before .before .before .before .before .before .before .before .before .slice-known .given in (
+      planned,
+      (
+        draft,
+        (
+          rebuilt,
+          (
+            array,
+            (
+              sheet,
+              λ planOk rebuildOk.
+                  subst (Demand3 (a .size) (a .block) (a .array .now) (a .map .now))
+                  (sym (λ i. record { planned = planned i; planSheet = draft i; rebuilt = rebuilt i; array = array i; sheet = sheet i }))
+                  (demand3 (a .size) (a .block) (a .array .now) (a .map .now) (a .draft .now) (a .sheet .now) (λ i l. omega (arith, found i)) planOk rebuildOk),
+            ),
+          ),
+        ),
+      ),
+    )
+
+pub plan-and-rebuild-spec : {M : Type 1} → statement M
+plan-and-rebuild-spec =
+    tie.close
+    (tie.spec plan-requires rebuild-requires same-length same-length-2 same-length-3 returns)

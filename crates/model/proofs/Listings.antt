@@ -1,0 +1,69 @@
+-- The listing program's text: the first 258 bytes of the input settle it.
+-- Assumes nothing.
+use mathlib.Core.Path.{_≡_, refl, sym, _∙_, ap}
+use mathlib.Core.Bool.{Bool, true, false, cond, _&&_}
+use mathlib.Core.Logic.{⊎-elim}
+use mathlib.Core.List.{List, [], _∷_, _++_}
+use Prim.Native.Nat.{ℕ, _≤_, _<_}
+use native.Mathlib.Omega.{arith}
+use borrow.Author.Tests.{ne-eqb}
+use lib.Dec.{eqb, leb}
+use lib.ListN.{length, getD, take, drop, length-take, length-drop}
+use lib.Seq.{take-all, getD-take}
+use Rattle.model.specs.Fold.{every}
+use Rattle.model.specs.Grid.{square, disks, sizeFits, mapFits}
+use Rattle.model.specs.Refusal.{refusal}
+use Rattle.model.specs.Listing.{decimal, refusedWord, listing}
+use Rattle.model.specs.Rebuild.{sheetTests, planTests}
+use Rattle.model.specs.declared.Size.{Size}
+use Rattle.model.proofs.Fold.{by-cases, lt-or-le}
+use Rattle.model.proofs.Grid.{size-fits, disks-bound}
+use Rattle.model.proofs.Refusal.{given-refused, fails, passes}
+
+-- Refusal numbers are small.
+pub refusal-small : (z : Size) (m : List ℕ) (len : ℕ) → refusal (planTests z m len) ≤ 5
+unfolding planTests sheetTests refusal
+refusal-small z m len =
+    by-cases (λ (t : Bool). cond t (cond (mapFits z m) (cond (eqb len 98) 0 5) 4) 1 ≤ 5) (sizeFits z)
+    (λ e.
+    by-cases (λ (t : Bool). cond t (cond (eqb len 98) 0 5) 4 ≤ 5) (mapFits z m)
+    (λ e. by-cases (λ (t : Bool). cond t 0 5 ≤ 5) (eqb len 98) (λ e. omega arith) (λ e. omega arith)) (λ e. omega arith))
+    (λ e. omega arith)
+
+-- A map of more than 256 bytes is refused by 4, or by 1 together with its size.
+overlong : (z : Size) (m : List ℕ) → 256 < length m → refusal (planTests z m 98) ≡ cond (sizeFits z) 4 1
+unfolding planTests sheetTests mapFits
+overlong z m h = go (sizeFits z) refl
+  where
+    go : (b : Bool) → sizeFits z ≡ b → refusal (planTests z m 98) ≡ cond b 4 1
+    go true e =
+        let most = disks-bound z (size-fits z e) in
+        passes 1 (sizeFits z) _ e
+        ∙ fails 4 (mapFits z m) _ (ap (λ (b : Bool). b && every (length m) (λ d. leb (getD m d 0) 1)) (ne-eqb (length m) (disks z) (λ q. omega arith)))
+    go false e = fails 1 (sizeFits z) _ e
+
+refused-listing : (input : List ℕ) → 257 < length input
+    → listing input ≡ refusedWord ++ decimal (cond (sizeFits (square (getD input 0 0))) 4 1) ++ 10 ∷ []
+unfolding listing
+refused-listing input h =
+    let z : Size = square (getD input 0 0) in
+    let long = length-drop 1 input in
+    let is = overlong z (drop 1 input) (omega arith) in
+    given-refused (refusal (planTests z (drop 1 input) 98)) _ _ (λ e. never (sizeFits z) (sym is ∙ e))
+    ∙ ap (λ (k : ℕ). refusedWord ++ decimal k ++ 10 ∷ []) is
+  where
+    never : (b : Bool) → _≡_ {A = ℕ} (cond b 4 1) 0 → ⊥
+    never true e = omega arith
+    never false e = omega arith
+
+-- So the program need not read more than 258 bytes.
+pub listing-settled : (input : List ℕ) → listing (take 258 input) ≡ listing input
+listing-settled input =
+    ⊎-elim
+    (λ (l : 258 < length input).
+    let long = length-take 258 input in
+    refused-listing (take 258 input) (omega arith)
+    ∙ ap (λ (n : ℕ). refusedWord ++ decimal (cond (sizeFits (square n)) 4 1) ++ 10 ∷ []) (getD-take 258 input 0 0 (omega arith))
+    ∙ sym (refused-listing input (omega arith)))
+    (λ (l : length input ≤ 258). ap listing (take-all 258 input l))
+    (lt-or-le 258 (length input))
