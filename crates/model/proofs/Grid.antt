@@ -13,7 +13,7 @@ use lib.Dec.{eqb, leb, ltb}
 use lib.ListN.{length, getD, List·getD-eq-default}
 use Rattle.model.specs.Fold.{xsum, gate}
 use Rattle.model.specs.Stripes.{TwoStripes, among, on, Stretch, whole, byte, sumOver, stripeSum}
-use Rattle.model.specs.Grid.{grid, rows, columns, across, gridOf, disks, diskAt, isData, arrayBytes, arrayOf, sizeFits, blockFits}
+use Rattle.model.specs.Grid.{grid, rows, columns, across, gridOf, disks, diskAt, isData, arrayBytes, arrayOf, sizeFits, blockFits, mapFits}
 use Rattle.model.specs.declared.Size.{Size}
 use Rattle.model.proofs.Fold.{and-left, and-right, and-both, same-test, xsum-ext, xsum-zero, xsum-swap, xsum-mul, xsum-only, length-tabulate, getD-tabulate, list-is}
 
@@ -274,6 +274,11 @@ module _ (z : Size) where
       (λ e. let q = eqb-true (16 + c) (16 + d % across z) e in eq-eqb c (d % across z) (omega arith))
       (λ e. eq-eqb (16 + c) (16 + d % across z) (ap (λ (k : ℕ). 16 + k) (eqb-true c (d % across z) e))))
       ∙ or-false (eqb c (d % across z))
+
+-- A map that fits has a byte for each disk.
+pub map-length : (z : Size) (m : List ℕ) → mapFits z m ≡ true → length m ≡ disks z
+unfolding mapFits
+map-length z m e = eqb-true (length m) (disks z) (and-left (eqb (length m) (disks z)) _ e)
 
 -- ---- bytes
 
