@@ -79,7 +79,7 @@ pub fn report(out: &mut [u8], answer: Outcome, sheet: &[u8]) -> usize
     let count = sheet::record_count(sheet);
     match answer {
         Outcome::Repairs(_) => listed(out, b"repair ", sheet, count),
-        Outcome::Fatal(_) => listed(out, b"fatal ", sheet, count),
+        Outcome::Fatal(_lost) => listed(out, b"fatal ", sheet, count),
         Outcome::Refused(status) => refused(out, status as usize),
     }
 }
