@@ -106,21 +106,7 @@ cases =
       computed = writeStatus two 1 A 0 (9 ∷ []) ∷ writeArray two 1 A 0 (9 ∷ []);
       expected = 0 ∷ 9 ∷ 2 ∷ 11 ∷ 4 ∷ 8 ∷ 12 ∷ 13 ∷ 10 ∷ 7 ∷ [];
     }
-    -- What the listing program prints for case 3: "repair 3", "2 18", "0 0", "6 2".
-    ∷ record {
-      number = 3;
-      computed = listing (2 ∷ 1 ∷ 0 ∷ 1 ∷ 0 ∷ 0 ∷ 0 ∷ 1 ∷ 0 ∷ 0 ∷ []);
-      expected = 114 ∷ 101 ∷ 112 ∷ 97 ∷ 105 ∷ 114 ∷ 32 ∷ 51 ∷ 10 ∷ 50 ∷ 32 ∷ 49 ∷ 56 ∷ 10 ∷ 48 ∷ 32 ∷ 48 ∷ 10 ∷ 54 ∷ 32 ∷ 50 ∷ 10 ∷ [];
-    }
-    -- For case 4: "fatal 4", "0 0", "2 18", "8 2", "6 16".
-    ∷ record {
-      number = 4;
-      computed = listing (2 ∷ 1 ∷ 0 ∷ 1 ∷ 0 ∷ 0 ∷ 0 ∷ 1 ∷ 0 ∷ 1 ∷ []);
-      expected =
-          102 ∷ 97 ∷ 116 ∷ 97 ∷ 108 ∷ 32 ∷ 52 ∷ 10 ∷ 48 ∷ 32 ∷ 48 ∷ 10 ∷ 50 ∷ 32 ∷ 49 ∷ 56 ∷ 10 ∷ 56 ∷ 32 ∷ 50 ∷ 10 ∷ 54 ∷ 32 ∷ 49 ∷ 54
-          ∷ 10 ∷ [];
-    }
-    -- For empty input, and for a size without a map: "refused 1", "refused 4". These have no number in the paper.
+    -- The listing for empty input and for a size without a map: `refused 1`, `refused 4`. These have no number in the paper.
     ∷ record {
       number = 0;
       computed = listing [] ++ listing (2 ∷ []);
