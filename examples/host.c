@@ -1,9 +1,10 @@
 /*
  * An example host for raid2d: nine doors of a building, one name to a disk.
  *
- * It seals an array, finds a damaged byte, writes a block and looks at disks.
- * Build and run it with `make example`; examples/host.expected has what it
- * prints.
+ * It seals an array, finds a damaged byte, writes a block and looks at disks,
+ * loses three disks and restores them, then loses five and learns why they
+ * cannot be restored. Build and run it with `make example`;
+ * examples/host.expected has what it prints.
  */
 #include <stdio.h>
 #include <string.h>
@@ -17,6 +18,7 @@ enum { SIDE = 3, BLOCK = 8, ACROSS = SIDE + 1 };
    zeros says that all disks are present. */
 static uint8_t array[RAID2D_ARRAY_BYTES(SIDE, BLOCK)];
 static uint8_t map[RAID2D_DISKS(SIDE)];
+static uint8_t sheet[RAID2D_SHEET_BYTES];
 
 /* Names of 8 letters, each with the zero that ends a string in C. */
 static const char names[SIDE][SIDE][BLOCK + 1] = {
@@ -76,6 +78,15 @@ static void seal_array(void)
 }
 
 /* Stripes below RAID2D_COLUMN_STRIPE are rows, the others are columns. */
+static void print_stripe(size_t stripe)
+{
+    if (stripe < RAID2D_COLUMN_STRIPE)
+        printf("stripe %zu (row %zu)\n", stripe, stripe);
+    else
+        printf("stripe %zu (column %zu)\n", stripe,
+               stripe - RAID2D_COLUMN_STRIPE);
+}
+
 static void check_array(void)
 {
     size_t stripe = 0;
@@ -85,11 +96,10 @@ static void check_array(void)
         printf("check: the array is sealed\n");
     else if (status != RAID2D_NOT_SEALED)
         printf("check: refused, %s\n", raid2d_strerror(status));
-    else if (stripe < RAID2D_COLUMN_STRIPE)
-        printf("check: not sealed, see stripe %zu (row %zu)\n", stripe, stripe);
-    else
-        printf("check: not sealed, see stripe %zu (column %zu)\n", stripe,
-               stripe - RAID2D_COLUMN_STRIPE);
+    else {
+        printf("check: not sealed, see ");
+        print_stripe(stripe);
+    }
 }
 
 static void write_block(size_t disk, const char *name)
@@ -111,6 +121,95 @@ static void look_at(size_t disk)
     else
         printf("look at disk %zu: %zu bytes at offset %zu, \"%.*s\"\n", disk,
                length, offset, (int)length, (const char *)(array + offset));
+}
+
+/* Nobody can rely on what a failed disk holds. */
+static void lose(size_t disk)
+{
+    printf("disk %zu fails\n", disk);
+    map[disk] = 1;
+    memset(block_of(disk), '?', BLOCK);
+}
+
+/* The records of the sheet, from the first to the last: repairs, or the disks
+   of a cycle. */
+static void print_sheet(void)
+{
+    int cycle = raid2d_sheet_kind(sheet) == RAID2D_SHEET_CYCLE;
+    size_t k;
+
+    for (k = raid2d_sheet_first(sheet); k != 0;
+         k = raid2d_sheet_next(sheet, k)) {
+        printf("  disk %zu %s ", raid2d_sheet_disk(sheet, k),
+               cycle ? "along" : "by");
+        print_stripe(raid2d_sheet_stripe(sheet, k));
+    }
+}
+
+/* The outcome of plan or rebuild. */
+static void print_outcome(const char *call, uint32_t status, size_t count)
+{
+    if (status == RAID2D_OK)
+        printf("%s: %zu repairs\n", call, count);
+    else if (status == RAID2D_FATAL)
+        printf("%s: the loss is fatal, %zu disks are lost\n", call, count);
+    else
+        printf("%s: refused, %s\n", call, raid2d_strerror(status));
+}
+
+static void plan_repairs(void)
+{
+    size_t count = 0;
+    uint32_t status = raid2d_plan(SIDE, map, sizeof map, sheet, sizeof sheet,
+                                  &count);
+
+    print_outcome("plan", status, count);
+    if (status == RAID2D_OK || status == RAID2D_FATAL)
+        print_sheet();
+}
+
+/* Rebuild plans by itself; a host that does not want to see the plan first
+   needs no other call. After a success it takes all disks as present. */
+static void rebuild_array(void)
+{
+    size_t count = 0;
+    uint32_t status = raid2d_rebuild(SIDE, BLOCK, array, sizeof array, map,
+                                     sizeof map, sheet, sizeof sheet, &count);
+
+    print_outcome("rebuild", status, count);
+    if (status == RAID2D_OK)
+        memset(map, 0, sizeof map);
+}
+
+/* A data disk with both its parities: it comes back by way of the superparity
+   (disk 15). */
+static void lose_three(void)
+{
+    lose(2);
+    lose(3);
+    lose(14);
+    look_at(2);
+    look_at(4);
+    print_array();
+    plan_repairs();
+    rebuild_array();
+    print_array();
+    check_array();
+    look_at(2);
+}
+
+/* Disks 0, 2, 8 and 10 are the corners of a rectangle: no stripe has only one
+   of them. Disk 15 alone could be repaired. */
+static void lose_five(void)
+{
+    lose(0);
+    lose(2);
+    lose(8);
+    lose(10);
+    lose(15);
+    plan_repairs();
+    rebuild_array();
+    look_at(2);
 }
 
 int main(void)
@@ -136,9 +235,9 @@ int main(void)
 
     printf("\n");
     look_at(2);
-    printf("disk 2 fails\n");
-    map[2] = 1;
-    look_at(2);
-    look_at(4);
+    lose_three();
+
+    printf("\n");
+    lose_five();
     return 0;
 }

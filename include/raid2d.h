@@ -1,11 +1,11 @@
 /*
  * raid2d.h: a two-dimensional RAID array with superparity.
  *
- * The library keeps the parities of a square array of disks, in memory that
- * the caller lends. Each call is proved, in the Rattle sources it is made
- * from, against a definition of its result and of every byte it leaves, for
- * every argument. This header puts those definitions into words. It is C99
- * and C++.
+ * The library keeps the parities of a square array of disks and restores lost
+ * disks, in memory that the caller lends. Each call is proved, in the Rattle
+ * sources it is made from, against a definition of its result and of every
+ * byte it leaves, for every argument. This header puts those definitions into
+ * words. It is C99 and C++.
  *
  *
  * THE ARRAY
@@ -45,7 +45,49 @@
  *                  1 erased.
  *   erased         [marked, failed] Said of a disk whose block counts for
  *                  nothing. Calls without a map take every disk as present.
+ *   loss           All disks that a map says are erased.
+ *   survivors      The blocks of all other disks. They belong to a sealed
+ *                  array if one of the same size has the same bytes in each
+ *                  of them.
+ *   repair         Sets the block of an erased disk to the sum of the other
+ *                  disks of one stripe through it. It is allowed if no other
+ *                  disk of that stripe is still erased; then the disk counts
+ *                  as present.
+ *   plan's order   At each step the lowest-numbered disk that can be repaired,
+ *                  by its row if that is allowed, else by its column.
+ *   residual       [lost cards] The disks that are still erased when no
+ *                  repair is allowed any more.
+ *   fatal          Said of a loss with a residual. Then two different sealed
+ *                  arrays have the same survivors, and nobody can tell which
+ *                  of them was lost. No loss of up to three disks is fatal.
+ *   cycle          [loop] Different erased disks, at least four: the first and
+ *                  the second share a row, the second and the third a column,
+ *                  and so on in turn, the last and the first a column; each
+ *                  stripe touched holds exactly two of them. It begins with
+ *                  its lowest-numbered disk. Each fatal loss has a cycle, and
+ *                  no other loss has one.
+ *   sheet          A list of repairs or a cycle, in 98 bytes: see below.
  *   status         [refusal number] What a call returns.
+ *
+ *
+ * THE SHEET
+ *
+ *   byte 0      the kind: 1 repairs, 2 a cycle
+ *   byte 1      the number of the first record, 0 for none
+ *   bytes 2..   records 1 to 32, of 3 bytes each: a disk, a stripe, and the
+ *               number of the next record, 0 for none
+ *
+ * In a list of repairs the stripe is the one that is summed. In a cycle it is
+ * the one that the disk shares with the next disk, the last with the first.
+ * The library writes records 1, 2, 3 and so on in this order, and zeros
+ * elsewhere. Two sheets for n = 2:
+ *
+ *     disks 0, 2, 6 erased      1 1  2 18 2  0 0 3  6 2 0  0 0 0 ..
+ *     disks 0, 2, 6, 8 erased   2 1  0 0 2  2 18 3  8 2 4  6 16 0  0 0 0 ..
+ *
+ * The first says: disk 2 by stripe 18 (column 2), disk 0 by row 0, disk 6 by
+ * row 2. The second is a cycle from disk 0 along row 0 to disk 2, along column
+ * 2 to disk 8, along row 2 to disk 6, and along column 0 back to disk 0.
  *
  *
  * CONVENTIONS
@@ -64,7 +106,9 @@
  *
  * Statuses. 0 is success. Where several statuses apply, the first in the
  * call's list below is returned. A call that refuses leaves every buffer and
- * every out-parameter as it was. A status keeps its number for good.
+ * every out-parameter as it was, but for what the lists of raid2d_plan and
+ * raid2d_rebuild say of RAID2D_FATAL and RAID2D_ERR_SURVIVORS. A status keeps
+ * its number for good.
  *
  * State. There is none: no memory is allocated, nothing is read or written
  * but what is lent. Calls may run at the same time unless one writes what
@@ -98,12 +142,22 @@ extern "C" {
 /* The stripe number of column 0. Row r is stripe r, column c this plus c. */
 #define RAID2D_COLUMN_STRIPE  16
 
+/* Bytes of a sheet, how many records fit, and the two kinds. */
+#define RAID2D_SHEET_BYTES    98
+#define RAID2D_SHEET_RECORDS  32
+#define RAID2D_SHEET_REPAIRS  1
+#define RAID2D_SHEET_CYCLE    2
+
 /* The statuses. Their numbers never change. */
 enum raid2d_status {
     RAID2D_OK = 0,
     RAID2D_ERR_SIDE = 1,
     RAID2D_ERR_BLOCK = 2,
     RAID2D_ERR_ARRAY_LENGTH = 3,
+    RAID2D_ERR_MAP = 4,
+    RAID2D_ERR_SHEET_LENGTH = 5,
+    RAID2D_FATAL = 6,
+    RAID2D_ERR_SURVIVORS = 7,
     RAID2D_ERR_DISK = 8,
     RAID2D_ERR_DATA_LENGTH = 9,
     RAID2D_NOT_SEALED = 64
@@ -121,6 +175,14 @@ static inline const char *raid2d_strerror(uint32_t status)
         return "the block's length is not 1 to 4096";
     case RAID2D_ERR_ARRAY_LENGTH:
         return "the array's length is not that of its disks";
+    case RAID2D_ERR_MAP:
+        return "the map's length is wrong, or a byte is neither 0 nor 1";
+    case RAID2D_ERR_SHEET_LENGTH:
+        return "the sheet's length is not 98";
+    case RAID2D_FATAL:
+        return "the loss is fatal";
+    case RAID2D_ERR_SURVIVORS:
+        return "the survivors belong to no sealed array";
     case RAID2D_ERR_DISK:
         return "the disk is not a data disk";
     case RAID2D_ERR_DATA_LENGTH:
@@ -130,6 +192,48 @@ static inline const char *raid2d_strerror(uint32_t status)
     default:
         return "unknown status";
     }
+}
+
+/*
+ * Readers of a sheet. Records are numbered from 1 to RAID2D_SHEET_RECORDS, and
+ * 0 stands for none, so a sheet that the library has written is read by
+ *
+ *     for (k = raid2d_sheet_first(sheet); k != 0;
+ *          k = raid2d_sheet_next(sheet, k))
+ *         use(raid2d_sheet_disk(sheet, k), raid2d_sheet_stripe(sheet, k));
+ *
+ * They test nothing: the sheet has RAID2D_SHEET_BYTES bytes and the record a
+ * number from 1 to RAID2D_SHEET_RECORDS.
+ */
+
+/* The kind: RAID2D_SHEET_REPAIRS or RAID2D_SHEET_CYCLE. */
+static inline size_t raid2d_sheet_kind(const uint8_t *sheet)
+{
+    return sheet[0];
+}
+
+/* The number of the first record, 0 for none. */
+static inline size_t raid2d_sheet_first(const uint8_t *sheet)
+{
+    return sheet[1];
+}
+
+/* The disk of a record. */
+static inline size_t raid2d_sheet_disk(const uint8_t *sheet, size_t record)
+{
+    return sheet[2 + 3 * (record - 1)];
+}
+
+/* The stripe of a record. */
+static inline size_t raid2d_sheet_stripe(const uint8_t *sheet, size_t record)
+{
+    return sheet[3 + 3 * (record - 1)];
+}
+
+/* The number of the record after this one, 0 for none. */
+static inline size_t raid2d_sheet_next(const uint8_t *sheet, size_t record)
+{
+    return sheet[4 + 3 * (record - 1)];
 }
 
 /*
@@ -259,6 +363,93 @@ size_t raid2d_look(size_t n, size_t block,
                    const uint8_t *map, size_t map_len,
                    size_t disk,
                    size_t *offset);
+
+/*
+ * raid2d_plan: say how a loss can be repaired, or why it cannot.
+ *
+ * The answer follows from the map alone and holds for every block length. The
+ * sheet then lists the repairs in plan's order, each erased disk once, or for
+ * a fatal loss a cycle. Where a loss has several cycles, which of them is
+ * listed is left open; raid2d_rebuild lists the same one.
+ *
+ *   n          data disks along a side, RAID2D_SIDE_MIN to RAID2D_SIDE_MAX
+ *   map        which disks are erased: every byte 0 or 1
+ *   map_len    its length, RAID2D_DISKS(n)
+ *   sheet      receives the repairs or the cycle
+ *   sheet_len  its length, RAID2D_SHEET_BYTES
+ *   count      receives the number of repairs, which is that of the erased
+ *              disks and at most 2n+1, or the number of disks in the residual
+ *
+ * Reads       the map.
+ * Writes      the whole sheet and *count with RAID2D_OK and RAID2D_FATAL, else
+ *             nothing.
+ * Unchanged   the map, always.
+ *
+ * The residual can have more disks than the cycle, up to all of the grid.
+ *
+ * Returns the first of these that applies:
+ *
+ *   RAID2D_ERR_SIDE          n is not 2 to 15; sheet and *count unchanged
+ *   RAID2D_ERR_MAP           map_len is wrong, or a byte of the map is neither
+ *                            0 nor 1; sheet and *count unchanged
+ *   RAID2D_ERR_SHEET_LENGTH  sheet_len is not 98; sheet and *count unchanged
+ *   RAID2D_FATAL             the loss is fatal; the sheet lists a cycle,
+ *                            *count is the number of disks in the residual
+ *   RAID2D_OK                the sheet lists the repairs, *count is their
+ *                            number: none and 0 where no disk is erased
+ */
+uint32_t raid2d_plan(size_t n,
+                     const uint8_t *map, size_t map_len,
+                     uint8_t *sheet, size_t sheet_len,
+                     size_t *count);
+
+/*
+ * raid2d_rebuild: restore the blocks of all erased disks.
+ *
+ * Makes the repairs of raid2d_plan, whatever the erased blocks hold, and then
+ * checks all stripes. With RAID2D_OK the whole array is sealed: it is the only
+ * sealed array with these survivors. The map is not cleared; the host does so
+ * when it takes the disks as present again.
+ *
+ *   n          data disks along a side, RAID2D_SIDE_MIN to RAID2D_SIDE_MAX
+ *   block      bytes in a block, RAID2D_BLOCK_MIN to RAID2D_BLOCK_MAX
+ *   array      the blocks of all disks
+ *   array_len  its length, RAID2D_ARRAY_BYTES(n, block)
+ *   map        which disks are erased: every byte 0 or 1
+ *   map_len    its length, RAID2D_DISKS(n)
+ *   sheet      receives the repairs or the cycle
+ *   sheet_len  its length, RAID2D_SHEET_BYTES
+ *   count      receives the number of repairs, which is that of the erased
+ *              disks and at most 2n+1, or the number of disks in the residual
+ *
+ * Reads       the map, and the blocks of the disks that are not erased.
+ * Writes      the blocks of the erased disks with RAID2D_OK and
+ *             RAID2D_ERR_SURVIVORS; the whole sheet with these and with
+ *             RAID2D_FATAL; *count with RAID2D_OK and RAID2D_FATAL.
+ * Unchanged   the blocks of all other disks and the map, always.
+ *
+ * Returns the first of these that applies:
+ *
+ *   RAID2D_ERR_SIDE          n is not 2 to 15; all unchanged
+ *   RAID2D_ERR_BLOCK         block is not 1 to 4096; all unchanged
+ *   RAID2D_ERR_ARRAY_LENGTH  array_len is wrong; all unchanged
+ *   RAID2D_ERR_MAP           map_len is wrong, or a byte of the map is neither
+ *                            0 nor 1; all unchanged
+ *   RAID2D_ERR_SHEET_LENGTH  sheet_len is not 98; all unchanged
+ *   RAID2D_FATAL             the loss is fatal, whatever the survivors hold;
+ *                            sheet and *count are those of raid2d_plan, the
+ *                            array is unchanged
+ *   RAID2D_ERR_SURVIVORS     the survivors belong to no sealed array, with no
+ *                            disk erased too; the blocks of the erased disks
+ *                            and the whole sheet are zero, *count unchanged
+ *   RAID2D_OK                the blocks of the erased disks are restored;
+ *                            sheet and *count are those of raid2d_plan
+ */
+uint32_t raid2d_rebuild(size_t n, size_t block,
+                        uint8_t *array, size_t array_len,
+                        const uint8_t *map, size_t map_len,
+                        uint8_t *sheet, size_t sheet_len,
+                        size_t *count);
 
 #ifdef __cplusplus
 }
