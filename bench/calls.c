@@ -1,9 +1,22 @@
 #include "calls.h"
+#include "maps.h"
+
+#include <stdio.h>
 
 #define COUNT(table) (sizeof(table) / sizeof *(table))
 
+/* The map is for rebuild. */
 static const struct size array_sizes[] = {
-    {2, 1}, {2, 16}, {4, 64}, {5, 100}, {8, 512}, {15, 1}, {15, 16}, {15, 512}, {15, 4096},
+    {2, 1, ROW_AND_COLUMN},  {2, 16, ROW_AND_COLUMN},  {4, 64, ROW_AND_COLUMN},
+    {5, 100, ROW_AND_COLUMN}, {8, 512, ROW_AND_COLUMN}, {15, 1, ROW_AND_COLUMN},
+    {15, 16, ROW_AND_COLUMN}, {15, 512, ROW_AND_COLUMN}, {15, 4096, ROW_AND_COLUMN},
+};
+
+static const struct size map_sizes[] = {
+    {4, 1, ONE_DISK},  {4, 1, ROW_AND_COLUMN},  {4, 1, STAIRCASE},
+    {4, 1, ALL_DISKS}, {4, 1, CYCLE_AND_TREE}, {4, 1, HALF_OF_ALL},
+    {15, 1, ONE_DISK},  {15, 1, ROW_AND_COLUMN},  {15, 1, STAIRCASE},
+    {15, 1, ALL_DISKS}, {15, 1, CYCLE_AND_TREE}, {15, 1, HALF_OF_ALL},
 };
 
 /* Random data under random parities. */
@@ -13,28 +26,57 @@ static void prepare_seal(struct input *input, size_t variant)
     input_fill(input);
 }
 
+/* Some byte of a disk. */
+static uint8_t *byte_of(struct input *input, size_t disk, size_t variant)
+{
+    return input->array + disk * input->size.block + variant * 7919 % input->size.block;
+}
+
 /* A sealed array; in odd variants with one damaged byte, in the others with two equal ones in one row, which show
    only in a column. The damage visits each disk. */
 static void prepare_check(struct input *input, size_t variant)
 {
-    size_t side = input->n + 1, disk = variant / 2 % (side * side);
-    uint8_t *damaged = input->array + disk * input->block + variant * 7919 % input->block;
+    size_t side = input->size.n + 1, disk = variant / 2 % input->disks;
+    uint8_t *damaged = byte_of(input, disk, variant);
     input_fill(input);
-    plain_seal(input->n, input->block, input->array, input->bytes);
+    plain_seal(input->size.n, input->size.block, input->array, input->bytes);
     if (variant == 0)
         return;
     *damaged ^= 128;
     if (variant % 2 == 0)
-        *(disk % side == 0 ? damaged + input->block : damaged - input->block) ^= 128;
+        *(disk % side == 0 ? damaged + input->size.block : damaged - input->size.block) ^= 128;
 }
 
 /* Random bytes everywhere, and each data disk in turn. A disk in the middle of the grid is timed. */
 static void prepare_write(struct input *input, size_t variant)
 {
-    size_t n = input->n;
+    size_t n = input->size.n;
     size_t data_disk = (variant + n * (n / 2) + n / 2) % (n * n);
     input_fill(input);
     input->disk = data_disk / n * (n + 1) + data_disk % n;
+}
+
+/* The map of the size; in other variants one with up to 2n + 2 disks at random. */
+static void prepare_plan(struct input *input, size_t variant)
+{
+    static uint64_t state = 88172645463325252u;
+    size_t n = input->size.n;
+    if (variant == 0)
+        draw_map(input->size.map, n, input->map);
+    else
+        draw_random_map(n, variant % (2 * n + 3), &state, input->map);
+}
+
+/* A sealed array with random bytes in the erased blocks; in every third variant with one damaged byte, which is a
+   contradiction where it is on no erased disk and the loss is not fatal. */
+static void prepare_rebuild(struct input *input, size_t variant)
+{
+    prepare_plan(input, variant);
+    input_fill(input);
+    plain_seal(input->size.n, input->size.block, input->array, input->bytes);
+    input_spoil(input);
+    if (variant % 3 == 1)
+        *byte_of(input, variant % input->disks, variant) ^= 128;
 }
 
 static int has_seal(const struct peer *peer)
@@ -52,29 +94,60 @@ static int has_write(const struct peer *peer)
     return peer->write != NULL;
 }
 
+static int has_plan(const struct peer *peer)
+{
+    return peer->plan != NULL;
+}
+
+static int has_rebuild(const struct peer *peer)
+{
+    return peer->rebuild != NULL;
+}
+
 static void run_seal(const struct peer *peer, struct input *input)
 {
-    input->status = peer->seal(input->n, input->block, input->array, input->bytes);
+    input->status = peer->seal(input->size.n, input->size.block, input->array, input->bytes);
 }
 
 static void run_check(const struct peer *peer, struct input *input)
 {
-    input->status = peer->check(input->n, input->block, input->array, input->bytes, &input->stripe);
+    input->status = peer->check(input->size.n, input->size.block, input->array, input->bytes, &input->stripe);
 }
 
 static void run_write(const struct peer *peer, struct input *input)
 {
-    input->status = peer->write(input->n, input->block, input->array, input->bytes, input->disk, input->data,
-                                input->block);
+    input->status = peer->write(input->size.n, input->size.block, input->array, input->bytes, input->disk,
+                                input->data, input->size.block);
+}
+
+static void run_plan(const struct peer *peer, struct input *input)
+{
+    input->status = peer->plan(input->size.n, input->map, input->disks, input->sheet, SHEET_BYTES, &input->count);
+}
+
+static void run_rebuild(const struct peer *peer, struct input *input)
+{
+    input->status = peer->rebuild(input->size.n, input->size.block, input->array, input->bytes, input->map,
+                                  input->disks, input->sheet, SHEET_BYTES, &input->count);
 }
 
 const struct call calls[CALLS] = {
-    [SEAL] = {"seal", array_sizes, COUNT(array_sizes), has_seal, prepare_seal, run_seal},
-    [CHECK] = {"check", array_sizes, COUNT(array_sizes), has_check, prepare_check, run_check},
-    [WRITE] = {"write", array_sizes, COUNT(array_sizes), has_write, prepare_write, run_write},
+    [SEAL] = {"seal", 0, array_sizes, COUNT(array_sizes), has_seal, prepare_seal, run_seal},
+    [CHECK] = {"check", 0, array_sizes, COUNT(array_sizes), has_check, prepare_check, run_check},
+    [WRITE] = {"write", 0, array_sizes, COUNT(array_sizes), has_write, prepare_write, run_write},
+    [PLAN] = {"plan", 1, map_sizes, COUNT(map_sizes), has_plan, prepare_plan, run_plan},
+    [REBUILD] = {"rebuild", 0, array_sizes, COUNT(array_sizes), has_rebuild, prepare_rebuild, run_rebuild},
 };
 
 int takes_part(const struct peer *peer, const struct call *call, struct size size)
 {
     return call->has(peer) && size.block % peer->unit == 0;
+}
+
+void put_title(char title[TITLE_MAX], const struct call *call, struct size size)
+{
+    if (call->by_map)
+        snprintf(title, TITLE_MAX, "%-7s n %2zu %-14s", call->name, size.n, map_names[size.map]);
+    else
+        snprintf(title, TITLE_MAX, "%-7s n %2zu B %4zu", call->name, size.n, size.block);
 }
