@@ -67,16 +67,19 @@ static void prepare_plan(struct input *input, size_t variant)
         draw_random_map(n, variant % (2 * n + 3), &state, input->map);
 }
 
-/* A sealed array with random bytes in the erased blocks; in every third variant with one damaged byte, which is a
-   contradiction where it is on no erased disk and the loss is not fatal. */
+/* A sealed array with random bytes in the erased blocks. In two variants of three survivors are damaged: one byte, or
+   two equal ones in one column, which show only in rows. */
 static void prepare_rebuild(struct input *input, size_t variant)
 {
+    size_t disk = variant % input->disks, below = (disk + input->size.n + 1) % input->disks;
     prepare_plan(input, variant);
     input_fill(input);
     plain_seal(input->size.n, input->size.block, input->array, input->bytes);
     input_spoil(input);
-    if (variant % 3 == 1)
-        *byte_of(input, variant % input->disks, variant) ^= 128;
+    if (variant % 3 != 0)
+        *byte_of(input, disk, variant) ^= 128;
+    if (variant % 3 == 2)
+        *byte_of(input, below, variant) ^= 128;
 }
 
 static int has_seal(const struct peer *peer)

@@ -12,25 +12,29 @@ struct tally {
 static size_t load(struct tally *tally, size_t side, const uint8_t *map)
 {
     size_t erased = 0;
+    uint8_t columns[ACROSS_MAX] = {0};
     memset(tally->on, 0, sizeof tally->on);
     memcpy(tally->left, map, side * side);
     for (size_t r = 0; r < side; r++) {
+        uint8_t row = 0;
         for (size_t c = 0; c < side; c++) {
-            tally->on[r] += map[r * side + c];
-            tally->on[FIRST_COLUMN + c] += map[r * side + c];
+            row += map[r * side + c];
+            columns[c] += map[r * side + c];
         }
-        erased += tally->on[r];
+        tally->on[r] = row;
+        erased += row;
     }
+    memcpy(tally->on + FIRST_COLUMN, columns, side);
     return erased;
 }
 
 /* The column of the lowest disk of a row that can be repaired, or the number of columns. */
 static size_t in_row(const struct tally *tally, size_t side, size_t row)
 {
-    const uint8_t *left = tally->left + row * side;
+    const uint8_t *left = tally->left + row * side, *columns = tally->on + FIRST_COLUMN;
     int only = tally->on[row] == 1;
     size_t c = 0;
-    while (c < side && (left[c] == 0 || (!only && tally->on[FIRST_COLUMN + c] != 1)))
+    while (c < side && (left[c] & (only | (columns[c] == 1))) == 0)
         c++;
     return c;
 }
