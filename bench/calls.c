@@ -5,19 +5,18 @@
 
 #define COUNT(table) (sizeof(table) / sizeof *(table))
 
-/* The map is for rebuild. */
+/* Rebuild has row 0 and column 0 erased; the other calls take no map. */
+#define SIZE(n, block) {n, block, ROW_AND_COLUMN}
 static const struct size array_sizes[] = {
-    {2, 1, ROW_AND_COLUMN},  {2, 16, ROW_AND_COLUMN},  {4, 64, ROW_AND_COLUMN},
-    {5, 100, ROW_AND_COLUMN}, {8, 512, ROW_AND_COLUMN}, {15, 1, ROW_AND_COLUMN},
-    {15, 16, ROW_AND_COLUMN}, {15, 512, ROW_AND_COLUMN}, {15, 4096, ROW_AND_COLUMN},
+    SIZE(2, 1),  SIZE(2, 16),  SIZE(4, 64),   SIZE(5, 100),  SIZE(8, 512),
+    SIZE(15, 1), SIZE(15, 16), SIZE(15, 512), SIZE(15, 4096),
 };
 
-static const struct size map_sizes[] = {
-    {4, 1, ONE_DISK},  {4, 1, ROW_AND_COLUMN},  {4, 1, STAIRCASE},
-    {4, 1, ALL_DISKS}, {4, 1, CYCLE_AND_TREE}, {4, 1, HALF_OF_ALL},
-    {15, 1, ONE_DISK},  {15, 1, ROW_AND_COLUMN},  {15, 1, STAIRCASE},
-    {15, 1, ALL_DISKS}, {15, 1, CYCLE_AND_TREE}, {15, 1, HALF_OF_ALL},
-};
+/* Plan takes no array, so its block is the smallest. */
+#define SIX_MAPS(n)                                                                                                   \
+    {n, 1, ONE_DISK}, {n, 1, ROW_AND_COLUMN}, {n, 1, STAIRCASE},                                                      \
+    {n, 1, ALL_DISKS}, {n, 1, CYCLE_AND_TREE}, {n, 1, HALF_OF_ALL}
+static const struct size map_sizes[] = {SIX_MAPS(4), SIX_MAPS(15)};
 
 /* Random data under random parities. */
 static void prepare_seal(struct input *input, size_t variant)
@@ -149,8 +148,8 @@ int takes_part(const struct peer *peer, const struct call *call, struct size siz
 
 void put_title(char title[TITLE_MAX], const struct call *call, struct size size)
 {
-    if (call->by_map)
-        snprintf(title, TITLE_MAX, "%-7s n %2zu %-14s", call->name, size.n, map_names[size.map]);
-    else
-        snprintf(title, TITLE_MAX, "%-7s n %2zu B %4zu", call->name, size.n, size.block);
+    char block[TITLE_MAX];
+    snprintf(block, sizeof block, "B %4zu", size.block);
+    snprintf(title, TITLE_MAX, "%-7.7s n %2zu %-14.14s", call->name, size.n,
+             call->by_map ? map_names[size.map] : block);
 }

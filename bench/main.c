@@ -12,7 +12,7 @@ static void print_head(void)
     puts("time(library) / time(peer): above 1 the peer is faster.");
     printf("Medians of %d samples, peers in turn in one process. Buffers are warm and not cleared.\n", SAMPLES);
     puts("Peers test no argument. Check is timed on a sealed array, rebuild with row 0 and column 0 erased.");
-    puts("Plan: the plain loops look at all disks again for each repair, the other peers keep counters of the stripes.");
+    puts("Plan: the plain loops look at all disks again for each repair, the other peers keep counters for stripes.");
     if (calls[SEAL].has(&peers[ISAL]))
         puts("ISA-L: xor_gen and xor_check as it chooses them for this machine, where B is a multiple of 32.");
     else

@@ -56,7 +56,11 @@ impl Erased {
 
     /// The row of a disk before even steps of a walk, its column before odd ones.
     fn stripe(&self, disk: usize, step: usize) -> usize {
-        if step % 2 == 0 { disk / self.side } else { FIRST_COLUMN + disk % self.side }
+        if step % 2 == 0 {
+            disk / self.side
+        } else {
+            FIRST_COLUMN + disk % self.side
+        }
     }
 
     /// The lowest other disk on the stripe.

@@ -24,15 +24,15 @@ static double middle_over_end(struct input *input)
 int compare_places(struct input *input)
 {
     int warnings = 0;
-    puts("Repairs: rebuild with all disks of the middle column erased, over rebuild with all of the last column, both less");
-    puts("rebuild with none erased. Each row then has one repair, of a middle disk or of its last one.");
+    puts("Repairs: rebuild with the middle column erased over rebuild with the last column erased, both less rebuild");
+    puts("with no disk erased. So each row has one repair, of its middle disk or of its last one.");
     for (size_t s = 0; s < sizeof sizes / sizeof *sizes; s++) {
         double ratio;
         char title[TITLE_MAX];
         input_resize(input, sizes[s]);
         ratio = middle_over_end(input);
         put_title(title, &calls[REBUILD], sizes[s]);
-        printf("%s  repairs, middle over last disk %12.2f\n", title, ratio);
+        printf("%s  %-28s %6.2f\n", title, "repairs, middle / last disk", ratio);
         if (ratio > MOST)
             printf("WARNING: %s: repairs of middle disks take %.3f x those of last disks; the limit is %.2f\n", title,
                    ratio, MOST);
