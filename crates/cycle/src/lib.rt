@@ -56,6 +56,7 @@ fn partner_on(size: Size, set: &[u8], disk: usize, stripe: usize) -> usize
 // The other stripe of a disk.
 fn other_stripe(size: Size, disk: usize, stripe: usize) -> usize
     requires { ⌜ sizeFits size ≡ true ⌝ }
+    requires { ⌜ disk < disks size ⌝ }
     ensures { λ r. ⌜ r ≡ otherThan stripe (gridOf size .through disk) ⌝ }
 {
     let row = layout::row_stripe(size, disk);

@@ -202,9 +202,6 @@ module _ (L : Layout) (two : TwoStripes L) (d : ℕ) (inside : d < L .disks) whe
       ∙ ap₂ (λ (x y : ℕ). x + y) (total-equal (L .stripeBound) (two .low d) low-bound)
       (total-equal (L .stripeBound) (two .high d) (two .bound d inside))
 
-  pub on-count : count (L .stripeBound) (λ s. on L d s) ≡ 2
-  on-count = count-total (L .stripeBound) (λ s. on L d s) ∙ on-total
-
 -- Each disk of c counts on two stripes.
 pub degrees : (L : Layout) → TwoStripes L → (c : ℕ → Bool) → total (L .stripeBound) (degree L c) ≡ 2 * count (L .disks) c
 unfolding degree
@@ -270,13 +267,6 @@ module _ (L : Layout) (two : TwoStripes L) where
       let rest = peels-touched (without e (r .disk)) rs (p .1) in
       omega arith
 
-  pub peels-bound : (e : ℕ → Bool) (w : List Entry) → Peels L e w → length w ≤ L .stripeBound
-  unfolding touched
-  peels-bound e w p =
-      let all = peels-touched e w p in
-      let most : touched L e ≤ L .stripeBound = count-le (L .stripeBound) (λ s. ltb 0 (degree L e s)) in
-      omega arith
-
   -- Before the last repair its disk still touches two stripes.
   pub peels-fewer : (e : ℕ → Bool) (w : List Entry) → Peels L e w → 0 < length w → length w + 1 ≤ touched L e
   peels-fewer e [] p h = absurd (not-suc-le-zero h)
@@ -320,8 +310,6 @@ module _ (z : Size) where
       omega arith
 
 module _ (z : Size) (fits : sizeFits z ≡ true) where
-  pub grid-stripes : (e : ℕ → Bool) → touched (gridOf z) e ≤ 32
-  grid-stripes e = let f : Fits z = size-fits z fits in let up = grid-touched z e in omega arith
 
   -- There are fewer repairs than that.
   pub grid-repairs : (e : ℕ → Bool) (w : List Entry) → Peels (gridOf z) e w → length w < (rows z + 1) + (columns z + 1)

@@ -5,7 +5,7 @@ use mathlib.Core.Bool.{Bool, true, false, cond, not, _&&_, _||_, and-assoc, and-
 use mathlib.Core.Logic.{_⊎_, inl, inr, ⊎-elim}
 use mathlib.Core.List.{List}
 use Prim.Native.Nat.{ℕ, zero, suc, _+_, _*_, _≤_, _<_, zero-le, suc-le-suc}
-use native.Mathlib.Nat.{add-zero, add-comm, add-suc, zero-mul, suc-mul, eq-or-lt-of-le, le-of-suc-le-suc, lt-suc-self, le-step, not-suc-le-zero, lt-of-lt-of-le, zero-lt-suc, pos-of-ne-zero}
+use native.Mathlib.Nat.{add-zero, add-comm, add-suc, zero-mul, suc-mul, eq-or-lt-of-le, le-of-suc-le-suc, lt-suc-self, le-step, le-refl, le-of-lt, lt-irrefl, not-suc-le-zero, lt-of-lt-of-le, zero-lt-suc, pos-of-ne-zero}
 use native.Mathlib.Numerals.{add-one}
 use native.Mathlib.Omega.{arith}
 use borrow.Author.Tests.{ltb-true, ltb-false, eq-eqb, ne-eqb}
@@ -286,6 +286,15 @@ lowest-unique n t j k p q =
   where
     clash : (j k : ℕ) → Lowest n t j → Lowest n t k → j < k → ⊥
     clash j k p q l = true≢false (sym (p .found (lt-of-lt-of-le l (q .within))) ∙ q .none j l)
+
+-- A search from 0 up ends at the first number of which the test holds, or at n.
+pub lowest-found : (n : ℕ) (t : ℕ → Bool) (k : ℕ) → k < n → ((i : ℕ) → i < k → t i ≡ false) → t k ≡ true → k ≡ lowest n t
+lowest-found n t k l none found =
+    lowest-unique n t k (lowest n t) (record { within = le-of-lt l; none = none; found = λ h. found }) (lowest-is n t)
+
+pub lowest-end : (n : ℕ) (t : ℕ → Bool) → ((i : ℕ) → i < n → t i ≡ false) → n ≡ lowest n t
+lowest-end n t none =
+    lowest-unique n t n (lowest n t) (record { within = le-refl n; none = none; found = λ h. absurd (lt-irrefl n h) }) (lowest-is n t)
 
 -- ---- lists
 pub length-tabulate : (n : ℕ) (f : ℕ → ℕ) → length (tabulate n f) ≡ n

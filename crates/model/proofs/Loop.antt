@@ -4,21 +4,21 @@ use mathlib.Core.Path.{_≡_, refl, sym, _∙_, ap, ap₂, subst}
 use mathlib.Core.Bool.{Bool, true, false, _||_, false≢true}
 use mathlib.Core.Logic.{_⊎_, inl, inr, ⊎-elim}
 use mathlib.Core.List.{List}
-use Prim.Native.Nat.{ℕ, zero, suc, _+_, _*_, _-_, _/_, _%_, _≤_, _<_}
-use native.Mathlib.Nat.{le-of-eq, le-of-suc-le, add-left-cancel}
+use Prim.Native.Nat.{ℕ, zero, suc, _+_, _-_, _/_, _%_, _≤_, _<_}
+use native.Mathlib.Nat.{le-of-suc-le, add-left-cancel}
 use native.Mathlib.Omega.{arith}
-use borrow.Author.Tests.{eq-eqb, eqb-true, eqb-false, ltb-false}
+use borrow.Author.Tests.{eq-eqb, eqb-true, eqb-false}
 use lib.Dec.{eqb, ltb}
 use lib.ListN.{length}
-use Rattle.model.specs.Fold.{bit, count}
+use Rattle.model.specs.Fold.{count}
 use Rattle.model.specs.Stripes.{Layout, TwoStripes, among, on}
 use Rattle.model.specs.Grid.{grid, rows, columns, across, gridOf, disks, diskAt, sizeFits}
 use Rattle.model.specs.Repair.{Entry, fatal}
-use Rattle.model.specs.Cycle.{diskOf, stripeOf, following, Cycle, Loop, Paired, shownCycle}
+use Rattle.model.specs.Cycle.{diskOf, stripeOf, following, Cycle, Loop, shownCycle}
 use Rattle.model.specs.declared.Size.{Size}
 use Rattle.model.proofs.Fold.{by-cases, lt-or-le}
 use Rattle.model.proofs.Grid.{Fits, size-fits, grid-disks, gridOf-two, disk-is, row-within}
-use Rattle.model.proofs.Degree.{count-other, degree, touched, touches, on-bound, touching, degrees, total, total-times, total-mono, count-total, grid-touched}
+use Rattle.model.proofs.Degree.{count-other, degree, touched, touches, on-bound, grid-touched}
 use Rattle.model.proofs.Counts.{count-different}
 use Rattle.model.proofs.Trace.{following-last, following-inner, following-below, shown}
 
@@ -69,23 +69,6 @@ module _ (L : Layout) (e : ℕ → Bool) (w : List Entry) (y : Cycle L e w) wher
   -- And no more than are erased.
   pub cycle-erased : length w ≤ count (L .disks) e
   cycle-erased = count-different (length w) (L .disks) e (diskOf w) (y .disk) (y .erased) (y .different)
-
--- Disks of which each stripe touched holds two are no more than those stripes.
-pub paired-few : (L : Layout) → TwoStripes L → (c : ℕ → Bool) → Paired L c → count (L .disks) c ≤ touched L c
-unfolding touched degree bit
-paired-few L two c paired =
-    let sum : total (L .stripeBound) (degree L c) ≡ 2 * count (L .disks) c = degrees L two c in
-    let each : total (L .stripeBound) (λ s. 2 * bit (ltb 0 (degree L c s))) ≡ 2 * touched L c =
-    total-times (L .stripeBound) 2 (λ s. bit (ltb 0 (degree L c s)))
-    ∙ ap (λ (n : ℕ). 2 * n) (sym (count-total (L .stripeBound) (λ s. ltb 0 (degree L c s)))) in
-    let all = total-mono (L .stripeBound) (degree L c) (λ s. 2 * bit (ltb 0 (degree L c s))) (λ s l. at-most s) in
-    omega arith
-  where
-    at-most : (s : ℕ) → degree L c s ≤ 2 * bit (ltb 0 (degree L c s))
-    at-most s =
-        by-cases (λ b. degree L c s ≤ 2 * bit b) (ltb 0 (degree L c s))
-        (λ h. let (d, l, k, m) = touching L c s h in le-of-eq (paired d s l k m))
-        (λ h. ltb-false 0 (degree L c s) h)
 
 -- ---- rows and columns in turn
 
@@ -226,11 +209,3 @@ module _ (z : Size) (fits : sizeFits z ≡ true) (e : ℕ → Bool) where
       (cycle-erased (gridOf z) e (shownCycle (gridOf z) e) (y .cycle)) in
       absurd (omega arith))
       (λ lossy. refl)
-
-  -- Disks of which each stripe touched holds two are no more than there are rows and columns.
-  pub grid-paired : Paired (gridOf z) e → count (disks z) e ≤ (rows z + 1) + (columns z + 1)
-  grid-paired paired =
-      let few : count (disks z) e ≤ touched (gridOf z) e =
-      subst (λ (n : ℕ). count n e ≤ touched (gridOf z) e) (grid-disks z) (paired-few (gridOf z) (gridOf-two z fits) e paired) in
-      let most = grid-touched z e in
-      omega arith

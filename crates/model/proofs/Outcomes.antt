@@ -13,7 +13,7 @@ use Rattle.model.specs.Grid.{gridOf, disks}
 use Rattle.model.specs.Repair.{erasures, repairs, lost, fatal, rebuilt, zeroed, consistent, Belongs, Ambiguous}
 use Rattle.model.specs.Cycle.{shownCycle}
 use Rattle.model.specs.Sheet.{sheetOf, blankSheet}
-use Rattle.model.specs.Rebuild.{planSheet, outcomeStatus, repairedArray}
+use Rattle.model.specs.Rebuild.{outcomeStatus, repairedArray}
 use Rattle.model.specs.Demand3.{RepairSheet, LoopSheet, Demand3}
 use Rattle.model.specs.declared.Size.{Size}
 use Rattle.model.specs.declared.Outcome.the-variants.{Repairs, Fatal, Refused}

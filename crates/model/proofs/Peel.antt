@@ -18,7 +18,7 @@ use Rattle.model.specs.Stripes.{Layout, TwoStripes, among, on}
 use Rattle.model.specs.Repair.{without, Entry, alone, allowed, firstAllowed, someAllowed, Peels, Stuck, nextDisk, repairOf, peel, repairs, after, residual, lost, fatal}
 use Rattle.model.specs.Cycle.{diskOf, stripeOf}
 use Rattle.model.specs.Demand3.{InOrder}
-use Rattle.model.proofs.Fold.{and-left, and-right, and-both, or-left, or-right, same-test, by-cases, lt-or-le, every-at, every-all, every-fails, count-ext, count-le, count-none, count-zero-none, count-some, count-found, count-first, count-without, lowest-is, lowest-ext}
+use Rattle.model.proofs.Fold.{and-left, and-right, and-both, or-left, or-right, same-test, by-cases, lt-or-le, every-at, every-all, every-fails, count-le, count-none, count-zero-none, count-some, count-found, count-first, count-without, lowest-is, lowest-ext}
 
 -- ---- erased disks
 
@@ -190,10 +190,6 @@ module _ (L : Layout) (e : ℕ → Bool) where
       go : (b : Bool) → eqb s t ≡ b → (among s ts ≡ true → allowed L e d s ≡ false) → allowed L e d s ≡ false
       go true q up = ap (allowed L e d) (eqb-true s t q) ∙ or-left (allowed L e d t) (someAllowed L e d ts) h
       go false q up = up (ap (λ (b : Bool). b || among s ts) (sym q) ∙ k)
-
-  pub next-within : nextDisk L e ≤ L .disks
-  unfolding nextDisk
-  next-within = lowest-is (L .disks) (λ d. someAllowed L e d (L .through d)) .within
 
   pub next-allowed : nextDisk L e < L .disks → allowed L e (nextDisk L e) (repairOf L e (nextDisk L e) .stripe) ≡ true
   unfolding nextDisk repairOf
@@ -547,11 +543,3 @@ module _ (L : Layout) where
   unfolding residual
   residual-ext e f same d l =
       after-ext e f same (repairs L e) d l ∙ ap (λ (w : List Entry). after f w d) (repairs-ext e f same)
-
-  pub lost-ext : (e f : ℕ → Bool) → Same L e f → lost L e ≡ lost L f
-  unfolding lost
-  lost-ext e f same = count-ext (L .disks) (residual-ext e f same)
-
-  pub fatal-ext : (e f : ℕ → Bool) → Same L e f → fatal L e ≡ fatal L f
-  unfolding fatal
-  fatal-ext e f same = ap (λ (n : ℕ). ltb 0 n) (lost-ext e f same)

@@ -1,7 +1,7 @@
 -- What repairs do to an array: they restore the codeword that the survivors belong to, and tell whether there is one.
 -- Assumes nothing.
 use mathlib.Core.Path.{_≡_, refl, sym, _∙_, ap, ap₂, subst}
-use mathlib.Core.Bool.{Bool, true, false, cond, not, _&&_, _||_, and-true, true≢false, false≢true}
+use mathlib.Core.Bool.{Bool, true, false, cond, not, _&&_, _||_, true≢false, false≢true}
 use mathlib.Core.Logic.{_↔_, ⊎-elim}
 use mathlib.Core.List.{List, [], _∷_}
 use Prim.Native.Nat.{ℕ, _+_, _*_, _/_, _%_, _-_, _≤_, _<_}
@@ -12,9 +12,9 @@ use lib.Arith.{digits-div, digits-mod, digits-lt}
 use lib.Dec.{eqb, leb, ltb}
 use lib.ListN.{length, getD, List·getD-eq-default}
 use lib.Seq.{ext-getD}
-use Rattle.model.specs.Fold.{_⊕_, xsum, gate}
+use Rattle.model.specs.Fold.{_⊕_, gate}
 use Rattle.model.specs.Stripes.{Layout, TwoStripes, among, on, Stretch, whole, byte, sumOver, stripeSum, Codeword}
-use Rattle.model.specs.Grid.{rows, columns, across, gridOf, disks, diskAt, arrayBytes, arrayOf, sizeFits}
+use Rattle.model.specs.Grid.{gridOf, disks, arrayBytes, arrayOf, sizeFits}
 use Rattle.model.specs.Refusal.{refusal, arrayTests}
 use Rattle.model.specs.Array.{checked}
 use Rattle.model.specs.Repair.{without, Entry, allowed, Peels, repairs, after, residual, fatal, changed, sumOfOthers, repaired, rebuilt, zeroed, consistent, Agree, Belongs, Ambiguous}
@@ -22,7 +22,7 @@ use Rattle.model.specs.declared.Size.{Size}
 use Rattle.model.specs.declared.Checked.the-variants.{Sealed}
 use Rattle.model.proofs.Xor.{⊕-zero, zero-⊕, equal-of-zero}
 use Rattle.model.proofs.Fold.{and-left, and-right, by-cases, lt-or-le, every-at, every-all, xsum-ext, xsum-only, xsum-byte, length-tabulate, getD-tabulate}
-use Rattle.model.proofs.Grid.{size-fits, row-over, column-over, grid-disks, gridOf-two, disk-is, row-within, column-within, eqb-disk, byte-whole, small-byte, by-block, array-is}
+use Rattle.model.proofs.Grid.{grid-disks, gridOf-two, byte-whole, small-byte, by-block, array-is}
 use Rattle.model.proofs.Equations.{equations-iff-sums}
 use Rattle.model.proofs.Refusal.{array-fits}
 use Rattle.model.proofs.Check.{sums-of-zero, zero-of-sums, answer-sealed}
@@ -105,10 +105,6 @@ module _ (x : Stretch) (inside : x .offset + x .width ≤ x .block) (n : ℕ) (a
       (λ i b.
       by-place x n (λ i. getD l i 0 ≡ getD (changed x a f) i 0) (λ d p k h. same d p k h ∙ sym (byte-changed f d p k h))
       (λ i e. kept i e ∙ sym (changed-outside x a f i e)) i (subst (λ (k : ℕ). i < k) (long ∙ sized) b))
-
-  pub changed-ext : {f g : ℕ → ℕ → ℕ} → ((d p : ℕ) → d < n → p < x .width → f d p ≡ g d p) → changed x a f ≡ changed x a g
-  changed-ext {f} {g} h =
-      changed-is g (changed x a f) (length-changed x a f) (λ d p l b. byte-changed f d p l b ∙ h d p l b) (changed-outside x a f)
 
 -- Where the stretch is the whole block, nothing is left of the array.
 pub changed-whole : (z : Size) (B : ℕ) (a : List ℕ) (f : ℕ → ℕ → ℕ) → length a ≡ arrayBytes z B → changed (whole B) a f ≡ arrayOf z B f
@@ -406,28 +402,3 @@ consistent-sealed z B a ok =
     let (of-equations, to-equations) = equations-iff-sums z (array-fits z B (length a) ok .size) (whole B) a in
     let (of-sealed, to-sealed) = answer-sealed z B a ok in
     (λ e. to-sealed (to-equations (sums e)), λ e. zeros (of-equations (of-sealed e)))
-
--- The disk in row r and column c is disk d if these are the row and the column of d.
-same-disk : (z : Size) (d r c : ℕ) → c ≤ columns z → eqb (diskAt z r c) d ≡ (eqb r (d / across z) && eqb c (d % across z))
-same-disk z d r c k = ap (λ (i : ℕ). eqb (diskAt z r c) i) (disk-is z d) ∙ eqb-disk z r c _ _ k (column-within z d)
-
--- The sum of the other disks of a disk's row, and of its column.
-module _ (z : Size) (fits : sizeFits z ≡ true) (x : Stretch) (a : List ℕ) (d p : ℕ) where
-  pub others-in-row : d < disks z → sumOfOthers (gridOf z) x a (record { disk = d; stripe = d / across z }) p
-      ≡ xsum (across z) (λ c. gate (not (eqb c (d % across z))) (byte x a (diskAt z (d / across z) c) p))
-  unfolding sumOfOthers across
-  others-in-row below =
-      row-over z (size-fits z fits) _ (d / across z) (row-within z d below)
-      ∙ xsum-ext (across z) (λ c l.
-      ap (λ (t : Bool). gate (not t) (byte x a (diskAt z (d / across z) c) p))
-      (same-disk z d (d / across z) c (omega arith) ∙ ap (λ (t : Bool). t && eqb c (d % across z)) (eq-eqb (d / across z) (d / across z) refl)))
-
-  pub others-in-column : sumOfOthers (gridOf z) x a (record { disk = d; stripe = 16 + d % across z }) p
-      ≡ xsum (rows z + 1) (λ r. gate (not (eqb r (d / across z))) (byte x a (diskAt z r (d % across z)) p))
-  unfolding sumOfOthers
-  others-in-column =
-      column-over z (size-fits z fits) _ (d % across z) (column-within z d)
-      ∙ xsum-ext (rows z + 1) (λ r l.
-      ap (λ (t : Bool). gate (not t) (byte x a (diskAt z r (d % across z)) p))
-      (same-disk z d r (d % across z) (column-within z d)
-      ∙ ap (λ (t : Bool). eqb r (d / across z) && t) (eq-eqb (d % across z) (d % across z) refl) ∙ and-true (eqb r (d / across z))))

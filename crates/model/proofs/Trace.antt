@@ -324,7 +324,3 @@ module _ (L : Layout) (two : TwoStripes L) (e : ℕ → Bool) (lossy : fatal L e
   shown =
       let (d, l, h) = core-some L e lossy in
       cycle-mono L (core L e) e (shownCycle L e) (λ d l. core-sub L e d) (cycle-of L two (core L e) (core-paired L two e lossy) d l h)
-
-  pub shown-bound : length (shownCycle L e) ≤ L .stripeBound
-  unfolding shownCycle
-  shown-bound = let (d, l, h) = core-some L e lossy in cycle-bound L two (core L e) (core-paired L two e lossy) d l h

@@ -1,0 +1,4 @@
+pub mod Tallies
+pub mod Alone
+pub mod Rows
+pub mod Turns

@@ -3,3 +3,4 @@
 pub mod cancel;
 pub mod fill;
 mod sum;
+pub mod wipe;

@@ -1,0 +1,32 @@
+-- `raid2d::raid2d_rebuild` meets its contract: it is that of the call, with the answer as a number and a count.
+-- Assumes nothing.
+use mathlib.Core.Path.{_∙_, ap}
+use borrow.Author.Needs.{needs}
+use Rattle.model.specs.Grid.{square}
+use Rattle.model.specs.Rebuild.{outcomeStatus, outcomeCount}
+use Rattle.model.specs.declared.Outcome.{Outcome}
+use Rattle.raid2d.proofs.raid2d_rebuild.Statement.{statement}
+use Rattle.raid2d.proofs.raid2d_rebuild.Tie as tie
+
+rebuild-requires : tie.Need-rebuild-requires
+rebuild-requires c κs = search needs
+
+report-requires : tie.Need-report-requires
+report-requires c κs = search needs
+
+same-length : tie.Need-same-length
+same-length c = search needs
+
+same-length-2 : tie.Need-same-length-2
+same-length-2 c = search needs
+
+returns : tie.Need-returns
+unfolding square
+returns c =
+    let (outcome, (array, sheet)) = c .before .before .before .before .before .before .rebuild .ensures in
+    let (status, count) = c .report .ensures in
+    let before = c .before .before .before .before .before .before .before .before .before .before .before .before .args .count .now in
+    (status ∙ ap outcomeStatus outcome, (array, (sheet, count ∙ ap (λ (o : Outcome). outcomeCount o before) outcome)))
+
+pub raid2d-rebuild-spec : {M : Type 1} → statement M
+raid2d-rebuild-spec = tie.close (tie.spec rebuild-requires report-requires same-length same-length-2 returns)

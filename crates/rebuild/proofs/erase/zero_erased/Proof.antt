@@ -1,0 +1,113 @@
+-- `rebuild::erase::zero_erased` meets its contract: after d turns the erased disks below d are zero.
+-- Assumes nothing.
+use mathlib.Core.Path.{_≡_, _∙_, ap}
+use mathlib.Core.Logic.{⊎-elim}
+use Prim.Native.Nat.{ℕ, _+_, _*_, _≤_, _-_}
+use native.Mathlib.Omega.{arith}
+use borrow.Author.Needs.{needs}
+use borrow.Author.Tests.{eq-eqb, ne-eqb}
+use lib.ListN.{length}
+use Rattle.model.specs.Stripes.{whole}
+use Rattle.model.specs.Repair.{erasures, zeroed}
+use Rattle.model.specs.Cycle.{below}
+use Rattle.model.proofs.Refusal.{ArrayFits, array-fits}
+use Rattle.array.proofs.Blocks.{block-within}
+use Rattle.array.proofs.Part.{map-length}
+use Rattle.rebuild.proofs.Zeros.{length-zeroed, zeroed-none, zeroed-present, zeroed-erased, zeroed-all}
+use Rattle.rebuild.proofs.erase.zero_erased.Statement.{statement}
+use Rattle.rebuild.proofs.erase.zero_erased.Tie as tie
+
+abbrev Inv-loop : tie.InvT-loop
+Inv-loop block array₀ map d₀ array d = (d ≤ length map) × (array ≡ zeroed (whole block) array₀ (below d (erasures map)))
+
+abbrev μ-loop : tie.MeasureT-loop
+μ-loop block array₀ map d₀ array d = length map - d
+
+sized : (s : tie.Start Inv-loop μ-loop) → ArrayFits (s .args .size) (s .args .block) (length (s .args .array .now))
+sized s = array-fits (s .args .size) (s .args .block) (length (s .args .array .now)) (s .pre .0)
+
+-- The array keeps its length, and the block of the disk lies within it.
+kept : (c : tie.At-loop Inv-loop μ-loop) → length (c .loop .array) ≡ length (c .before .before .before .args .array .now)
+kept c =
+    let a = c .before .before .before .args in
+    ap length (c .loop .inv .1) ∙ length-zeroed (a .block) (a .array .now) (below (c .loop .d) (erasures (a .map .now)))
+
+inside : (c : tie.In-loop Inv-loop μ-loop) → let a = c .before .before .before .before .args in
+    c .before .loop .d * a .block + a .block ≤ length (a .array .now)
+inside c =
+    let s = c .before .before .before .before in
+    let a = s .args in
+    let map = map-length (a .size) (a .map .now) (s .pre .1) in
+    block-within (a .size) (a .block) (length (a .array .now)) (sized s .long) (c .before .loop .d) (omega arith)
+
+loop-holds : tie.Need-loop-holds Inv-loop μ-loop
+loop-holds c =
+    let s = c .before .before in
+    let a = s .args in
+    (search needs, zeroed-none (a .size) (a .block) (a .array .now) (sized s .long) (erasures (a .map .now)))
+
+shared-slice-read-if1 : tie.Need-shared-slice-read-if1 Inv-loop μ-loop
+shared-slice-read-if1 c = search needs
+
+mul-wipe : tie.Need-mul-wipe Inv-loop μ-loop
+mul-wipe c = let h = inside (c .before .before .before) in omega arith
+
+wipe-requires : tie.Need-wipe-requires Inv-loop μ-loop
+wipe-requires c κs =
+    let h = inside (c .before .before .before) in
+    let k = kept (c .before .before .before .before) in
+    omega arith
+
+add-d : tie.Need-add-d Inv-loop μ-loop
+add-d c = search needs
+
+loop-less : tie.Need-loop-less Inv-loop μ-loop
+loop-less c = search needs
+
+loop-again : tie.Need-loop-again Inv-loop μ-loop
+unfolding erasures
+loop-again c =
+    let s = c .before .before .before .before .before .before in
+    let a = s .args in
+    let l = c .before .before .before .loop in (
+      search needs,
+      ⊎-elim
+          (λ w.
+          w .5 ∙ w .2 .ensures
+          ∙ zeroed-erased (a .size) (a .block) (a .array .now) (sized s .long) (erasures (a .map .now)) (l .d) (l .array) (l .inv .1)
+          (eq-eqb _ 1 (w .0 .taken)))
+          (λ w.
+          w .1
+          ∙ zeroed-present (a .size) (a .block) (a .array .now) (sized s .long) (erasures (a .map .now)) (l .d) (l .array) (l .inv .1)
+          (ne-eqb _ 1 (w .0 .left)))
+          (c .if1 .came),
+    )
+
+same-length : tie.Need-same-length Inv-loop μ-loop
+same-length c = kept (c .before)
+
+returns : tie.Need-returns Inv-loop μ-loop
+returns c =
+    let s = c .before .before .before .before in
+    let a = s .args in
+    let l = c .before .loop in
+    let map = map-length (a .size) (a .map .now) (s .pre .1) in
+    l .inv .1
+    ∙ ap (λ (n : ℕ). zeroed (whole (a .block)) (a .array .now) (below n (erasures (a .map .now)))) (omega arith)
+    ∙ zeroed-all (a .size) (a .block) (a .array .now) (sized s .long) (erasures (a .map .now))
+
+pub zero-erased-spec : {M : Type 1} → statement M
+zero-erased-spec =
+    tie.close
+    (tie.spec
+    Inv-loop
+    μ-loop
+    loop-holds
+    shared-slice-read-if1
+    mul-wipe
+    wipe-requires
+    add-d
+    loop-less
+    loop-again
+    same-length
+    returns)
