@@ -150,6 +150,5 @@ void put_title(char title[TITLE_MAX], const struct call *call, struct size size)
 {
     char block[TITLE_MAX];
     snprintf(block, sizeof block, "B %4zu", size.block);
-    snprintf(title, TITLE_MAX, "%-7.7s n %2zu %-14.14s", call->name, size.n,
-             call->by_map ? map_names[size.map] : block);
+    snprintf(title, TITLE_MAX, "%-7s n %2zu %.16s", call->name, size.n, call->by_map ? map_names[size.map] : block);
 }

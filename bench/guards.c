@@ -18,7 +18,8 @@ static const struct guard guards[] = {
     {CHECK, ISAL, 1.15},
     {REBUILD, READ, 5.0},
     {REBUILD, TUNED, 1.1},
-    {PLAN, TUNED, 10.0},
+    {REBUILD, ISAL, 1.4},
+    {PLAN, TUNED, 12.0},
 };
 
 static int is_guarded(const struct call *call, struct size size)

@@ -30,7 +30,7 @@ static void measure(const struct call *call, struct input *input, double ratios[
     for (size_t p = LIBRARY + 1; p < PEERS; p++) {
         ratios[p] = medians[p] > 0 ? medians[LIBRARY] / medians[p] : 0;
         if (medians[p] > 0)
-            printf("%s  %-28s %6.2f\n", title, peers[p].name, ratios[p]);
+            printf("%-27s  %-28s %6.2f\n", title, peers[p].name, ratios[p]);
     }
     fflush(stdout);
 }

@@ -32,7 +32,7 @@ int compare_places(struct input *input)
         input_resize(input, sizes[s]);
         ratio = middle_over_end(input);
         put_title(title, &calls[REBUILD], sizes[s]);
-        printf("%s  %-28s %6.2f\n", title, "repairs, middle / last disk", ratio);
+        printf("%-27s  %-28s %6.2f\n", title, "repairs, middle / last disk", ratio);
         if (ratio > MOST)
             printf("WARNING: %s: repairs of middle disks take %.3f x those of last disks; the limit is %.2f\n", title,
                    ratio, MOST);
