@@ -1,6 +1,6 @@
 /*
- * Bounds on speed: one plain SSE2 read, and one memcpy, of as many bytes as a call has to touch. For seal and check
- * these are the whole array, for write as many as the four blocks that change.
+ * Bounds on speed: one plain SSE2 read, and one memcpy, of as many bytes as a call has to touch. For seal, check and
+ * rebuild these are the whole array, for write as many as the four blocks that change.
  */
 #include "peer.h"
 
@@ -41,7 +41,7 @@ static void copy_bytes(const uint8_t *bytes, size_t length)
     sink = copy[length - 1];
 }
 
-/* The three calls for scale: the prototypes of a peer around one way of moving bytes. */
+/* The calls for scale: the prototypes of a peer around one way of moving bytes. */
 #define BOUND(peer, move)                                                                                             \
     uint32_t peer##_seal(size_t n, size_t block, uint8_t *array, size_t array_len)                                    \
     {                                                                                                                 \
@@ -61,11 +61,19 @@ static void copy_bytes(const uint8_t *bytes, size_t length)
         (void)n, (void)array_len, (void)disk, (void)data, (void)data_len;                                             \
         move(array, 4 * block);                                                                                       \
         return 0;                                                                                                     \
+    }                                                                                                                 \
+    uint32_t peer##_rebuild(size_t n, size_t block, uint8_t *array, size_t array_len, const uint8_t *map,             \
+                            size_t map_len, uint8_t *sheet, size_t sheet_len, size_t *count)                          \
+    {                                                                                                                 \
+        (void)n, (void)block, (void)map, (void)map_len, (void)sheet, (void)sheet_len, (void)count;                    \
+        move(array, array_len);                                                                                       \
+        return 0;                                                                                                     \
     }
 
 seal_call read_seal, copy_seal;
 check_call read_check, copy_check;
 write_call read_write, copy_write;
+rebuild_call read_rebuild, copy_rebuild;
 
 BOUND(read, read_bytes)
 BOUND(copy, copy_bytes)

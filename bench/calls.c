@@ -1,10 +1,22 @@
 #include "calls.h"
+#include "maps.h"
+
+#include <stdio.h>
 
 #define COUNT(table) (sizeof(table) / sizeof *(table))
 
+/* Rebuild has row 0 and column 0 erased; the other calls take no map. */
+#define SIZE(n, block) {n, block, ROW_AND_COLUMN}
 static const struct size array_sizes[] = {
-    {2, 1}, {2, 16}, {4, 64}, {5, 100}, {8, 512}, {15, 1}, {15, 16}, {15, 512}, {15, 4096},
+    SIZE(2, 1),  SIZE(2, 16),  SIZE(4, 64),   SIZE(5, 100),  SIZE(8, 512),
+    SIZE(15, 1), SIZE(15, 16), SIZE(15, 512), SIZE(15, 4096),
 };
+
+/* Plan takes no array, so its block is the smallest. */
+#define SIX_MAPS(n)                                                                                                   \
+    {n, 1, ONE_DISK}, {n, 1, ROW_AND_COLUMN}, {n, 1, STAIRCASE},                                                      \
+    {n, 1, ALL_DISKS}, {n, 1, CYCLE_AND_TREE}, {n, 1, HALF_OF_ALL}
+static const struct size map_sizes[] = {SIX_MAPS(4), SIX_MAPS(15)};
 
 /* Random data under random parities. */
 static void prepare_seal(struct input *input, size_t variant)
@@ -13,28 +25,60 @@ static void prepare_seal(struct input *input, size_t variant)
     input_fill(input);
 }
 
+/* Some byte of a disk. */
+static uint8_t *byte_of(struct input *input, size_t disk, size_t variant)
+{
+    return input->array + disk * input->size.block + variant * 7919 % input->size.block;
+}
+
 /* A sealed array; in odd variants with one damaged byte, in the others with two equal ones in one row, which show
    only in a column. The damage visits each disk. */
 static void prepare_check(struct input *input, size_t variant)
 {
-    size_t side = input->n + 1, disk = variant / 2 % (side * side);
-    uint8_t *damaged = input->array + disk * input->block + variant * 7919 % input->block;
+    size_t side = input->size.n + 1, disk = variant / 2 % input->disks;
+    uint8_t *damaged = byte_of(input, disk, variant);
     input_fill(input);
-    plain_seal(input->n, input->block, input->array, input->bytes);
+    plain_seal(input->size.n, input->size.block, input->array, input->bytes);
     if (variant == 0)
         return;
     *damaged ^= 128;
     if (variant % 2 == 0)
-        *(disk % side == 0 ? damaged + input->block : damaged - input->block) ^= 128;
+        *(disk % side == 0 ? damaged + input->size.block : damaged - input->size.block) ^= 128;
 }
 
 /* Random bytes everywhere, and each data disk in turn. A disk in the middle of the grid is timed. */
 static void prepare_write(struct input *input, size_t variant)
 {
-    size_t n = input->n;
+    size_t n = input->size.n;
     size_t data_disk = (variant + n * (n / 2) + n / 2) % (n * n);
     input_fill(input);
     input->disk = data_disk / n * (n + 1) + data_disk % n;
+}
+
+/* The map of the size; in other variants one with up to 2n + 2 disks at random. */
+static void prepare_plan(struct input *input, size_t variant)
+{
+    static uint64_t state = 88172645463325252u;
+    size_t n = input->size.n;
+    if (variant == 0)
+        draw_map(input->size.map, n, input->map);
+    else
+        draw_random_map(n, variant % (2 * n + 3), &state, input->map);
+}
+
+/* A sealed array with random bytes in the erased blocks. In two variants of three survivors are damaged: one byte, or
+   two equal ones in one column, which show only in rows. */
+static void prepare_rebuild(struct input *input, size_t variant)
+{
+    size_t disk = variant % input->disks, below = (disk + input->size.n + 1) % input->disks;
+    prepare_plan(input, variant);
+    input_fill(input);
+    plain_seal(input->size.n, input->size.block, input->array, input->bytes);
+    input_spoil(input);
+    if (variant % 3 != 0)
+        *byte_of(input, disk, variant) ^= 128;
+    if (variant % 3 == 2)
+        *byte_of(input, below, variant) ^= 128;
 }
 
 static int has_seal(const struct peer *peer)
@@ -52,29 +96,59 @@ static int has_write(const struct peer *peer)
     return peer->write != NULL;
 }
 
+static int has_plan(const struct peer *peer)
+{
+    return peer->plan != NULL;
+}
+
+static int has_rebuild(const struct peer *peer)
+{
+    return peer->rebuild != NULL;
+}
+
 static void run_seal(const struct peer *peer, struct input *input)
 {
-    input->status = peer->seal(input->n, input->block, input->array, input->bytes);
+    input->status = peer->seal(input->size.n, input->size.block, input->array, input->bytes);
 }
 
 static void run_check(const struct peer *peer, struct input *input)
 {
-    input->status = peer->check(input->n, input->block, input->array, input->bytes, &input->stripe);
+    input->status = peer->check(input->size.n, input->size.block, input->array, input->bytes, &input->stripe);
 }
 
 static void run_write(const struct peer *peer, struct input *input)
 {
-    input->status = peer->write(input->n, input->block, input->array, input->bytes, input->disk, input->data,
-                                input->block);
+    input->status = peer->write(input->size.n, input->size.block, input->array, input->bytes, input->disk,
+                                input->data, input->size.block);
+}
+
+static void run_plan(const struct peer *peer, struct input *input)
+{
+    input->status = peer->plan(input->size.n, input->map, input->disks, input->sheet, SHEET_BYTES, &input->count);
+}
+
+static void run_rebuild(const struct peer *peer, struct input *input)
+{
+    input->status = peer->rebuild(input->size.n, input->size.block, input->array, input->bytes, input->map,
+                                  input->disks, input->sheet, SHEET_BYTES, &input->count);
 }
 
 const struct call calls[CALLS] = {
-    [SEAL] = {"seal", array_sizes, COUNT(array_sizes), has_seal, prepare_seal, run_seal},
-    [CHECK] = {"check", array_sizes, COUNT(array_sizes), has_check, prepare_check, run_check},
-    [WRITE] = {"write", array_sizes, COUNT(array_sizes), has_write, prepare_write, run_write},
+    [SEAL] = {"seal", 0, array_sizes, COUNT(array_sizes), has_seal, prepare_seal, run_seal},
+    [CHECK] = {"check", 0, array_sizes, COUNT(array_sizes), has_check, prepare_check, run_check},
+    [WRITE] = {"write", 0, array_sizes, COUNT(array_sizes), has_write, prepare_write, run_write},
+    [PLAN] = {"plan", 1, map_sizes, COUNT(map_sizes), has_plan, prepare_plan, run_plan},
+    [REBUILD] = {"rebuild", 0, array_sizes, COUNT(array_sizes), has_rebuild, prepare_rebuild, run_rebuild},
 };
 
 int takes_part(const struct peer *peer, const struct call *call, struct size size)
 {
     return call->has(peer) && size.block % peer->unit == 0;
+}
+
+void put_title(char title[TITLE_MAX], const struct call *call, struct size size)
+{
+    char block[TITLE_MAX];
+    snprintf(block, sizeof block, "B %4zu", size.block);
+    snprintf(title, TITLE_MAX, "%-7s n %2zu %.16s", call->name, size.n, call->by_map ? map_names[size.map] : block);
 }

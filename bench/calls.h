@@ -7,6 +7,8 @@
 
 struct call {
     const char *name;
+    /* Its sizes differ by the map, and not by the block. */
+    int by_map;
     /* The sizes at which the call is compared and timed. */
     const struct size *sizes;
     size_t size_count;
@@ -18,7 +20,7 @@ struct call {
     void (*run)(const struct peer *peer, struct input *input);
 };
 
-enum { SEAL, CHECK, WRITE, CALLS };
+enum { SEAL, CHECK, WRITE, PLAN, REBUILD, CALLS };
 
 /* No call has more sizes than this. */
 enum { SIZES_MAX = 16 };
@@ -27,5 +29,9 @@ extern const struct call calls[CALLS];
 
 /* Whether a peer takes part in a call at a size. */
 int takes_part(const struct peer *peer, const struct call *call, struct size size);
+
+/* A call at a size in words, as each line of the output begins. */
+enum { TITLE_MAX = 64 };
+void put_title(char title[TITLE_MAX], const struct call *call, struct size size);
 
 #endif

@@ -1,48 +1,71 @@
 #include "compare.h"
 #include "calls.h"
+#include "loop.h"
 
 #include <stdio.h>
 #include <stdlib.h>
 #include <string.h>
 
-/* What an out-parameter holds before a call. */
+/* What an out-parameter, and each byte of the sheet, holds before a call. */
 static const size_t UNTOUCHED = 4242;
+static const uint8_t UNTOUCHED_BYTE = 42;
 
-/* The array before the calls, and after the library's. */
-struct pair {
+/* The array before the calls, and after the library's; and the library's sheet. */
+struct expected {
     uint8_t *before, *after;
+    uint8_t sheet[SHEET_BYTES];
 };
 
 static void run_from(const struct call *call, const struct peer *peer, struct input *input, const uint8_t *before)
 {
     memcpy(input->array, before, input->bytes);
-    input->stripe = UNTOUCHED;
+    memset(input->sheet, UNTOUCHED_BYTE, SHEET_BYTES);
+    input->stripe = input->count = UNTOUCHED;
     call->run(peer, input);
 }
 
-/* Whether one peer gives what the library gave on the same input: the results in `expected`, and the array after. */
-static int agrees(const struct call *call, const struct peer *peer, struct input *input, const struct input *expected,
-                  const struct pair *arrays)
+/* A fatal loss has many loops, so there a sheet is judged by the rule for loops, and else by its bytes. */
+static int sheet_is_right(const struct input *input, const uint8_t *sheet)
 {
-    run_from(call, peer, input, arrays->before);
-    return input->status == expected->status && input->stripe == expected->stripe
-        && memcmp(input->array, arrays->after, input->bytes) == 0;
+    if (input->status == FATAL)
+        return is_loop(input->size.n, input->map, input->sheet);
+    return memcmp(input->sheet, sheet, SHEET_BYTES) == 0;
+}
+
+/* Whether one peer gives what the library gave on the same input: the results in `given`, the array and the sheet. */
+static int agrees(const struct call *call, const struct peer *peer, struct input *input, const struct input *given,
+                  const struct expected *expected)
+{
+    run_from(call, peer, input, expected->before);
+    return input->status == given->status && input->stripe == given->stripe && input->count == given->count
+        && memcmp(input->array, expected->after, input->bytes) == 0 && sheet_is_right(input, expected->sheet);
+}
+
+static void print_difference(const struct call *call, struct size size, const char *what, const char *peer)
+{
+    char title[TITLE_MAX];
+    put_title(title, call, size);
+    printf("DIFFERENT: %s: %s %s\n", title, what, peer);
 }
 
 /* Compares all peers on one prepared input. */
-static int input_agrees(const struct call *call, struct input *input, const struct pair *arrays)
+static int input_agrees(const struct call *call, struct input *input, struct expected *expected)
 {
-    struct size size = {input->n, input->block};
-    struct input expected;
-    memcpy(arrays->before, input->array, input->bytes);
-    run_from(call, &peers[LIBRARY], input, arrays->before);
-    memcpy(arrays->after, input->array, input->bytes);
-    expected = *input;
+    struct input given;
+    memcpy(expected->before, input->array, input->bytes);
+    run_from(call, &peers[LIBRARY], input, expected->before);
+    memcpy(expected->after, input->array, input->bytes);
+    memcpy(expected->sheet, input->sheet, SHEET_BYTES);
+    given = *input;
+    if (!sheet_is_right(input, expected->sheet)) {
+        print_difference(call, input->size, "no loop from", peers[LIBRARY].name);
+        return 0;
+    }
     for (size_t p = LIBRARY + 1; p < PEERS; p++) {
-        if (peers[p].bound || !takes_part(&peers[p], call, size))
+        if (peers[p].bound || !takes_part(&peers[p], call, input->size))
             continue;
-        if (!agrees(call, &peers[p], input, &expected, arrays)) {
-            printf("DIFFERENT: %s, n %zu, B %zu: the library and %s\n", call->name, size.n, size.block, peers[p].name);
+        if (!agrees(call, &peers[p], input, &given, expected)) {
+            print_difference(call, input->size, "the library and", peers[p].name);
             return 0;
         }
     }
@@ -50,13 +73,13 @@ static int input_agrees(const struct call *call, struct input *input, const stru
 }
 
 /* Compares all variants of a call at one size: two for each disk, and the one that is timed. */
-static int size_agrees(const struct call *call, struct size size, struct input *input, const struct pair *arrays)
+static int size_agrees(const struct call *call, struct size size, struct input *input, struct expected *expected)
 {
     size_t variants = 2 * (size.n + 1) * (size.n + 1);
     input_resize(input, size);
     for (size_t v = 0; v <= variants; v++) {
         call->prepare(input, v);
-        if (!input_agrees(call, input, arrays))
+        if (!input_agrees(call, input, expected))
             return 0;
     }
     return 1;
@@ -66,13 +89,13 @@ int peers_agree(void)
 {
     int agree = 1;
     struct input input;
-    struct pair arrays = {largest_array(), largest_array()};
+    struct expected expected = {largest_array(), largest_array(), {0}};
     input_open(&input);
     for (size_t c = 0; c < CALLS; c++)
         for (size_t s = 0; s < calls[c].size_count; s++)
-            agree = agree && size_agrees(&calls[c], calls[c].sizes[s], &input, &arrays);
+            agree = agree && size_agrees(&calls[c], calls[c].sizes[s], &input, &expected);
     input_close(&input);
-    free(arrays.before);
-    free(arrays.after);
+    free(expected.before);
+    free(expected.after);
     return agree;
 }

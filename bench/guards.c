@@ -2,8 +2,8 @@
 
 #include <stdio.h>
 
-/* Smaller blocks are ruled by the cost of a call, and not by the loops that are guarded here. */
-enum { GUARDED_BLOCK = 512 };
+/* Smaller blocks, and maps of small arrays, are ruled by the cost of a call, and not by the loops that are guarded. */
+enum { GUARDED_BLOCK = 512, GUARDED_SIDE = 15 };
 
 struct guard {
     size_t call, peer;
@@ -16,18 +16,29 @@ static const struct guard guards[] = {
     {CHECK, READ, 2.6},
     {SEAL, TUNED, 1.1},
     {CHECK, ISAL, 1.15},
+    {REBUILD, READ, 5.0},
+    {REBUILD, TUNED, 1.1},
+    {REBUILD, ISAL, 1.4},
+    {PLAN, TUNED, 12.0},
 };
+
+static int is_guarded(const struct call *call, struct size size)
+{
+    return call->by_map ? size.n >= GUARDED_SIDE : size.block >= GUARDED_BLOCK;
+}
 
 static int warn_one(const struct guard *guard, struct size size, double ratio)
 {
-    if (size.block < GUARDED_BLOCK || ratio <= guard->most)
+    char title[TITLE_MAX];
+    if (!is_guarded(&calls[guard->call], size) || ratio <= guard->most)
         return 0;
-    printf("WARNING: %s, n %zu, B %zu takes %.3f x the time of %s; the limit is %.2f\n", calls[guard->call].name,
-           size.n, size.block, ratio, peers[guard->peer].name, guard->most);
+    put_title(title, &calls[guard->call], size);
+    printf("WARNING: %s takes %.3f x the time of %s; the limit is %.2f\n", title, ratio, peers[guard->peer].name,
+           guard->most);
     return 1;
 }
 
-void warn(ratio_table ratios)
+int warn(ratio_table ratios)
 {
     int warnings = 0;
     for (size_t g = 0; g < sizeof guards / sizeof *guards; g++) {
@@ -35,6 +46,5 @@ void warn(ratio_table ratios)
         for (size_t s = 0; s < call->size_count; s++)
             warnings += warn_one(&guards[g], call->sizes[s], ratios[guards[g].call][s][guards[g].peer]);
     }
-    if (warnings == 0)
-        puts("All guarded ratios are within their limits.");
+    return warnings;
 }

@@ -7,30 +7,38 @@
 
 struct size {
     size_t n, block;
+    /* Which map of maps.h is timed. */
+    size_t map;
 };
 
+enum { SHEET_BYTES = 98 };
+
 struct input {
-    size_t n, block;
-    /* Bytes in the array. */
-    size_t bytes;
-    uint8_t *array;
+    struct size size;
+    /* Bytes in the array, and in the map. */
+    size_t bytes, disks;
+    uint8_t *array, *map;
     /* The new block of a write, and its disk. */
     uint8_t *data;
     size_t disk;
     /* What the last call returned and gave. */
     uint32_t status;
-    size_t stripe;
+    size_t stripe, count;
+    uint8_t *sheet;
 };
 
 /* Buffers for the largest size, aligned to 64 bytes; the program ends where there is no memory. */
 void input_open(struct input *input);
 void input_close(struct input *input);
 
-/* Takes a size, and fills the array and the new block with random bytes. */
+/* Takes a size, fills the array and the new block with random bytes, and draws the map. */
 void input_resize(struct input *input, struct size size);
 void input_fill(struct input *input);
 
-/* Memory for one largest array, and a block behind it, aligned to 64 bytes. */
+/* Fills the blocks of erased disks with random bytes. */
+void input_spoil(struct input *input);
+
+/* Memory for one largest array, and the smaller buffers behind it, aligned to 64 bytes. */
 uint8_t *largest_array(void);
 
 #endif

@@ -1,5 +1,9 @@
-/* The peer that calls Intel's ISA-L. It wants aligned buffers, so it takes part where blocks are multiples of 32. */
+/*
+ * The peer that calls Intel's ISA-L. It wants aligned buffers, so it takes part where blocks are multiples of 32. Its
+ * repairs are planned by the tuned peer.
+ */
 #include "peer.h"
+#include "rebuild.h"
 
 #include ISAL_HEADER
 
@@ -47,4 +51,22 @@ uint32_t isal_check(size_t n, size_t block, const uint8_t *array, size_t array_l
         c++;
     *stripe = r <= n ? r : FIRST_COLUMN + c;
     return NOT_SEALED;
+}
+
+static void repair(uint8_t *first, size_t step, size_t count, size_t own, size_t block)
+{
+    void *blocks[ACROSS_MAX];
+    size_t others = 0;
+    for (size_t k = 0; k < count; k++)
+        if (k != own)
+            blocks[others++] = first + k * step;
+    blocks[others] = first + own * step;
+    xor_gen((int)count, (int)block, blocks);
+}
+
+uint32_t isal_rebuild(size_t n, size_t block, uint8_t *array, size_t array_len, const uint8_t *map, size_t map_len,
+                      uint8_t *sheet, size_t sheet_len, size_t *count)
+{
+    return rebuild_by(tuned_plan, repair, isal_check, n, block, array, array_len, map, map_len, sheet, sheet_len,
+                      count);
 }

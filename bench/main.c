@@ -2,6 +2,7 @@
 #include "calls.h"
 #include "compare.h"
 #include "guards.h"
+#include "repairs.h"
 #include "timing.h"
 
 #include <stdio.h>
@@ -10,7 +11,8 @@ static void print_head(void)
 {
     puts("time(library) / time(peer): above 1 the peer is faster.");
     printf("Medians of %d samples, peers in turn in one process. Buffers are warm and not cleared.\n", SAMPLES);
-    puts("Peers test no argument. Check is timed on a sealed array.");
+    puts("Peers test no argument. Check is timed on a sealed array, rebuild with row 0 and column 0 erased.");
+    puts("Plan: the plain loops look at all disks again for each repair, the other peers keep counters for stripes.");
     if (calls[SEAL].has(&peers[ISAL]))
         puts("ISA-L: xor_gen and xor_check as it chooses them for this machine, where B is a multiple of 32.");
     else
@@ -22,19 +24,33 @@ static void print_head(void)
 static void measure(const struct call *call, struct input *input, double ratios[PEERS])
 {
     double medians[PEERS];
+    char title[TITLE_MAX];
+    put_title(title, call, input->size);
     time_peers(call, input, medians);
     for (size_t p = LIBRARY + 1; p < PEERS; p++) {
         ratios[p] = medians[p] > 0 ? medians[LIBRARY] / medians[p] : 0;
         if (medians[p] > 0)
-            printf("%-6s n %2zu B %4zu  %-28s %6.2f\n", call->name, input->n, input->block, peers[p].name, ratios[p]);
+            printf("%-27s  %-28s %6.2f\n", title, peers[p].name, ratios[p]);
     }
     fflush(stdout);
+}
+
+static void measure_all(struct input *input, ratio_table ratios)
+{
+    for (size_t c = 0; c < CALLS; c++) {
+        for (size_t s = 0; s < calls[c].size_count; s++) {
+            input_resize(input, calls[c].sizes[s]);
+            calls[c].prepare(input, 0);
+            measure(&calls[c], input, ratios[c][s]);
+        }
+    }
 }
 
 int main(void)
 {
     static ratio_table ratios;
     struct input input;
+    int warnings;
     if (!peers_agree()) {
         puts("Nothing is timed.");
         return 1;
@@ -42,15 +58,13 @@ int main(void)
     puts("All peers give the library's results.");
     print_head();
     input_open(&input);
-    for (size_t c = 0; c < CALLS; c++) {
-        for (size_t s = 0; s < calls[c].size_count; s++) {
-            input_resize(&input, calls[c].sizes[s]);
-            calls[c].prepare(&input, 0);
-            measure(&calls[c], &input, ratios[c][s]);
-        }
-    }
+    measure_all(&input, ratios);
+    puts("");
+    warnings = compare_places(&input);
     input_close(&input);
     puts("");
-    warn(ratios);
+    warnings += warn(ratios);
+    if (warnings == 0)
+        puts("All guarded ratios are within their limits.");
     return 0;
 }

@@ -12,6 +12,10 @@ typedef uint32_t seal_call(size_t n, size_t block, uint8_t *array, size_t array_
 typedef uint32_t check_call(size_t n, size_t block, const uint8_t *array, size_t array_len, size_t *stripe);
 typedef uint32_t write_call(size_t n, size_t block, uint8_t *array, size_t array_len, size_t disk,
                             const uint8_t *data, size_t data_len);
+typedef uint32_t plan_call(size_t n, const uint8_t *map, size_t map_len, uint8_t *sheet, size_t sheet_len,
+                           size_t *count);
+typedef uint32_t rebuild_call(size_t n, size_t block, uint8_t *array, size_t array_len, const uint8_t *map,
+                              size_t map_len, uint8_t *sheet, size_t sheet_len, size_t *count);
 
 struct peer {
     const char *name;
@@ -23,6 +27,8 @@ struct peer {
     seal_call *seal;
     check_call *check;
     write_call *write;
+    plan_call *plan;
+    rebuild_call *rebuild;
 };
 
 enum { LIBRARY, PLAIN, TUNED, NATIVE, RUST, ISAL, ISAL_SSE, READ, COPY, PEERS };
@@ -30,13 +36,17 @@ enum { LIBRARY, PLAIN, TUNED, NATIVE, RUST, ISAL, ISAL_SSE, READ, COPY, PEERS };
 /* Where ISA-L is not installed, its peers have no call. */
 extern const struct peer peers[PEERS];
 
-/* The straightforward peer also makes the sealed arrays on which check is timed. */
+/* The straightforward peer also makes the sealed arrays on which check and rebuild are timed. */
 seal_call plain_seal;
 
-/* What check says of an array, in the numbers of the C interface. */
-enum { SEALED = 0, NOT_SEALED = 64, FIRST_COLUMN = 16 };
+/* The tuned peer also plans for those that only differ in how they sum. */
+plan_call tuned_plan;
 
-/* The largest array: disks along a side, parity disks included, and bytes in a block. */
-enum { ACROSS_MAX = 16, BLOCK_MAX = 4096 };
+/* What the calls return besides 0, and the stripe of column 0, in the numbers of the C interface. */
+enum { SEALED = 0, FATAL = 6, CONTRADICTORY = 7, NOT_SEALED = 64, FIRST_COLUMN = 16 };
+
+/* The largest array: disks along a side, parity disks included, all disks, and bytes in a block. Stripe numbers are
+   below STRIPES. */
+enum { ACROSS_MAX = 16, DISKS_MAX = 256, BLOCK_MAX = 4096, STRIPES = 32 };
 
 #endif

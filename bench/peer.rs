@@ -1,10 +1,15 @@
 //! The Rust peer: slices and iterators, as one writes them in Rust, compiled for release.
 
+mod planner;
+
+use planner::{plan, Planned};
 use std::slice::{from_raw_parts, from_raw_parts_mut};
 
 const FIRST_COLUMN: usize = 16;
+const FATAL: u32 = 6;
+const CONTRADICTORY: u32 = 7;
 const NOT_SEALED: u32 = 64;
-/// Check sums this many bytes at a time.
+/// Check and rebuild sum this many bytes at a time.
 const STRETCH: usize = 256;
 
 fn xor_into(sum: &mut [u8], bytes: &[u8]) {
@@ -49,6 +54,14 @@ fn is_zero(array: &[u8], first: usize, step: usize, count: usize, block: usize) 
     })
 }
 
+/// The lowest stripe whose sum is not zero.
+fn lowest_stripe(array: &[u8], n: usize, block: usize) -> Option<usize> {
+    let row_len = (n + 1) * block;
+    let row = (0..=n).find(|r| !is_zero(array, r * row_len, block, n + 1, block));
+    let column = || (0..=n).find(|c| !is_zero(array, c * block, row_len, n + 1, block)).map(|c| FIRST_COLUMN + c);
+    row.or_else(column)
+}
+
 /// # Safety
 /// The array is valid for its length, which is that of n and block; the stripe is valid.
 #[no_mangle]
@@ -59,11 +72,7 @@ pub unsafe extern "C" fn rust_check(
     array_len: usize,
     stripe: *mut usize,
 ) -> u32 {
-    let array = from_raw_parts(array, array_len);
-    let row_len = (n + 1) * block;
-    let row = (0..=n).find(|r| !is_zero(array, r * row_len, block, n + 1, block));
-    let column = || (0..=n).find(|c| !is_zero(array, c * block, row_len, n + 1, block)).map(|c| FIRST_COLUMN + c);
-    match row.or_else(column) {
+    match lowest_stripe(from_raw_parts(array, array_len), n, block) {
         Some(lowest) => {
             *stripe = lowest;
             NOT_SEALED
@@ -101,5 +110,80 @@ pub unsafe extern "C" fn rust_write(
         *q ^= difference;
         *s ^= difference;
     }
+    0
+}
+
+/// # Safety
+/// The map and the sheet are valid for their lengths, which are that of n and 98; the count is valid.
+#[no_mangle]
+pub unsafe extern "C" fn rust_plan(
+    n: usize,
+    map: *const u8,
+    map_len: usize,
+    sheet: *mut u8,
+    sheet_len: usize,
+    count: *mut usize,
+) -> u32 {
+    let (status, number) = match plan(n + 1, from_raw_parts(map, map_len), from_raw_parts_mut(sheet, sheet_len)) {
+        Planned::Repairs(made) => (0, made),
+        Planned::Fatal(lost) => (FATAL, lost),
+    };
+    *count = number;
+    status
+}
+
+/// The block of a disk becomes the sum of the others of its stripe.
+fn repair(array: &mut [u8], n: usize, block: usize, disk: usize, stripe: usize) {
+    let side = n + 1;
+    let (first, step, own) = match stripe.checked_sub(FIRST_COLUMN) {
+        None => (stripe * side * block, block, disk % side),
+        Some(column) => (column * block, side * block, disk / side),
+    };
+    for at in (0..block).step_by(STRETCH) {
+        let width = STRETCH.min(block - at);
+        let mut space = [0; STRETCH];
+        let sum = &mut space[..width];
+        for k in (0..side).filter(|&k| k != own) {
+            xor_into(sum, &array[first + k * step + at..][..width]);
+        }
+        array[disk * block + at..][..width].copy_from_slice(sum);
+    }
+}
+
+/// # Safety
+/// The array, the map and the sheet are valid for their lengths, which are those of n and block, and 98; the count is
+/// valid.
+#[no_mangle]
+pub unsafe extern "C" fn rust_rebuild(
+    n: usize,
+    block: usize,
+    array: *mut u8,
+    array_len: usize,
+    map: *const u8,
+    map_len: usize,
+    sheet: *mut u8,
+    sheet_len: usize,
+    count: *mut usize,
+) -> u32 {
+    let array = from_raw_parts_mut(array, array_len);
+    let map = from_raw_parts(map, map_len);
+    let sheet = from_raw_parts_mut(sheet, sheet_len);
+    let made = match plan(n + 1, map, sheet) {
+        Planned::Repairs(made) => made,
+        Planned::Fatal(lost) => {
+            *count = lost;
+            return FATAL;
+        }
+    };
+    for record in sheet[2..].chunks_exact(3).take(made) {
+        repair(array, n, block, record[0].into(), record[1].into());
+    }
+    if lowest_stripe(array, n, block).is_some() {
+        let disks = array.chunks_exact_mut(block).zip(map);
+        disks.filter(|(_, &erased)| erased != 0).for_each(|(disk, _)| disk.fill(0));
+        sheet.fill(0);
+        return CONTRADICTORY;
+    }
+    *count = made;
     0
 }

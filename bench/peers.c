@@ -5,17 +5,19 @@
 seal_call tuned_seal, native_seal, rust_seal, isal_seal, isal_sse_seal, read_seal, copy_seal;
 check_call plain_check, tuned_check, native_check, rust_check, isal_check, read_check, copy_check;
 write_call plain_write, tuned_write, native_write, rust_write, read_write, copy_write;
+plan_call plain_plan, rust_plan;
+rebuild_call plain_rebuild, tuned_rebuild, native_rebuild, rust_rebuild, isal_rebuild, read_rebuild, copy_rebuild;
 
 const struct peer peers[PEERS] = {
-    [LIBRARY] = {"library", 1, 0, raid2d_seal, raid2d_check, raid2d_write},
-    [PLAIN] = {"gcc -O3 plain loops", 1, 0, plain_seal, plain_check, plain_write},
-    [TUNED] = {"gcc -O3 tuned", 1, 0, tuned_seal, tuned_check, tuned_write},
-    [NATIVE] = {"gcc -O3 -march=native tuned", 1, 0, native_seal, native_check, native_write},
-    [RUST] = {"Rust release", 1, 0, rust_seal, rust_check, rust_write},
+    [LIBRARY] = {"library", 1, 0, raid2d_seal, raid2d_check, raid2d_write, raid2d_plan, raid2d_rebuild},
+    [PLAIN] = {"gcc -O3 plain loops", 1, 0, plain_seal, plain_check, plain_write, plain_plan, plain_rebuild},
+    [TUNED] = {"gcc -O3 tuned", 1, 0, tuned_seal, tuned_check, tuned_write, tuned_plan, tuned_rebuild},
+    [NATIVE] = {"gcc -O3 -march=native tuned", 1, 0, native_seal, native_check, native_write, NULL, native_rebuild},
+    [RUST] = {"Rust release", 1, 0, rust_seal, rust_check, rust_write, rust_plan, rust_rebuild},
 #ifdef ISAL_HEADER
-    [ISAL] = {"ISA-L", 32, 0, isal_seal, isal_check, NULL},
-    [ISAL_SSE] = {"ISA-L xor_gen_sse", 32, 0, isal_sse_seal, NULL, NULL},
+    [ISAL] = {"ISA-L", 32, 0, isal_seal, isal_check, NULL, NULL, isal_rebuild},
+    [ISAL_SSE] = {"ISA-L xor_gen_sse", 32, 0, isal_sse_seal, NULL, NULL, NULL, NULL},
 #endif
-    [READ] = {"one SSE2 read (for scale)", 1, 1, read_seal, read_check, read_write},
-    [COPY] = {"one memcpy (for scale)", 1, 1, copy_seal, copy_check, copy_write},
+    [READ] = {"one SSE2 read (for scale)", 1, 1, read_seal, read_check, read_write, NULL, read_rebuild},
+    [COPY] = {"one memcpy (for scale)", 1, 1, copy_seal, copy_check, copy_write, NULL, copy_rebuild},
 };

@@ -1,5 +1,6 @@
 /* The peer that a C programmer writes first: byte loops over whole blocks, summed in place. */
 #include "peer.h"
+#include "rebuild.h"
 
 #include <string.h>
 
@@ -71,4 +72,21 @@ uint32_t plain_write(size_t n, size_t block, uint8_t *array, size_t array_len, s
     xor_into(array + (n * (n + 1) + c) * block, difference, block);
     xor_into(array + (n * (n + 1) + n) * block, difference, block);
     return 0;
+}
+
+static void repair(uint8_t *first, size_t step, size_t count, size_t own, size_t block)
+{
+    memset(first + own * step, 0, block);
+    for (size_t k = 0; k < count; k++)
+        if (k != own)
+            xor_into(first + own * step, first + k * step, block);
+}
+
+plan_call plain_plan;
+
+uint32_t plain_rebuild(size_t n, size_t block, uint8_t *array, size_t array_len, const uint8_t *map, size_t map_len,
+                       uint8_t *sheet, size_t sheet_len, size_t *count)
+{
+    return rebuild_by(plain_plan, repair, plain_check, n, block, array, array_len, map, map_len, sheet, sheet_len,
+                      count);
 }

@@ -1,6 +1,7 @@
 #define _POSIX_C_SOURCE 200112L
 
 #include "timing.h"
+#include "maps.h"
 
 #include <stdlib.h>
 #include <time.h>
@@ -40,20 +41,34 @@ static int by_value(const void *a, const void *b)
     return (x > y) - (x < y);
 }
 
+static double median_of(double samples[SAMPLES])
+{
+    qsort(samples, SAMPLES, sizeof samples[0], by_value);
+    return samples[SAMPLES / 2];
+}
+
+static double samples[PEERS][SAMPLES];
+
 void time_peers(const struct call *call, struct input *input, double medians[PEERS])
 {
-    static double samples[PEERS][SAMPLES];
-    struct size size = {input->n, input->block};
     size_t repeats = repeats_for(call, input);
     for (size_t i = 0; i < SAMPLES; i++)
         for (size_t p = 0; p < PEERS; p++)
-            if (takes_part(&peers[p], call, size))
+            if (takes_part(&peers[p], call, input->size))
                 samples[p][i] = sample(call, &peers[p], input, repeats);
-    for (size_t p = 0; p < PEERS; p++) {
-        medians[p] = 0;
-        if (!takes_part(&peers[p], call, size))
-            continue;
-        qsort(samples[p], SAMPLES, sizeof samples[p][0], by_value);
-        medians[p] = samples[p][SAMPLES / 2];
+    for (size_t p = 0; p < PEERS; p++)
+        medians[p] = takes_part(&peers[p], call, input->size) ? median_of(samples[p]) : 0;
+}
+
+void time_maps(const struct call *call, struct input *input, const size_t *kinds, size_t count, double *medians)
+{
+    size_t repeats = repeats_for(call, input);
+    for (size_t i = 0; i < SAMPLES; i++) {
+        for (size_t k = 0; k < count; k++) {
+            draw_map(kinds[k], input->size.n, input->map);
+            samples[k][i] = sample(call, &peers[LIBRARY], input, repeats);
+        }
     }
+    for (size_t k = 0; k < count; k++)
+        medians[k] = median_of(samples[k]);
 }

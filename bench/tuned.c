@@ -3,6 +3,7 @@
  * knows to overlap nothing, and row n is summed from whole rows. It is compiled twice, as `tuned` and as `native`.
  */
 #include "peer.h"
+#include "rebuild.h"
 
 #include <string.h>
 
@@ -109,4 +110,39 @@ uint32_t NAME(PEER, write)(size_t n, size_t block, uint8_t *array, size_t array_
     store(array + disk * block, array + (r * side + n) * block, array + (n * side + c) * block,
           array + (n * side + n) * block, data, block);
     return 0;
+}
+
+/* Sets `sum` to the sum of all stretches but number `own`. */
+static inline void sum_others(uint8_t sum[STRETCH], const uint8_t *first, size_t step, size_t count, size_t own,
+                              size_t width)
+{
+    size_t start = own == 0 ? 1 : 0;
+    memcpy(sum, first + start * step, width);
+    for (size_t k = start + 1; k < count; k++) {
+        if (k == own)
+            continue;
+        for (size_t i = 0; i < width; i++)
+            sum[i] ^= first[k * step + i];
+    }
+}
+
+static void repair(uint8_t *first, size_t step, size_t count, size_t own, size_t block)
+{
+    uint8_t sum[STRETCH], *to = first + own * step;
+    size_t at = 0;
+    for (; block - at >= STRETCH; at += STRETCH) {
+        sum_others(sum, first + at, step, count, own, STRETCH);
+        memcpy(to + at, sum, STRETCH);
+    }
+    if (at < block) {
+        sum_others(sum, first + at, step, count, own, block - at);
+        memcpy(to + at, sum, block - at);
+    }
+}
+
+uint32_t NAME(PEER, rebuild)(size_t n, size_t block, uint8_t *array, size_t array_len, const uint8_t *map,
+                             size_t map_len, uint8_t *sheet, size_t sheet_len, size_t *count)
+{
+    return rebuild_by(tuned_plan, repair, NAME(PEER, check), n, block, array, array_len, map, map_len, sheet,
+                      sheet_len, count);
 }

@@ -5,19 +5,12 @@ use mathlib.Core.Bool.{true, false, and-false}
 use mathlib.Core.List.{List, []}
 use Prim.Native.Nat.{ℕ, _+_, _*_, _-_, _≤_, _<_}
 use native.Mathlib.Nat.{add-zero, add-comm, add-sub-cancel-left}
-use borrow.Author.Tests.{eq-eqb, ne-eqb, eqb-true, lt-ltb, le-ltb}
-use lib.Dec.{eqb}
+use borrow.Author.Tests.{eq-eqb, ne-eqb, lt-ltb, le-ltb}
 use lib.ListN.{length, getD, take, drop}
 use Rattle.model.specs.Grid.{disks, mapFits}
 use Rattle.model.specs.Refusal.{refusal, arrayTests}
 use Rattle.model.specs.Array.{canLook, lookOffset, lookLength}
 use Rattle.model.specs.declared.Size.{Size}
-use Rattle.model.proofs.Fold.{and-left}
-
--- A map that fits has a byte for each disk.
-pub map-length : (z : Size) (m : List ℕ) → mapFits z m ≡ true → length m ≡ disks z
-unfolding mapFits
-map-length z m e = eqb-true (length m) (disks z) (and-left (eqb (length m) (disks z)) _ e)
 
 module _ (z : Size) (B : ℕ) (a m : List ℕ) (d : ℕ) where
   -- What look promises of the bytes and of the place that it hands back, where the array stands at p.

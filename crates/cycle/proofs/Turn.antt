@@ -15,13 +15,13 @@ use Rattle.model.specs.Cycle.{Paired, partner, otherThan, firstOf, trace, lowes
 use Rattle.model.specs.Sheet.{sheetOf}
 use Rattle.model.specs.declared.Size.{Size}
 use Rattle.model.proofs.Fold.{lowest-is}
-use Rattle.model.proofs.Grid.{size-fits, grid-disks, gridOf-two, disks-bound, across-bound, row-within}
+use Rattle.model.proofs.Grid.{size-fits, grid-disks, gridOf-two, disks-bound, across-bound, row-within, on-row}
 use Rattle.model.proofs.Degree.{on-bound}
 use Rattle.model.proofs.Walk.{Step, next, partner-is, next-step}
+use Rattle.model.proofs.Sheets.{sheet-length}
 use Rattle.layout.specs.Stripe.{rowStripe}
-use Rattle.layout.proofs.Runs.{on-row}
 use Rattle.sheet.specs.Record.{appended}
-use Rattle.sheet.proofs.Appended.{append-record, sheet-length}
+use Rattle.sheet.proofs.Appended.{append-record}
 
 -- ---- one step of the definition
 module _ (L : Layout) (c : ℕ → Bool) (first k : ℕ) (r : Entry) where
@@ -61,7 +61,7 @@ module _ (z : Size) (fits : sizeFits z ≡ true) (set : List ℕ) (d s : ℕ)
   unfolding rowStripe
   on-first l =
       let low : d / across z < 16 = let h = size-fits z fits .rowsHigh in let b = row-within z d l in omega arith in
-      ap (on (gridOf z) d) row ∙ on-row z (size-fits z fits) d (d / across z) low ∙ eq-eqb (d / across z) (d / across z) refl
+      ap (on (gridOf z) d) row ∙ on-row z d (d / across z) low ∙ eq-eqb (d / across z) (d / across z) refl
 
   in-first : d < gridOf z .disks → erasures set d ≡ true
   unfolding lowestOf

@@ -1,39 +1,20 @@
 -- Where the disks of a stripe stand: the laws of `disksOn` and `placeOn`.
 -- Assumes nothing.
-use mathlib.Core.Path.{_≡_, refl, sym, _∙_, ap, ap₂, subst}
-use mathlib.Core.Bool.{Bool, true, false, _||_, or-false}
+use mathlib.Core.Path.{_≡_, refl, sym, _∙_, ap, subst}
+use mathlib.Core.Bool.{Bool, true, false}
 use mathlib.Core.Logic.{⊎-elim}
 use Prim.Native.Nat.{ℕ, _+_, _*_, _-_, _/_, _%_, _≤_, _<_}
 use native.Mathlib.Nat.{add-sub-of-le, lt-trans, lt-of-mul-lt-mul-right, eq-of-mul-eq-mul-right}
 use native.Mathlib.Omega.{arith}
-use borrow.Author.Tests.{eq-eqb, ne-eqb, eqb-true, lt-ltb, le-ltb}
-use lib.Dec.{eqb}
+use borrow.Author.Tests.{eq-eqb, eqb-true, lt-ltb, le-ltb}
 use Rattle.model.specs.Fold.{xsum, lowest}
-use Rattle.model.specs.Stripes.{among, on, sumOver}
-use Rattle.model.specs.Grid.{grid, rows, columns, across, gridOf, disks, diskAt}
+use Rattle.model.specs.Stripes.{on, sumOver}
+use Rattle.model.specs.Grid.{rows, columns, across, gridOf, disks, diskAt}
 use Rattle.model.specs.declared.Size.{Size}
-use Rattle.model.proofs.Fold.{same-test, by-cases, lt-or-le, xsum-ext, lowest-found, lowest-end}
-use Rattle.model.proofs.Grid.{Fits, across-positive, row-over, column-over, column-inside, row-of, column-of, disk-below, disk-is, row-within, column-within}
+use Rattle.model.proofs.Fold.{by-cases, lt-or-le, xsum-ext, lowest-found, lowest-end}
+use Rattle.model.proofs.Grid.{Fits, across-positive, on-row, on-column, row-over, column-over, column-inside, row-of, column-of, disk-below, disk-is, row-within, column-within}
 use Rattle.layout.specs.Stripe.{disksOn, placeOn}
 use Rattle.layout.specs.declared.Run.{Run}
-
--- ---- which disks lie on a row and on a column
-module _ (z : Size) (fits : Fits z) where
-  pub on-row : (d r : ℕ) → r < 16 → on (gridOf z) d r ≡ eqb r (d / across z)
-  unfolding on among gridOf grid across
-  on-row d r l =
-      ap (λ (b : Bool). eqb r (d / across z) || (b || false)) (ne-eqb r (16 + d % across z) (λ q. omega arith))
-      ∙ or-false (eqb r (d / across z))
-
-  pub on-column : (d c : ℕ) → d < disks z → on (gridOf z) d (16 + c) ≡ eqb c (d % across z)
-  unfolding on among gridOf grid across
-  on-column d c l =
-      let row : d / across z ≤ rows z = row-within z d l in
-      ap₂ (λ (a b : Bool). a || (b || false)) (ne-eqb (16 + c) (d / across z) (λ q. let h = fits .rowsHigh in omega arith))
-      (same-test (eqb (16 + c) (16 + d % across z)) (eqb c (d % across z))
-      (λ e. let q = eqb-true (16 + c) (16 + d % across z) e in eq-eqb c (d % across z) (omega arith))
-      (λ e. eq-eqb (16 + c) (16 + d % across z) (ap (λ (k : ℕ). 16 + k) (eqb-true c (d % across z) e))))
-      ∙ or-false (eqb c (d % across z))
 
 -- ---- the disks of a stripe as a run
 
@@ -55,12 +36,12 @@ module _ (z : Size) (fits : Fits z) where
         apart = omega arith;
         inside = λ k h. subst (λ (d : ℕ). d < disks z) (sym (at k)) (disk-below z r k l (omega arith));
         here = λ k h.
-            ap (λ (d : ℕ). on (gridOf z) d r) (at k) ∙ on-row z fits (diskAt z r k) r low
+            ap (λ (d : ℕ). on (gridOf z) d r) (at k) ∙ on-row z (diskAt z r k) r low
             ∙ eq-eqb r (diskAt z r k / across z) (sym (row-of z r k h));
         within = λ d h o. let b = column-within z d in omega arith;
         placed = λ d h o.
             disk-is z d
-            ∙ ap (λ (i : ℕ). diskAt z i (d % across z)) (sym (eqb-true r (d / across z) (sym (on-row z fits d r low) ∙ o)))
+            ∙ ap (λ (i : ℕ). diskAt z i (d % across z)) (sym (eqb-true r (d / across z) (sym (on-row z d r low) ∙ o)))
             ∙ sym (at (d % across z));
         summed = λ f. row-over z fits f r l ∙ xsum-ext (across z) (λ k h. ap f (sym (at k)));
       }
@@ -99,7 +80,7 @@ module _ (z : Size) (fits : Fits z) where
     where
       row : s < 16 → RunOf z s (disksOn z s) (λ d. placeOn z d s)
       row h =
-          let q = eqb-true s (d / across z) (sym (on-row z fits d s h) ∙ o) in
+          let q = eqb-true s (d / across z) (sym (on-row z d s h) ∙ o) in
           let b = row-within z d l in
           rw (lt-ltb s 16 h) (row-run s (omega arith))
 

@@ -14,6 +14,7 @@ use Rattle.model.specs.Grid.{square, rows, columns, gridOf, sizeFits}
 use Rattle.model.specs.Refusal.{refusal, arrayTests}
 use Rattle.model.specs.Repair.{erasures, Entry, Peels, Stuck, repairs, after, residual, fatal, rebuilt, consistent, Agree, Belongs, Ambiguous}
 use Rattle.model.specs.Cycle.{Cycle, Loop}
+use Rattle.model.specs.Sheet.{sheetOf, SheetBytes}
 use Rattle.model.specs.Rebuild.{planTests, mapOutcome, mapSheet, planOutcome, planSheet, rebuildTests, rebuildRefusal, repairedArray, choose, rebuildOutcome, rebuildArray, rebuildSheet}
 use Rattle.model.specs.Demand3.{Demand3, resultsOf}
 use Rattle.model.specs.declared.Size.{Size}
@@ -25,8 +26,10 @@ use Rattle.model.proofs.Peel.{residual-stuck, order-free-all, repairs-c
 use Rattle.model.proofs.Degree.{grid-repairs}
 use Rattle.model.proofs.Core.{ambiguous}
 use Rattle.model.proofs.Trace.{cycle-fatal, shown}
-use Rattle.model.proofs.Loop.{loop-bound}
+use Rattle.model.proofs.Loop.{grid-fatal-loop, loop-cycle, loop-bound}
 use Rattle.model.proofs.Restore.{two-bounded, whole-inside, judge, restored-is, unique}
+use Rattle.model.proofs.Sheets.{sheet-is}
+use Rattle.model.proofs.Contents.{same-outcome, same-sheet, same-array}
 use Rattle.model.proofs.Accept.{plan-accepts, rebuild-accepts}
 use Rattle.model.proofs.Outcomes.{when-fatal, when-restored, when-contradicted}
 
@@ -100,16 +103,33 @@ module _ (L : Layout) (two : TwoStripes L) (e : ℕ → Bool) where
     unfolding whole
     all-judged B a = judge L (two-bounded L two) e fine (whole B) (whole-inside B) a
 
--- ---- the grid: how many records a sheet needs
+-- ---- the grid
+
+-- There a loss is fatal exactly if a loop of paper 01 exists.
+pub fatal-loop : (z : Size) → sizeFits z ≡ true → (e : ℕ → Bool) → (fatal (gridOf z) e ≡ true) ↔ ((w : List Entry) × Loop z e w)
+fatal-loop = grid-fatal-loop
 
 -- At most rows + columns + 1 repairs, of the data rows and columns, and at most one disk more in a loop.
 pub repairs-few : (z : Size) → sizeFits z ≡ true → (e : ℕ → Bool) (w : List Entry) → Peels (gridOf z) e w → length w ≤ rows z + columns z + 1
 repairs-few z fits e w peels = let few = grid-repairs z fits e w peels in omega arith
 
 pub loop-few : (z : Size) → sizeFits z ≡ true → (e : ℕ → Bool) (w : List Entry) → Loop z e w → length w ≤ rows z + columns z + 2
-loop-few z fits e w loop = let few = loop-bound z fits e w (loop .cycle) in omega arith
+loop-few z fits e w loop = let few = loop-bound z fits e w (loop-cycle z fits e w loop) in omega arith
 
--- ---- the demand
+-- The bytes of a sheet of at most 32 records are those of paper 01.
+pub sheet-is-written : (kind : ℕ) (w : List Entry) → length w ≤ 32 → (s : List ℕ) → (s ≡ sheetOf kind w) ↔ SheetBytes kind w s
+sheet-is-written = sheet-is
+
+-- ---- the calls
+
+-- The contents of an erased block count for nothing: two arrays with the same survivors get the same answer, the same sheet and,
+-- unless the loss is fatal, the same array.
+pub contents-free : (z : Size) (B : ℕ) (a b m sheet : List ℕ)
+    → refusal (rebuildTests z B (length a) m (length sheet)) ≡ 0 → length b ≡ length a → Agree (gridOf z) (whole B) (erasures m) a b
+    → (rebuildOutcome z B b m sheet ≡ rebuildOutcome z B a m sheet) × (rebuildSheet z B b m sheet ≡ rebuildSheet z B a m sheet)
+    × (fatal (gridOf z) (erasures m) ≡ false → rebuildArray z B b m sheet ≡ rebuildArray z B a m sheet)
+contents-free z B a b m sheet ok long same =
+    (same-outcome z B a b m sheet ok long same, same-sheet z B a b m sheet ok long same, same-array z B a b m sheet ok long same)
 
 -- Demand 3 holds of what plan and rebuild are defined to give, for every input that the refusals before 6 let through.
 pub demand3 : (z : Size) (B : ℕ) (a m s₁ s₂ : List ℕ) → Bytes a

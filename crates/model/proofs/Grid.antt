@@ -1,7 +1,7 @@
 -- The laws of the grid: what its stripes sum, which sizes fit, and how disks and bytes are counted.
 -- Assumes nothing.
 use mathlib.Core.Path.{_≡_, refl, sym, _∙_, ap, ap₂, subst}
-use mathlib.Core.Bool.{Bool, true, false, _&&_, _||_}
+use mathlib.Core.Bool.{Bool, true, false, _&&_, _||_, or-false}
 use mathlib.Core.List.{List}
 use Prim.Native.Nat.{ℕ, _+_, _*_, _/_, _%_, _-_, _≤_, _<_}
 use native.Mathlib.Nat.{mul-le-mul, zero-add, mul-zero, add-sub-of-le, le-of-lt, lt-of-not-le, mod-lt, div-lt-iff-lt-mul, div-add-mod', pos-of-ne-zero}
@@ -13,9 +13,9 @@ use lib.Dec.{eqb, leb, ltb}
 use lib.ListN.{length, getD, List·getD-eq-default}
 use Rattle.model.specs.Fold.{xsum, gate}
 use Rattle.model.specs.Stripes.{TwoStripes, among, on, Stretch, whole, byte, sumOver, stripeSum}
-use Rattle.model.specs.Grid.{grid, rows, columns, across, gridOf, disks, diskAt, isData, arrayBytes, arrayOf, sizeFits, blockFits}
+use Rattle.model.specs.Grid.{grid, rows, columns, across, gridOf, disks, diskAt, isData, arrayBytes, arrayOf, sizeFits, blockFits, mapFits}
 use Rattle.model.specs.declared.Size.{Size}
-use Rattle.model.proofs.Fold.{and-left, and-right, and-both, xsum-ext, xsum-zero, xsum-swap, xsum-mul, xsum-only, length-tabulate, getD-tabulate, list-is}
+use Rattle.model.proofs.Fold.{and-left, and-right, and-both, same-test, xsum-ext, xsum-zero, xsum-swap, xsum-mul, xsum-only, length-tabulate, getD-tabulate, list-is}
 
 -- ---- the stripes of a grid
 
@@ -256,6 +256,29 @@ module _ (z : Size) where
   pub data-below : (d : ℕ) → isData z d ≡ true → d < disks z
   data-below d e =
       subst (λ (k : ℕ). k < disks z) (sym (disk-is d)) (disk-below (d / across z) (d % across z) (le-of-lt (data-row d e)) (le-of-lt (data-column d e)))
+
+-- ---- which disks lie on a row and on a column
+module _ (z : Size) where
+  pub on-row : (d r : ℕ) → r < 16 → on (gridOf z) d r ≡ eqb r (d / across z)
+  unfolding on among gridOf grid across
+  on-row d r l =
+      ap (λ (b : Bool). eqb r (d / across z) || (b || false)) (ne-eqb r (16 + d % across z) (λ q. omega arith))
+      ∙ or-false (eqb r (d / across z))
+
+  pub on-column : Fits z → (d c : ℕ) → d < disks z → on (gridOf z) d (16 + c) ≡ eqb c (d % across z)
+  unfolding on among gridOf grid across
+  on-column fits d c l =
+      let row : d / across z ≤ rows z = row-within z d l in
+      ap₂ (λ (a b : Bool). a || (b || false)) (ne-eqb (16 + c) (d / across z) (λ q. let h = fits .rowsHigh in omega arith))
+      (same-test (eqb (16 + c) (16 + d % across z)) (eqb c (d % across z))
+      (λ e. let q = eqb-true (16 + c) (16 + d % across z) e in eq-eqb c (d % across z) (omega arith))
+      (λ e. eq-eqb (16 + c) (16 + d % across z) (ap (λ (k : ℕ). 16 + k) (eqb-true c (d % across z) e))))
+      ∙ or-false (eqb c (d % across z))
+
+-- A map that fits has a byte for each disk.
+pub map-length : (z : Size) (m : List ℕ) → mapFits z m ≡ true → length m ≡ disks z
+unfolding mapFits
+map-length z m e = eqb-true (length m) (disks z) (and-left (eqb (length m) (disks z)) _ e)
 
 -- ---- bytes
 

@@ -14,8 +14,10 @@ pub mod Seal
 pub mod Check
 pub mod Write
 pub mod Restore
+pub mod Contents
 pub mod Accept
 pub mod Demand2
+pub mod Sheets
 pub mod Outcomes
 pub mod Demand3
 pub mod Listings

@@ -1,26 +1,27 @@
--- Cycles in a grid are the loops of paper 01: rows and columns in turn, at least four disks, no more than rows and columns.
+-- Cycles in a grid and the loops of paper 01 are the same: rows and columns in turn, at least four disks. They have no more
+-- disks than there are rows and columns.
 -- Assumes nothing.
 use mathlib.Core.Path.{_≡_, refl, sym, _∙_, ap, ap₂, subst}
-use mathlib.Core.Bool.{Bool, true, false, _||_, false≢true}
-use mathlib.Core.Logic.{_⊎_, inl, inr, ⊎-elim}
+use mathlib.Core.Bool.{Bool, true, false}
+use mathlib.Core.Logic.{_↔_, _⊎_, inl, inr, ⊎-elim}
 use mathlib.Core.List.{List}
 use Prim.Native.Nat.{ℕ, zero, suc, _+_, _-_, _/_, _%_, _≤_, _<_}
-use native.Mathlib.Nat.{le-of-suc-le, add-left-cancel}
+use native.Mathlib.Nat.{le-of-suc-le, add-left-cancel, add-sub-of-le}
 use native.Mathlib.Omega.{arith}
 use borrow.Author.Tests.{eq-eqb, eqb-true, eqb-false}
 use lib.Dec.{eqb, ltb}
 use lib.ListN.{length}
 use Rattle.model.specs.Fold.{count}
-use Rattle.model.specs.Stripes.{Layout, TwoStripes, among, on}
-use Rattle.model.specs.Grid.{grid, rows, columns, across, gridOf, disks, diskAt, sizeFits}
+use Rattle.model.specs.Stripes.{Layout, TwoStripes, on}
+use Rattle.model.specs.Grid.{rows, columns, across, gridOf, disks, diskAt, sizeFits}
 use Rattle.model.specs.Repair.{Entry, fatal}
 use Rattle.model.specs.Cycle.{diskOf, stripeOf, following, Cycle, Loop, shownCycle}
 use Rattle.model.specs.declared.Size.{Size}
-use Rattle.model.proofs.Fold.{by-cases, lt-or-le}
-use Rattle.model.proofs.Grid.{Fits, size-fits, grid-disks, gridOf-two, disk-is, row-within}
+use Rattle.model.proofs.Fold.{by-cases, lt-or-le, count-ext}
+use Rattle.model.proofs.Grid.{Fits, size-fits, grid-disks, gridOf-two, disk-is, row-within, on-row, on-column}
 use Rattle.model.proofs.Degree.{count-other, degree, touched, touches, on-bound, grid-touched}
 use Rattle.model.proofs.Counts.{count-different}
-use Rattle.model.proofs.Trace.{following-last, following-inner, following-below, shown}
+use Rattle.model.proofs.Trace.{following-last, following-inner, following-is, following-below, cycle-fatal, shown}
 
 -- ---- the stripes of a cycle
 
@@ -66,55 +67,46 @@ module _ (L : Layout) (e : ℕ → Bool) (w : List Entry) (y : Cycle L e w) wher
       (λ i l. touches L e (diskOf w i) (stripeOf w i) (y .disk i l) (y .erased i l) (y .here i l))
       stripes-apart
 
-  -- And no more than are erased.
-  pub cycle-erased : length w ≤ count (L .disks) e
-  cycle-erased = count-different (length w) (L .disks) e (diskOf w) (y .disk) (y .erased) (y .different)
-
--- ---- rows and columns in turn
-
--- The stripes of a disk are its row and its column.
-module _ (z : Size) (d : ℕ) where
-  pub on-row : on (gridOf z) d (d / across z) ≡ true
-  unfolding on among gridOf grid across
-  on-row = ap (λ (b : Bool). b || (eqb (d / across z) (16 + d % across z) || false)) (eq-eqb (d / across z) (d / across z) refl)
-
-  pub row-or-column : (s : ℕ) → on (gridOf z) d s ≡ true → (s ≡ d / across z) ⊎ (s ≡ 16 + d % across z)
-  unfolding on among gridOf grid across
-  row-or-column s h = go (eqb s (d / across z)) (eqb s (16 + d % across z)) refl refl h
-    where
-      go : (a b : Bool) → eqb s (d / across z) ≡ a → eqb s (16 + d % across z) ≡ b → (a || (b || false)) ≡ true
-          → (s ≡ d / across z) ⊎ (s ≡ 16 + d % across z)
-      go true b p q h = inl (eqb-true s (d / across z) p)
-      go false true p q h = inr (eqb-true s (16 + d % across z) q)
-      go false false p q h = absurd (false≢true h)
-
-module _ (z : Size) (fits : sizeFits z ≡ true) (e : ℕ → Bool) (w : List Entry) (y : Cycle (gridOf z) e w) where
+-- ---- the stripes of a disk are its row and its column
+module _ (z : Size) (fits : sizeFits z ≡ true) (d : ℕ) (l : d < disks z) where
   -- Rows have numbers below 16.
-  row-small : (i : ℕ) → i < length w → diskOf w i / across z < 16
-  row-small i l =
-      let f : Fits z = size-fits z fits in
-      let r = row-within z (diskOf w i) (subst (λ (n : ℕ). diskOf w i < n) (grid-disks z) (y .disk i l)) in
+  row-small : d / across z < 16
+  row-small = let f : Fits z = size-fits z fits in let r = row-within z d l in omega arith
+
+  own-row : on (gridOf z) d (d / across z) ≡ true
+  own-row = on-row z d (d / across z) row-small ∙ eq-eqb (d / across z) (d / across z) refl
+
+  own-column : on (gridOf z) d (16 + d % across z) ≡ true
+  own-column = on-column z (size-fits z fits) d (d % across z) l ∙ eq-eqb (d % across z) (d % across z) refl
+
+  is-row : (s : ℕ) → on (gridOf z) d s ≡ true → s < 16 → s ≡ d / across z
+  is-row s h b = eqb-true s (d / across z) (sym (on-row z d s b) ∙ h)
+
+  is-column : (s : ℕ) → on (gridOf z) d s ≡ true → 16 ≤ s → s ≡ 16 + d % across z
+  is-column s h b =
+      let q : 16 + (s - 16) ≡ s = add-sub-of-le b in
+      let c = eqb-true (s - 16) (d % across z) (sym (on-column z (size-fits z fits) d (s - 16) l) ∙ ap (on (gridOf z) d) q ∙ h) in
       omega arith
 
-  is-row : (i : ℕ) → i < length w → (s : ℕ) → on (gridOf z) (diskOf w i) s ≡ true → s < 16 → s ≡ diskOf w i / across z
-  is-row i l s h b = ⊎-elim (λ q. q) (λ q. absurd (omega arith)) (row-or-column z (diskOf w i) s h)
-
-  is-column : (i : ℕ) → i < length w → (s : ℕ) → on (gridOf z) (diskOf w i) s ≡ true → 16 ≤ s → s ≡ 16 + diskOf w i % across z
-  is-column i l s h b = let r = row-small i l in ⊎-elim (λ q. absurd (omega arith)) (λ q. q) (row-or-column z (diskOf w i) s h)
+-- ---- a cycle of a grid is a loop: rows and columns in turn
+module _ (z : Size) (fits : sizeFits z ≡ true) (e : ℕ → Bool) (w : List Entry) (y : Cycle (gridOf z) e w) where
+  inside : (i : ℕ) → i < length w → diskOf w i < disks z
+  inside i l = subst (λ (n : ℕ). diskOf w i < n) (grid-disks z) (y .disk i l)
 
   -- A disk left along its row shares it with the next, which is left along its column, and the other way round.
   by-row : (i : ℕ) → i < length w → stripeOf w i < 16 → Turn (λ d. d / across z) (λ s. 16 ≤ s) w i
-  by-row = turn (gridOf z) e w y (λ d. d / across z) (λ s. s < 16) (λ s. 16 ≤ s) (λ s. lt-or-le s 16) is-row
+  by-row = turn (gridOf z) e w y (λ d. d / across z) (λ s. s < 16) (λ s. 16 ≤ s) (λ s. lt-or-le s 16) (λ i l. is-row z fits (diskOf w i) (inside i l))
 
   by-column : (i : ℕ) → i < length w → 16 ≤ stripeOf w i → Turn (λ d. 16 + d % across z) (λ s. s < 16) w i
   by-column =
-      turn (gridOf z) e w y (λ d. 16 + d % across z) (λ s. 16 ≤ s) (λ s. s < 16) (λ s. ⊎-elim inr inl (lt-or-le s 16)) is-column
+      turn (gridOf z) e w y (λ d. 16 + d % across z) (λ s. 16 ≤ s) (λ s. s < 16) (λ s. ⊎-elim inr inl (lt-or-le s 16))
+      (λ i l. is-column z fits (diskOf w i) (inside i l))
 
   -- The first is left along its row, the second along its column, and so on.
   in-turn : (i : ℕ) → i < length w → ((i % 2 ≡ 0) × (stripeOf w i < 16)) ⊎ ((i % 2 ≡ 1) × (16 ≤ stripeOf w i))
   in-turn zero l =
-      let low = y .lowerFirst (diskOf w 0 / across z) (on-row z (diskOf w 0)) in
-      let r = row-small 0 l in
+      let low = y .lowerFirst (diskOf w 0 / across z) (own-row z fits (diskOf w 0) (inside 0 l)) in
+      let r = row-small z fits (diskOf w 0) (inside 0 l) in
       inl (refl, omega arith)
   in-turn (suc i) l =
       let b : i < length w = le-of-suc-le l in
@@ -167,14 +159,32 @@ module _ (z : Size) (fits : sizeFits z ≡ true) (e : ℕ → Bool) (w : List En
           y .different 1 0 b a (disk-is z (diskOf w 1) ∙ ap₂ (diskAt z) row column ∙ sym (disk-is z (diskOf w 0))) in
           omega arith
 
+  -- The row and the column of each disk hold two of them.
+  two-in-row : (i : ℕ) → i < length w → count (length w) (λ j. eqb (diskOf w i / across z) (diskOf w j / across z)) ≡ 2
+  two-in-row i l =
+      let d : ℕ = diskOf w i in
+      count-ext (length w) (λ j k. sym (on-row z (diskOf w j) (d / across z) (row-small z fits d (inside i l))))
+      ∙ y .two i l (d / across z) (own-row z fits d (inside i l))
+
+  two-in-column : (i : ℕ) → i < length w → count (length w) (λ j. eqb (diskOf w i % across z) (diskOf w j % across z)) ≡ 2
+  two-in-column i l =
+      let d : ℕ = diskOf w i in
+      count-ext (length w) (λ j k. sym (on-column z (size-fits z fits) (diskOf w j) (d % across z) (inside j k)))
+      ∙ y .two i l (16 + d % across z) (own-column z fits d (inside i l))
+
   pub loop-is : Loop z e w
   loop-is =
       record {
-        cycle = y;
+        disk = inside;
+        erased = y .erased;
+        different = y .different;
         long = cycle-long;
         even = cycle-even;
         row = λ i l h. let t = row-turn i l h in (t .left, t .shared);
         column = λ i l h. let t = column-turn i l h in (t .left, add-left-cancel 16 (t .shared));
+        twoInRow = two-in-row;
+        twoInColumn = two-in-column;
+        lowestFirst = y .lowestFirst;
       }
 
   -- It has no more disks than there are rows and columns.
@@ -187,6 +197,92 @@ module _ (z : Size) (fits : sizeFits z ≡ true) (e : ℕ → Bool) (w : List En
   pub loop-fits : length w ≤ 32
   loop-fits = let f : Fits z = size-fits z fits in let b = loop-bound in omega arith
 
+-- ---- a loop is a cycle
+module _ (z : Size) (fits : sizeFits z ≡ true) (e : ℕ → Bool) (w : List Entry) (y : Loop z e w) where
+  -- A disk that is left along its row, or along its column, and the next disk.
+  record Leaves (Kind : ℕ → Type 0) (i : ℕ) : Type 0 where
+    kind : Kind (stripeOf w i)
+    here : on (gridOf z) (diskOf w i) (stripeOf w i) ≡ true
+    there : on (gridOf z) (diskOf w (following w i)) (stripeOf w i) ≡ true
+
+  leaves : (f : ℕ → ℕ) (Kind : ℕ → Type 0) → ((d : ℕ) → d < disks z → Kind (f d)) → ((d : ℕ) → d < disks z → on (gridOf z) d (f d) ≡ true)
+      → (i : ℕ) → i < length w → stripeOf w i ≡ f (diskOf w i) → f (diskOf w (following w i)) ≡ f (diskOf w i) → Leaves Kind i
+  leaves f Kind kinds own i l left shared =
+      let k : ℕ = following w i in
+      record {
+        kind = subst Kind (sym left) (kinds (diskOf w i) (y .disk i l));
+        here = ap (on (gridOf z) (diskOf w i)) left ∙ own (diskOf w i) (y .disk i l);
+        there = ap (on (gridOf z) (diskOf w k)) (left ∙ sym shared) ∙ own (diskOf w k) (y .disk k (following-below w i l));
+      }
+
+  leaves-row : (i : ℕ) → i < length w → i % 2 ≡ 0 → Leaves (λ s. s < 16) i
+  leaves-row i l h =
+      let (left, shared) = y .row i l h in
+      leaves (λ d. d / across z) (λ s. s < 16) (row-small z fits) (own-row z fits) i l left shared
+
+  leaves-column : (i : ℕ) → i < length w → i % 2 ≡ 1 → Leaves (λ s. 16 ≤ s) i
+  leaves-column i l h =
+      let (left, shared) = y .column i l h in
+      leaves (λ d. 16 + d % across z) (λ s. 16 ≤ s) (λ d k. omega arith) (own-column z fits) i l left (ap (λ (c : ℕ). 16 + c) shared)
+
+  -- Even and odd numbers take turns, also from the last to the first.
+  odd-next : (i : ℕ) → i < length w → i % 2 ≡ 0 → following w i % 2 ≡ 1
+  odd-next i l h = let n = y .even in ⊎-elim (λ p. absurd (omega (arith, p .0))) (λ p. omega (arith, p .1)) (following-is w i l)
+
+  even-next : (i : ℕ) → i < length w → i % 2 ≡ 1 → following w i % 2 ≡ 0
+  even-next i l h = ⊎-elim (λ p. omega (arith, p .1)) (λ p. omega (arith, p .1)) (following-is w i l)
+
+  by-turn : (P : Type 0) (i : ℕ) → (i % 2 ≡ 0 → P) → (i % 2 ≡ 1 → P) → P
+  by-turn P i even odd =
+      by-cases (λ (b : Bool). P) (eqb (i % 2) 0) (λ q. even (eqb-true (i % 2) 0 q)) (λ q. let n = eqb-false (i % 2) 0 q in odd (omega arith))
+
+  turns-off : (i : ℕ) → i < length w → stripeOf w (following w i) ≡ stripeOf w i → ⊥
+  turns-off i l q =
+      let k : ℕ = following w i in
+      let b : k < length w = following-below w i l in
+      by-turn ⊥ i
+      (λ h. let r = leaves-row i l h .kind in let c = leaves-column k b (odd-next i l h) .kind in omega arith)
+      (λ h. let c = leaves-column i l h .kind in let r = leaves-row k b (even-next i l h) .kind in omega arith)
+
+  two-on : (i : ℕ) → i < length w → (s : ℕ) → on (gridOf z) (diskOf w i) s ≡ true → count (length w) (λ j. on (gridOf z) (diskOf w j) s) ≡ 2
+  two-on i l s h = ⊎-elim row column (lt-or-le s 16)
+    where
+      d : ℕ
+      d = diskOf w i
+
+      row : s < 16 → count (length w) (λ j. on (gridOf z) (diskOf w j) s) ≡ 2
+      row b =
+          count-ext (length w) (λ j k. on-row z (diskOf w j) s b ∙ ap (λ (r : ℕ). eqb r (diskOf w j / across z)) (is-row z fits d (y .disk i l) s h b))
+          ∙ y .twoInRow i l
+
+      column : 16 ≤ s → count (length w) (λ j. on (gridOf z) (diskOf w j) s) ≡ 2
+      column b =
+          count-ext (length w) (λ j k.
+          ap (on (gridOf z) (diskOf w j)) (is-column z fits d (y .disk i l) s h b)
+          ∙ on-column z (size-fits z fits) (diskOf w j) (d % across z) (y .disk j k))
+          ∙ y .twoInColumn i l
+
+  pub loop-cycle : Cycle (gridOf z) e w
+  loop-cycle =
+      let long = y .long in
+      let some : 0 < length w = omega arith in
+      record {
+        some = some;
+        disk = λ i l. subst (λ (n : ℕ). diskOf w i < n) (sym (grid-disks z)) (y .disk i l);
+        erased = y .erased;
+        different = y .different;
+        here = λ i l. by-turn _ i (λ h. leaves-row i l h .here) (λ h. leaves-column i l h .here);
+        there = λ i l. by-turn _ i (λ h. leaves-row i l h .there) (λ h. leaves-column i l h .there);
+        turns = turns-off;
+        two = two-on;
+        lowestFirst = y .lowestFirst;
+        lowerFirst =
+            λ s h.
+            let first = leaves-row 0 some refl .kind in
+            let row = y .row 0 some refl .0 in
+            ⊎-elim (λ b. let q = is-row z fits (diskOf w 0) (y .disk 0 some) s h b in omega arith) (λ b. omega arith) (lt-or-le s 16);
+      }
+
 -- ---- fatal losses of a grid
 
 module _ (z : Size) (fits : sizeFits z ≡ true) (e : ℕ → Bool) where
@@ -197,6 +293,13 @@ module _ (z : Size) (fits : sizeFits z ≡ true) (e : ℕ → Bool) where
   pub shown-fits : fatal (gridOf z) e ≡ true → length (shownCycle (gridOf z) e) ≤ 32
   shown-fits lossy = loop-fits z fits e (shownCycle (gridOf z) e) (shown (gridOf z) (gridOf-two z fits) e lossy)
 
+  -- So a loss is fatal exactly if there is a loop of erased disks.
+  pub grid-fatal-loop : (fatal (gridOf z) e ≡ true) ↔ ((w : List Entry) × Loop z e w)
+  grid-fatal-loop = (
+    λ lossy. (shownCycle (gridOf z) e, shown-loop lossy),
+    λ (w, y). cycle-fatal (gridOf z) e w (loop-cycle z fits e w y),
+  )
+
   -- The loss of three disks or fewer is never fatal: a loop has four.
   pub three : count (disks z) e ≤ 3 → fatal (gridOf z) e ≡ false
   three few =
@@ -204,8 +307,6 @@ module _ (z : Size) (fits : sizeFits z ≡ true) (e : ℕ → Bool) where
       (λ lossy.
       let y : Loop z e (shownCycle (gridOf z) e) = shown-loop lossy in
       let long = y .long in
-      let erased : length (shownCycle (gridOf z) e) ≤ count (disks z) e =
-      subst (λ (n : ℕ). length (shownCycle (gridOf z) e) ≤ count n e) (grid-disks z)
-      (cycle-erased (gridOf z) e (shownCycle (gridOf z) e) (y .cycle)) in
+      let erased = count-different (length (shownCycle (gridOf z) e)) (disks z) e (diskOf (shownCycle (gridOf z) e)) (y .disk) (y .erased) (y .different) in
       absurd (omega arith))
       (λ lossy. refl)

@@ -18,7 +18,7 @@ use Rattle.model.specs.Stripes.{Layout, TwoStripes, among, on}
 use Rattle.model.specs.Repair.{without, Entry, alone, allowed, firstAllowed, someAllowed, Peels, Stuck, nextDisk, repairOf, peel, repairs, after, residual, lost, fatal}
 use Rattle.model.specs.Cycle.{diskOf, stripeOf}
 use Rattle.model.specs.Demand3.{InOrder}
-use Rattle.model.proofs.Fold.{and-left, and-right, and-both, or-left, or-right, same-test, by-cases, lt-or-le, every-at, every-all, every-fails, count-le, count-none, count-zero-none, count-some, count-found, count-first, count-without, lowest-is, lowest-ext}
+use Rattle.model.proofs.Fold.{and-left, and-right, and-both, or-left, or-right, same-test, by-cases, lt-or-le, every-at, every-all, every-fails, count-le, count-none, count-zero-none, count-some, count-found, count-first, count-without, lowest-is}
 
 -- ---- erased disks
 
@@ -466,80 +466,3 @@ module _ (L : Layout) where
             let none : bit (after e (repairs L e) d) ≡ 0 = ap bit (not-fatal L e .0 h d l) in
             omega arith;
       }
-
--- ---- erasures that agree on the disks
-
--- Only the disks count.
-abbrev pub Same : Layout → (e f : ℕ → Bool) → Type 0
-Same L e f = (d : ℕ) → d < L .disks → e d ≡ f d
-
-module _ (L : Layout) where
-  pub without-ext : (e f : ℕ → Bool) → Same L e f → (d : ℕ) → Same L (without e d) (without f d)
-  unfolding without
-  without-ext e f same d i l = ap (λ (b : Bool). b && not (eqb i d)) (same i l)
-
-  pub after-ext : (e f : ℕ → Bool) → Same L e f → (w : List Entry) → Same L (after e w) (after f w)
-  unfolding after
-  after-ext e f same [] = same
-  after-ext e f same (r ∷ rs) =
-      after-ext (without e (r .disk)) (without f (r .disk)) (without-ext e f same (r .disk)) rs
-
-  pub allowed-ext : (e f : ℕ → Bool) → Same L e f → (d s : ℕ) → allowed L e d s ≡ allowed L f d s
-  allowed-ext e f same d s = same-test (allowed L e d s) (allowed L f d s) (kept e f same) (kept f e (λ i l. sym (same i l)))
-    where
-      kept : (e f : ℕ → Bool) → Same L e f → allowed L e d s ≡ true → allowed L f d s ≡ true
-      kept e f same h =
-          let a : Allowed L e d s = allowed-is L e d s h in
-          is-allowed L f d s
-          (record {
-            disk = a .disk;
-            erased = sym (same d (a .disk)) ∙ a .erased;
-            here = a .here;
-            only = λ i l q k. a .only i l q (same i l ∙ k);
-          })
-
-  stripes-ext : (e f : ℕ → Bool) → Same L e f → (d : ℕ) (ss : List ℕ)
-      → (someAllowed L e d ss ≡ someAllowed L f d ss) × (firstAllowed L e d ss ≡ firstAllowed L f d ss)
-  unfolding someAllowed firstAllowed
-  stripes-ext e f same d [] = (refl, refl)
-  stripes-ext e f same d (s ∷ ss) =
-      let here : allowed L e d s ≡ allowed L f d s = allowed-ext e f same d s in
-      let up = stripes-ext e f same d ss in
-      (ap₂ (λ (x y : Bool). x || y) here (up .0), ap₂ (λ (b : Bool) (t : ℕ). cond b s t) here (up .1))
-
-  pub next-ext : (e f : ℕ → Bool) → Same L e f → nextDisk L e ≡ nextDisk L f
-  unfolding nextDisk
-  next-ext e f same = lowest-ext (L .disks) (λ d l. stripes-ext e f same d (L .through d) .0)
-
-  pub repairOf-ext : (e f : ℕ → Bool) → Same L e f → (d : ℕ) → repairOf L e d ≡ repairOf L f d
-  unfolding repairOf
-  repairOf-ext e f same d = λ i. record { disk = d; stripe = stripes-ext e f same d (L .through d) .1 i }
-
-  pub peel-ext : (k : ℕ) (e f : ℕ → Bool) → Same L e f → peel L k e ≡ peel L k f
-  peel-ext k e = by-peel L (λ k e w. (f : ℕ → Bool) → Same L e f → w ≡ peel L k f) start stop step k e
-    where
-      start : (e f : ℕ → Bool) → Same L e f → [] ≡ peel L 0 f
-      start e f same = unfold peel in refl
-
-      stop : (k : ℕ) (e : ℕ → Bool) → ¬ (nextDisk L e < L .disks) → (f : ℕ → Bool) → Same L e f → [] ≡ peel L (suc k) f
-      stop k e n f same = sym (peel-none L (suc k) f (subst (λ (d : ℕ). ¬ (d < L .disks)) (next-ext e f same) n))
-
-      step : (k : ℕ) (e : ℕ → Bool) (w : List Entry) → nextDisk L e < L .disks
-          → ((f : ℕ → Bool) → Same L (without e (nextDisk L e)) f → w ≡ peel L k f)
-          → (f : ℕ → Bool) → Same L e f → repairOf L e (nextDisk L e) ∷ w ≡ peel L (suc k) f
-      step k e w l up f same =
-          let next : nextDisk L e ≡ nextDisk L f = next-ext e f same in
-          let rest : w ≡ peel L k (without f (nextDisk L e)) =
-          up (without f (nextDisk L e)) (without-ext e f same (nextDisk L e)) in
-          ap₂ (λ (r : Entry) (v : List Entry). r ∷ v) (repairOf-ext e f same (nextDisk L e)) rest
-          ∙ ap (λ (d : ℕ). repairOf L f d ∷ peel L k (without f d)) next
-          ∙ sym (peel-next L k f (subst (λ (d : ℕ). d < L .disks) next l))
-
-  pub repairs-ext : (e f : ℕ → Bool) → Same L e f → repairs L e ≡ repairs L f
-  unfolding repairs
-  repairs-ext e f same = peel-ext (L .disks) e f same
-
-  pub residual-ext : (e f : ℕ → Bool) → Same L e f → Same L (residual L e) (residual L f)
-  unfolding residual
-  residual-ext e f same d l =
-      after-ext e f same (repairs L e) d l ∙ ap (λ (w : List Entry). after f w d) (repairs-ext e f same)

@@ -4,8 +4,8 @@ use mathlib.Core.Path.{_≡_, refl, sym, _∙_, ap, ap₂, subst}
 use mathlib.Core.Bool.{Bool, true, false, cond, not, _&&_, _||_, true≢false, false≢true}
 use mathlib.Core.Logic.{_↔_, ⊎-elim}
 use mathlib.Core.List.{List, [], _∷_}
-use Prim.Native.Nat.{ℕ, _+_, _*_, _/_, _%_, _-_, _≤_, _<_}
-use native.Mathlib.Nat.{add-sub-of-le, add-sub-cancel-left, sub-lt-left-of-lt-add}
+use Prim.Native.Nat.{ℕ, _+_, _*_, _/_, _%_, _-_, _≤_, _<_, zero-le}
+use native.Mathlib.Nat.{add-sub-of-le, add-sub-cancel-left, sub-lt-left-of-lt-add, mod-lt}
 use native.Mathlib.Omega.{arith}
 use borrow.Author.Tests.{eq-eqb, ne-eqb, eqb-true, eqb-false, le-leb, lt-ltb, leb-true, ltb-true}
 use lib.Arith.{digits-div, digits-mod, digits-lt}
@@ -21,7 +21,7 @@ use Rattle.model.specs.Repair.{without, Entry, allowed, Peels, repairs, 
 use Rattle.model.specs.declared.Size.{Size}
 use Rattle.model.specs.declared.Checked.the-variants.{Sealed}
 use Rattle.model.proofs.Xor.{⊕-zero, zero-⊕, equal-of-zero}
-use Rattle.model.proofs.Fold.{and-left, and-right, by-cases, lt-or-le, every-at, every-all, xsum-ext, xsum-only, xsum-byte, length-tabulate, getD-tabulate}
+use Rattle.model.proofs.Fold.{and-left, and-right, and-both, by-cases, lt-or-le, every-at, every-all, xsum-ext, xsum-only, xsum-byte, length-tabulate, getD-tabulate}
 use Rattle.model.proofs.Grid.{grid-disks, gridOf-two, byte-whole, small-byte, by-block, array-is}
 use Rattle.model.proofs.Equations.{equations-iff-sums}
 use Rattle.model.proofs.Refusal.{array-fits}
@@ -251,28 +251,47 @@ module _ (L : Layout) (x : Stretch) (inside : x .offset + x .width ≤ x .block)
       repaired-keeps e a sized r (peels .0) d l k p h
       ∙ rebuilt-keeps (without e (r .disk)) (repaired L x a r) (length-repaired L x a r ∙ sized) rs (peels .1) d l (without-none e (r .disk) d k) p h
 
-  -- Repairs on survivors of a codeword give that codeword's bytes.
+  -- Where two arrays agree on the survivors, a repair gives its disk the same bytes in both.
+  pub agree-step : (e : ℕ → Bool) (a b : List ℕ) → length a ≡ L .disks * x .block → length b ≡ L .disks * x .block → (r : Entry)
+      → allowed L e (r .disk) (r .stripe) ≡ true → Agree L x e a b → Agree L x (without e (r .disk)) (repaired L x a r) (repaired L x b r)
+  agree-step e a b first second r ok same d l k p h = go (eqb d (r .disk)) refl
+    where
+      may : Allowed L e (r .disk) (r .stripe)
+      may = allowed-is L e (r .disk) (r .stripe) ok
+
+      -- The other disks of the stripe survive.
+      survives : (i : ℕ) → i < L .disks → on L i (r .stripe) ≡ true → (i ≡ r .disk → ⊥) → e i ≡ false
+      survives i w o q = by-cases (λ (t : Bool). t ≡ false) (e i) (λ y. sym o ∙ may .only i w q y) (λ y. refl)
+
+      go : (t : Bool) → eqb d (r .disk) ≡ t → byte x (repaired L x a r) d p ≡ byte x (repaired L x b r) d p
+      go true q =
+          subst (λ (i : ℕ). byte x (repaired L x a r) i p ≡ byte x (repaired L x b r) i p) (sym (eqb-true d (r .disk) q))
+          (repaired-disk L x inside a first r (may .disk) p h
+          ∙ others-same L x a b r p (λ i w o n. same i w (survives i w o n) p h)
+          ∙ sym (repaired-disk L x inside b second r (may .disk) p h))
+      go false q =
+          let other : d ≡ r .disk → ⊥ = eqb-false d (r .disk) q in
+          repaired-others L x inside a first r d l other p h ∙ same d l (sym (without-other e (r .disk) d other) ∙ k) p h
+          ∙ sym (repaired-others L x inside b second r d l other p h)
+
+  -- A codeword has the bytes that a repair gives.
+  codeword-kept : Bounded L → (b : List ℕ) → Codeword L x b → (r : Entry) → r .disk < L .disks → on L (r .disk) (r .stripe) ≡ true
+      → (d : ℕ) → d < L .disks → (p : ℕ) → p < x .width → byte x (repaired L x b r) d p ≡ byte x b d p
+  codeword-kept bounded b word r below there d l p h =
+      by-cases (λ (t : Bool). byte x (repaired L x b r) d p ≡ byte x b d p) (eqb d (r .disk))
+      (λ q.
+      subst (λ (i : ℕ). byte x (repaired L x b r) i p ≡ byte x b i p) (sym (eqb-true d (r .disk) q))
+      (repaired-disk L x inside b (word .sized) r below p h
+      ∙ others-of-codeword L x b word r below there (bounded (r .disk) (r .stripe) below there) p h))
+      (λ q. repaired-others L x inside b (word .sized) r d l (eqb-false d (r .disk) q) p h)
+
+  -- So repairs on survivors of a codeword give that codeword's bytes.
   module _ (bounded : Bounded L) (b : List ℕ) (word : Codeword L x b) where
     pub restore-step : (e : ℕ → Bool) (a : List ℕ) → length a ≡ L .disks * x .block → (r : Entry)
         → allowed L e (r .disk) (r .stripe) ≡ true → Agree L x e a b → Agree L x (without e (r .disk)) (repaired L x a r) b
-    restore-step e a sized r ok same d l k p h = go (eqb d (r .disk)) refl
-      where
-        may : Allowed L e (r .disk) (r .stripe)
-        may = allowed-is L e (r .disk) (r .stripe) ok
-
-        -- The other disks of the stripe survive.
-        survives : (i : ℕ) → i < L .disks → on L i (r .stripe) ≡ true → (i ≡ r .disk → ⊥) → e i ≡ false
-        survives i w o q = by-cases (λ (t : Bool). t ≡ false) (e i) (λ y. sym o ∙ may .only i w q y) (λ y. refl)
-
-        go : (t : Bool) → eqb d (r .disk) ≡ t → byte x (repaired L x a r) d p ≡ byte x b d p
-        go true q =
-            subst (λ (i : ℕ). byte x (repaired L x a r) i p ≡ byte x b i p) (sym (eqb-true d (r .disk) q))
-            (repaired-disk L x inside a sized r (may .disk) p h
-            ∙ others-same L x a b r p (λ i w o n. same i w (survives i w o n) p h)
-            ∙ others-of-codeword L x b word r (may .disk) (may .here) (bounded (r .disk) (r .stripe) (may .disk) (may .here)) p h)
-        go false q =
-            let other : d ≡ r .disk → ⊥ = eqb-false d (r .disk) q in
-            repaired-others L x inside a sized r d l other p h ∙ same d l (sym (without-other e (r .disk) d other) ∙ k) p h
+    restore-step e a sized r ok same d l k p h =
+        let may : Allowed L e (r .disk) (r .stripe) = allowed-is L e (r .disk) (r .stripe) ok in
+        agree-step e a b sized (word .sized) r ok same d l k p h ∙ codeword-kept bounded b word r (may .disk) (may .here) d l p h
 
     pub restore : (e : ℕ → Bool) (a : List ℕ) → length a ≡ L .disks * x .block → (w : List Entry) → Peels L e w
         → Agree L x e a b → Agree L x (after e w) (rebuilt L x a w) b
@@ -290,20 +309,34 @@ module _ (L : Layout) (x : Stretch) where
   rebuilt-outside a [] i k = refl
   rebuilt-outside a (r ∷ rs) i k = rebuilt-outside (repaired L x a r) rs i k ∙ changed-outside x a _ i k
 
-  -- With zeros on the erased disks nothing is left of the repairs.
-  pub zeroed-rebuilt : x .offset + x .width ≤ x .block → (e : ℕ → Bool) (a : List ℕ) → length a ≡ L .disks * x .block
-      → (w : List Entry) → Peels L e w → zeroed x (rebuilt L x a w) e ≡ zeroed x a e
-  unfolding zeroed gate
-  zeroed-rebuilt inside e a sized w peels =
-      changed-is x inside (L .disks) a sized _ (zeroed x (rebuilt L x a w) e) (length-changed x (rebuilt L x a w) _ ∙ length-rebuilt L x a w)
-      (λ d p l h.
-      byte-changed x inside (L .disks) (rebuilt L x a w) (length-rebuilt L x a w ∙ sized) _ d p l h ∙ same d p l h (e d) refl)
-      (λ i k. changed-outside x (rebuilt L x a w) _ i k ∙ rebuilt-outside a w i k)
-    where
-      same : (d p : ℕ) → d < L .disks → p < x .width → (t : Bool) → e d ≡ t
-          → gate (not t) (byte x (rebuilt L x a w) d p) ≡ gate (not t) (byte x a d p)
-      same d p l h true k = refl
-      same d p l h false k = sym (rebuilt-keeps L x inside e a sized w peels d l k p h)
+  -- With zeros on the erased disks two arrays that agree on the survivors, and outside the stretch, are the same.
+  module _ (inside : x .offset + x .width ≤ x .block) (e : ℕ → Bool) (a : List ℕ) (sized : length a ≡ L .disks * x .block) where
+    zeroed-agree : (b : List ℕ) → length b ≡ length a → Agree L x e a b
+        → ((i : ℕ) → within x (i % x .block) ≡ false → getD b i 0 ≡ getD a i 0) → zeroed x b e ≡ zeroed x a e
+    unfolding zeroed gate
+    zeroed-agree b long agree kept =
+        changed-is x inside (L .disks) a sized _ (zeroed x b e) (length-changed x b _ ∙ long)
+        (λ d p l h. byte-changed x inside (L .disks) b (long ∙ sized) _ d p l h ∙ same d p l h (e d) refl)
+        (λ i k. changed-outside x b _ i k ∙ kept i k)
+      where
+        same : (d p : ℕ) → d < L .disks → p < x .width → (t : Bool) → e d ≡ t → gate (not t) (byte x b d p) ≡ gate (not t) (byte x a d p)
+        same d p l h true k = refl
+        same d p l h false k = sym (agree d l k p h)
+
+    -- So nothing is left of repairs.
+    pub zeroed-rebuilt : (w : List Entry) → Peels L e w → zeroed x (rebuilt L x a w) e ≡ zeroed x a e
+    zeroed-rebuilt w peels =
+        zeroed-agree (rebuilt L x a w) (length-rebuilt L x a w) (rebuilt-keeps L x inside e a sized w peels) (λ i k. rebuilt-outside a w i k)
+
+-- Nothing lies outside the whole block.
+pub zeroed-whole : (L : Layout) (B : ℕ) → 0 < B → (e : ℕ → Bool) (a b : List ℕ) → length a ≡ L .disks * whole B .block → length b ≡ length a
+    → Agree L (whole B) e a b → zeroed (whole B) b e ≡ zeroed (whole B) a e
+unfolding within whole
+zeroed-whole L B some e a b sized long agree =
+    zeroed-agree L (whole B) (whole-inside B) e a sized b long agree (λ i k. absurd (true≢false (sym (in-block i) ∙ k)))
+  where
+    in-block : (i : ℕ) → (leb 0 (i % B) && ltb (i % B) (0 + B)) ≡ true
+    in-block i = let l : i % B < B = mod-lt i some in and-both (le-leb 0 (i % B) zero-le) (lt-ltb (i % B) (0 + B) (omega arith))
 
 -- ---- whether the survivors belong to a codeword
 
@@ -343,7 +376,7 @@ module _ (L : Layout) (bounded : Bounded L) (x : Stretch) (inside : x .offset + 
   )
 
 -- Two arrays of n blocks are equal if their blocks are.
-whole-equal : (n B : ℕ) (a b : List ℕ) → length a ≡ n * B → length b ≡ n * B
+pub whole-equal : (n B : ℕ) (a b : List ℕ) → length a ≡ n * B → length b ≡ n * B
     → ((d p : ℕ) → d < n → p < B → byte (whole B) a d p ≡ byte (whole B) b d p) → a ≡ b
 whole-equal n B a b long size same =
     ext-getD 0 a b (long ∙ sym size)
@@ -362,18 +395,18 @@ module _ (L : Layout) (bounded : Bounded L) (B : ℕ)
       (restored-bytes L bounded (whole B) (whole-inside B) e w peels none a sized b word same)
 
 -- ---- plan's repairs of a loss that is not fatal
-module _ (L : Layout) (bounded : Bounded L) (e : ℕ → Bool) (survivable : fatal L e ≡ false) where
-  none-left : (d : ℕ) → d < L .disks → after e (repairs L e) d ≡ false
-  unfolding residual
-  none-left = not-fatal L e .0 survivable
+pub none-left : (L : Layout) (e : ℕ → Bool) → fatal L e ≡ false → (d : ℕ) → d < L .disks → after e (repairs L e) d ≡ false
+unfolding residual
+none-left L e = not-fatal L e .0
 
+module _ (L : Layout) (bounded : Bounded L) (e : ℕ → Bool) (survivable : fatal L e ≡ false) where
   pub judge : (x : Stretch) → x .offset + x .width ≤ x .block → (a : List ℕ) → length a ≡ L .disks * x .block → Bytes a
       → (consistent L x (rebuilt L x a (repairs L e)) ≡ true) ↔ Belongs L x e a
-  judge x inside a sized small = consistent-belongs L bounded x inside e (repairs L e) (repairs-peels L e) none-left a sized small
+  judge x inside a sized small = consistent-belongs L bounded x inside e (repairs L e) (repairs-peels L e) (none-left L e survivable) a sized small
 
   pub restored-is : (B : ℕ) (a b : List ℕ) → length a ≡ L .disks * whole B .block → Codeword L (whole B) b → Agree L (whole B) e a b
       → rebuilt L (whole B) a (repairs L e) ≡ b
-  restored-is B = rebuilt-is L bounded B e (repairs L e) (repairs-peels L e) none-left
+  restored-is B = rebuilt-is L bounded B e (repairs L e) (repairs-peels L e) (none-left L e survivable)
 
   -- So no other codeword has the same survivors.
   pub unique : (B : ℕ) → Ambiguous L (whole B) e → ⊥

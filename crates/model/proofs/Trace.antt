@@ -264,12 +264,6 @@ module _ (L : Layout) (two : TwoStripes L) (c : ℕ → Bool) (paired : Paired L
       (cycle-walked L c (walkOf L c) walk-of (lastOf L c) fresh-of
       (comes-back L c (walkOf L c) walk-of (lastOf L c) fresh-of returns) least lower)
 
-  pub cycle-bound : length (cycleOf L c) ≤ L .stripeBound
-  cycle-bound =
-      let n : length (cycleOf L c) ≡ suc (lastOf L c) = ap length cycle-is ∙ length-walked (walkOf L c) (lastOf L c) in
-      let b = last-below in
-      omega arith
-
 -- ---- a cycle among erased disks
 
 -- A cycle is one of any set that holds its disks.

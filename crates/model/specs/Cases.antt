@@ -53,19 +53,28 @@ cases =
       computed = restored A (0 ∷ 0 ∷ 0 ∷ 0 ∷ 0 ∷ 0 ∷ 0 ∷ 0 ∷ 0 ∷ []);
       expected = 0 ∷ 0 ∷ A ++ 1 ∷ replicate 97 0;
     }
-    -- Disks 0, 2, 6 erased: the sheet, and A is restored whatever stands on them.
+    -- Disks 0, 2, 6 erased: the sheet, and A is restored whatever stands on them; the listing has the lines `repair 3`, `2 18`,
+    -- `0 0` and `6 2`.
     ∷ record {
       number = 3;
-      computed = restored (7 ∷ 2 ∷ 7 ∷ 4 ∷ 8 ∷ 12 ∷ 7 ∷ 10 ∷ 15 ∷ []) (1 ∷ 0 ∷ 1 ∷ 0 ∷ 0 ∷ 0 ∷ 1 ∷ 0 ∷ 0 ∷ []);
-      expected = 0 ∷ 3 ∷ A ++ 1 ∷ 1 ∷ 2 ∷ 18 ∷ 2 ∷ 0 ∷ 0 ∷ 3 ∷ 6 ∷ 2 ∷ 0 ∷ replicate 87 0;
+      computed =
+          restored (7 ∷ 2 ∷ 7 ∷ 4 ∷ 8 ∷ 12 ∷ 7 ∷ 10 ∷ 15 ∷ []) (1 ∷ 0 ∷ 1 ∷ 0 ∷ 0 ∷ 0 ∷ 1 ∷ 0 ∷ 0 ∷ [])
+          ++ listing (2 ∷ 1 ∷ 0 ∷ 1 ∷ 0 ∷ 0 ∷ 0 ∷ 1 ∷ 0 ∷ 0 ∷ []);
+      expected =
+          0 ∷ 3 ∷ A ++ 1 ∷ 1 ∷ 2 ∷ 18 ∷ 2 ∷ 0 ∷ 0 ∷ 3 ∷ 6 ∷ 2 ∷ 0 ∷ replicate 87 0
+          ++ 114 ∷ 101 ∷ 112 ∷ 97 ∷ 105 ∷ 114 ∷ 32 ∷ 51 ∷ 10 ∷ 50 ∷ 32 ∷ 49 ∷ 56 ∷ 10 ∷ 48 ∷ 32 ∷ 48 ∷ 10 ∷ 54 ∷ 32 ∷ 50 ∷ 10 ∷ [];
     }
-    -- Disks 0, 2, 6, 8 erased: fatal, 4 lost; loop 0, 2, 8, 6 on stripes 0, 18, 2, 16. Nothing else changes.
+    -- Disks 0, 2, 6, 8 erased: fatal, 4 lost; loop 0, 2, 8, 6 on stripes 0, 18, 2, 16. Nothing else changes. The listing begins
+    -- with `fatal 4`.
     ∷ record {
       number = 4;
-      computed = planned (1 ∷ 0 ∷ 1 ∷ 0 ∷ 0 ∷ 0 ∷ 1 ∷ 0 ∷ 1 ∷ []) ++ restored A (1 ∷ 0 ∷ 1 ∷ 0 ∷ 0 ∷ 0 ∷ 1 ∷ 0 ∷ 1 ∷ []);
+      computed =
+          planned (1 ∷ 0 ∷ 1 ∷ 0 ∷ 0 ∷ 0 ∷ 1 ∷ 0 ∷ 1 ∷ []) ++ restored A (1 ∷ 0 ∷ 1 ∷ 0 ∷ 0 ∷ 0 ∷ 1 ∷ 0 ∷ 1 ∷ [])
+          ++ listing (2 ∷ 1 ∷ 0 ∷ 1 ∷ 0 ∷ 0 ∷ 0 ∷ 1 ∷ 0 ∷ 1 ∷ []);
       expected =
           6 ∷ 4 ∷ 2 ∷ 1 ∷ 0 ∷ 0 ∷ 2 ∷ 2 ∷ 18 ∷ 3 ∷ 8 ∷ 2 ∷ 4 ∷ 6 ∷ 16 ∷ 0 ∷ replicate 84 0
-          ++ 6 ∷ 4 ∷ A ++ 2 ∷ 1 ∷ 0 ∷ 0 ∷ 2 ∷ 2 ∷ 18 ∷ 3 ∷ 8 ∷ 2 ∷ 4 ∷ 6 ∷ 16 ∷ 0 ∷ replicate 84 0;
+          ++ 6 ∷ 4 ∷ A ++ 2 ∷ 1 ∷ 0 ∷ 0 ∷ 2 ∷ 2 ∷ 18 ∷ 3 ∷ 8 ∷ 2 ∷ 4 ∷ 6 ∷ 16 ∷ 0 ∷ replicate 84 0
+          ++ 102 ∷ 97 ∷ 116 ∷ 97 ∷ 108 ∷ 32 ∷ 52 ∷ 10 ∷ 48 ∷ 32 ∷ 48 ∷ 10 ∷ 50 ∷ 32 ∷ 49 ∷ 56 ∷ 10 ∷ 56 ∷ 32 ∷ 50 ∷ 10 ∷ 54 ∷ 32 ∷ 49 ∷ 54 ∷ 10 ∷ [];
     }
     -- Disks 0, 1, 3, 4 erased: fatal.
     ∷ record {
@@ -97,21 +106,7 @@ cases =
       computed = writeStatus two 1 A 0 (9 ∷ []) ∷ writeArray two 1 A 0 (9 ∷ []);
       expected = 0 ∷ 9 ∷ 2 ∷ 11 ∷ 4 ∷ 8 ∷ 12 ∷ 13 ∷ 10 ∷ 7 ∷ [];
     }
-    -- What the listing program prints for case 3: "repair 3", "2 18", "0 0", "6 2".
-    ∷ record {
-      number = 3;
-      computed = listing (2 ∷ 1 ∷ 0 ∷ 1 ∷ 0 ∷ 0 ∷ 0 ∷ 1 ∷ 0 ∷ 0 ∷ []);
-      expected = 114 ∷ 101 ∷ 112 ∷ 97 ∷ 105 ∷ 114 ∷ 32 ∷ 51 ∷ 10 ∷ 50 ∷ 32 ∷ 49 ∷ 56 ∷ 10 ∷ 48 ∷ 32 ∷ 48 ∷ 10 ∷ 54 ∷ 32 ∷ 50 ∷ 10 ∷ [];
-    }
-    -- For case 4: "fatal 4", "0 0", "2 18", "8 2", "6 16".
-    ∷ record {
-      number = 4;
-      computed = listing (2 ∷ 1 ∷ 0 ∷ 1 ∷ 0 ∷ 0 ∷ 0 ∷ 1 ∷ 0 ∷ 1 ∷ []);
-      expected =
-          102 ∷ 97 ∷ 116 ∷ 97 ∷ 108 ∷ 32 ∷ 52 ∷ 10 ∷ 48 ∷ 32 ∷ 48 ∷ 10 ∷ 50 ∷ 32 ∷ 49 ∷ 56 ∷ 10 ∷ 56 ∷ 32 ∷ 50 ∷ 10 ∷ 54 ∷ 32 ∷ 49 ∷ 54
-          ∷ 10 ∷ [];
-    }
-    -- For empty input, and for a size without a map: "refused 1", "refused 4". These have no number in the paper.
+    -- The listing for empty input and for a size without a map: `refused 1`, `refused 4`. These have no number in the paper.
     ∷ record {
       number = 0;
       computed = listing [] ++ listing (2 ∷ []);

@@ -8,7 +8,7 @@ use lib.Dec.{eqb, ltb}
 use lib.ListN.{length, getD}
 use Rattle.model.specs.Fold.{count, lowest}
 use Rattle.model.specs.Stripes.{Layout, on}
-use Rattle.model.specs.Grid.{across, gridOf}
+use Rattle.model.specs.Grid.{across, disks}
 use Rattle.model.specs.Repair.{Entry, residual, fatal}
 use Rattle.model.specs.declared.Size.{Size}
 
@@ -41,15 +41,25 @@ pub record Cycle (L : Layout) (e : ℕ → Bool) (w : List Entry) : Type 0 where
   pub lowestFirst : (i : ℕ) → i < length w → diskOf w 0 ≤ diskOf w i
   pub lowerFirst : (s : ℕ) → on L (diskOf w 0) s ≡ true → stripeOf w 0 ≤ s
 
--- Paper 01's loop in a grid: at least four disks, and rows and columns in turn, a row first and a column last.
+-- Paper 01's loop, in its own words. Disk d stands in row d / across z and in column d % across z.
 pub record Loop (z : Size) (e : ℕ → Bool) (w : List Entry) : Type 0 where
-  pub cycle : Cycle (gridOf z) e w
+  -- A list of different erased disks, at least four.
+  pub disk : (i : ℕ) → i < length w → diskOf w i < disks z
+  pub erased : (i : ℕ) → i < length w → e (diskOf w i) ≡ true
+  pub different : (i j : ℕ) → i < length w → j < length w → diskOf w i ≡ diskOf w j → i ≡ j
   pub long : 4 ≤ length w
+  -- First and second share a row, second and third a column, and so on in turn; their number is even, so last and first share
+  -- a column. The stripe of each is the one that it shares with the next, that of the last the one shared with the first.
   pub even : length w % 2 ≡ 0
   pub row : (i : ℕ) → i < length w → i % 2 ≡ 0
       → (stripeOf w i ≡ diskOf w i / across z) × (diskOf w (following w i) / across z ≡ diskOf w i / across z)
   pub column : (i : ℕ) → i < length w → i % 2 ≡ 1
       → (stripeOf w i ≡ 16 + diskOf w i % across z) × (diskOf w (following w i) % across z ≡ diskOf w i % across z)
+  -- Each row and each column touched holds exactly two of them.
+  pub twoInRow : (i : ℕ) → i < length w → count (length w) (λ j. eqb (diskOf w i / across z) (diskOf w j / across z)) ≡ 2
+  pub twoInColumn : (i : ℕ) → i < length w → count (length w) (λ j. eqb (diskOf w i % across z) (diskOf w j % across z)) ≡ 2
+  -- It begins with its lowest-numbered disk.
+  pub lowestFirst : (i : ℕ) → i < length w → diskOf w 0 ≤ diskOf w i
 
 -- ---- The cycle that is shown. Paper 01 leaves the choice free.
 
@@ -61,7 +71,7 @@ below k e d = ltb d k && e d
 unfoldable pub closing : Layout → (ℕ → Bool) → ℕ
 closing L e = lowest (L .disks) (λ d. fatal L (below (suc d) e))
 
--- What is then left by plan's order is a single cycle.
+-- What plan's order then leaves. Each stripe touched by these disks holds exactly two of them, so they form a cycle.
 unfoldable pub core : Layout → (ℕ → Bool) → ℕ → Bool
 core L e = residual L (below (suc (closing L e)) e)
 

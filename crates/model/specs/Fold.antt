@@ -25,11 +25,12 @@ unfoldable pub every : ℕ → (ℕ → Bool) → Bool
 every zero t = true
 every (suc n) t = every n t && t n
 
--- How many numbers below n the test holds of.
+-- 1 where the test holds, else 0.
 unfoldable pub bit : Bool → ℕ
 bit true = 1
 bit false = 0
 
+-- How many numbers below n the test holds of.
 unfoldable pub count : ℕ → (ℕ → Bool) → ℕ
 count zero t = 0
 count (suc n) t = count n t + bit (t n)

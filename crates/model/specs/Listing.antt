@@ -35,7 +35,8 @@ unfoldable pub entryLines : List Entry → List ℕ
 entryLines [] = []
 entryLines (r ∷ rs) = decimal (r .disk) ++ 32 ∷ decimal (r .stripe) ++ 10 ∷ entryLines rs
 
--- The heading, a word and the number of lines that follow, and these lines.
+-- The heading, a word and the number of lines that follow, and these lines. For a fatal loss that is the number of disks in the
+-- loop, which can be fewer than are lost.
 unfoldable pub listed : List ℕ → List Entry → List ℕ
 listed word rs = word ++ decimal (length rs) ++ 10 ∷ entryLines rs
 

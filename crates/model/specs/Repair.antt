@@ -21,7 +21,7 @@ without e d i = e i && not (eqb i d)
 
 -- ---- Repairs
 
--- A disk and a stripe through it: a repair of the disk by that stripe, or a step of a cycle that leaves the disk along it.
+-- A disk and a stripe: a repair of the disk by that stripe, or a step of a cycle that leaves the disk along it.
 pub record Entry : Type 0 where
   pub disk : ℕ
   pub stripe : ℕ
@@ -68,7 +68,7 @@ peel L zero e = []
 peel L (suc k) e =
     cond (ltb (nextDisk L e) (L .disks)) (repairOf L e (nextDisk L e) ∷ peel L k (without e (nextDisk L e))) []
 
--- All of them: each takes an erased disk away, so there are no more than disks.
+-- All of them. Each takes an erased disk away, so as many steps as there are disks are enough.
 unfoldable pub repairs : Layout → (ℕ → Bool) → List Entry
 repairs L e = peel L (L .disks) e
 

@@ -8,16 +8,16 @@ use Prim.Native.Nat.{ℕ, _+_, _-_, _≤_, _<_}
 use native.Mathlib.Nat.{le-refl}
 use native.Mathlib.Omega.{arith}
 use borrow.Author.Tests.{eq-eqb, ne-eqb, eqb-true, eqb-false, lt-ltb, le-ltb}
-use lib.Dec.{eqb, leb, ltb}
+use lib.Dec.{eqb, ltb}
 use lib.ListN.{length, getD, set, length-set, replicate, length-replicate, getD-replicate, List·getD-eq-default}
 use lib.Seq.{getD-set-same, getD-set-other}
-use Rattle.model.specs.Fold.{every, count}
+use Rattle.model.specs.Fold.{count}
 use Rattle.model.specs.Stripes.{among, on}
-use Rattle.model.specs.Grid.{grid, gridOf, columns, across, disks, diskAt, sizeFits, mapFits}
+use Rattle.model.specs.Grid.{grid, gridOf, columns, across, disks, diskAt, sizeFits}
 use Rattle.model.specs.Repair.{erasures, without}
 use Rattle.model.specs.Cycle.{below}
 use Rattle.model.specs.declared.Size.{Size}
-use Rattle.model.proofs.Fold.{and-left, and-both, by-cases, lt-or-le, count-ext, count-le, count-none, count-some, count-without}
+use Rattle.model.proofs.Fold.{and-both, by-cases, lt-or-le, count-ext, count-le, count-none, count-some, count-without}
 use Rattle.model.proofs.Grid.{Fits, size-fits, disks-bound, column-inside, row-of, column-of, disk-below, row-within, column-within}
 use Rattle.layout.specs.Stripe.{rowStripe, columnStripe}
 use Rattle.peel.specs.Tally.{Tallied, together}
@@ -299,12 +299,6 @@ module _ {z : Size} {work counts : List ℕ} {d row column : ℕ} (p : Place z w
   column-some has v = let e = column-kept v in let h = some has column column-low on-column in omega arith
 
 -- ---- loading a map
-
--- A map has a byte for each disk.
-pub map-length : (z : Size) (m : List ℕ) → mapFits z m ≡ true → length m ≡ disks z
-unfolding mapFits
-map-length z m h =
-    eqb-true (length m) (disks z) (and-left (eqb (length m) (disks z)) (every (length m) (λ d. leb (getD m d 0) 1)) h)
 
 -- The erased disks below the next number.
 below-zero : (e : ℕ → Bool) (i : ℕ) → below 0 e i ≡ false

@@ -19,8 +19,9 @@ use Rattle.model.proofs.Fold.{by-cases, count-le}
 use Rattle.model.proofs.Grid.{Fits, size-fits, disks-bound, grid-disks, gridOf-two}
 use Rattle.model.proofs.Peel.{Allowed, allowed-is, next-allowed, after-snoc, repairs-peels, repairs-lost, peel-goes, peel-stops}
 use Rattle.model.proofs.Degree.{on-bound, grid-repairs-bound}
+use Rattle.model.proofs.Sheets.{sheet-length}
 use Rattle.sheet.specs.Record.{appended}
-use Rattle.sheet.proofs.Appended.{append-record, sheet-length}
+use Rattle.sheet.proofs.Appended.{append-record}
 use Rattle.peel.specs.declared.Next.{Next}
 use Rattle.peel.specs.declared.Next.the-variants.{Repair, Nothing}
 use Rattle.peel.specs.Tally.{Tallied}

@@ -81,8 +81,8 @@ fn report(answer: Outcome, count: &mut usize) -> u32
             *count = number;
             0
         }
-        Outcome::Fatal(number) => {
-            *count = number;
+        Outcome::Fatal(lost) => {
+            *count = lost;
             6
         }
         Outcome::Refused(status) => status,

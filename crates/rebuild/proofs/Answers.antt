@@ -32,8 +32,9 @@ use Rattle.model.proofs.Refusal.{ArrayFits, passes, passed, refused-first, arra
 use Rattle.model.proofs.Peel.{Allowed, allowed-is, repairs-peels, peels-at, atTurn}
 use Rattle.model.proofs.Degree.{grid-repairs-bound}
 use Rattle.model.proofs.Restore.{length-rebuilt, whole-inside, grid-sized, zeroed-rebuilt, consistent-sealed}
+use Rattle.model.proofs.Sheets.{sheet-length}
 use Rattle.sheet.specs.Record.{recordDisk, recordStripe, records}
-use Rattle.sheet.proofs.Appended.{sheet-length, record-disk-is, record-stripe-is, records-are}
+use Rattle.sheet.proofs.Appended.{record-disk-is, record-stripe-is, records-are}
 
 -- Plan's repairs of the disks that a map has as erased.
 abbrev planOf : Size → List ℕ → List Entry

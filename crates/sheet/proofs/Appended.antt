@@ -4,7 +4,7 @@ use mathlib.Core.Path.{_≡_, refl, sym, _∙_, ap, ap₂}
 use mathlib.Core.Bool.{Bool}
 use mathlib.Core.List.{List, [], _∷_, _++_, append-nil}
 use Prim.Native.Nat.{ℕ, zero, suc, _+_, _*_, _≤_, _<_}
-use native.Mathlib.Nat.{zero-add, suc-add, add-suc, le-of-suc-le-suc, not-suc-le-zero}
+use native.Mathlib.Nat.{zero-add, suc-add, add-suc}
 use native.Mathlib.Omega.{arith}
 use borrow.Author.Tests.{eqb-true, eqb-false}
 use lib.Dec.{eqb}
@@ -15,6 +15,7 @@ use Rattle.model.specs.Repair.{Entry}
 use Rattle.model.specs.Cycle.{diskOf, stripeOf}
 use Rattle.model.specs.Sheet.{chain, sheetOf}
 use Rattle.model.proofs.Fold.{by-cases, length-tabulate, getD-tabulate, list-is, tabulate-ext}
+use Rattle.model.proofs.Sheets.{sheet-entry, sheet-disk, sheet-stripe}
 use Rattle.sheet.specs.Record.{appended, recordDisk, recordStripe, records}
 
 -- ---- a list filled up with zeros to the length of a sheet
@@ -100,10 +101,6 @@ append-record kind w d s h =
     ∙ padded-past p (first ∷ d ∷ 0 ∷ 0 ∷ []) (n + 3) 2 s (omega arith) (omega arith) (omega arith)
     ∙ ap (λ (l : List ℕ). padded (kind ∷ l)) (sym (chain-split 1 w (record { disk = d; stripe = s } ∷ [])))
 
-pub sheet-length : (kind : ℕ) (w : List Entry) → length (sheetOf kind w) ≡ 98
-unfolding sheetOf
-sheet-length kind w = length-tabulate 98 _
-
 -- A sheet without records.
 pub no-record : (kind : ℕ) → set (replicate 98 0) 0 kind ≡ sheetOf kind []
 unfolding sheetOf chain tabulate
@@ -111,47 +108,22 @@ no-record kind = refl
 
 -- ---- the records of a sheet
 
--- Disk and stripe that stand in a list from number i on.
-abbrev entryFrom : List ℕ → ℕ → Entry
-entryFrom l i = record { disk = getD l i 0; stripe = getD l (suc i) 0 }
-
-chain-at : (n : ℕ) (w : List Entry) (k : ℕ) → k < length w
-    → entryFrom (chain n w) (3 * k + 1) ≡ getD w k (record { disk = 0; stripe = 0 })
-unfolding chain
-chain-at n [] k h = absurd (not-suc-le-zero h)
-chain-at n (r ∷ rs) zero h = refl
-chain-at n (r ∷ rs) (suc k) h =
-    let past : 3 * suc k + 1 ≡ suc (suc (suc (3 * k + 1))) = omega arith in
-    ap (entryFrom (chain n (r ∷ rs))) past ∙ chain-at (suc n) rs k (le-of-suc-le-suc h)
-
 -- Where the list fits the sheet, its disks and stripes stand in the records.
 module _ (kind : ℕ) (w : List Entry) (fits : length w ≤ 32) where
-  record-is : (k : ℕ) → k < length w
-      → record { disk = recordDisk (sheetOf kind w) k; stripe = recordStripe (sheetOf kind w) k }
-      ≡ getD w k (record { disk = 0; stripe = 0 })
-  unfolding recordDisk recordStripe sheetOf
-  record-is k h =
-      ap₂ (λ (d s : ℕ). record { disk = d; stripe = s }) (at (3 * k + 2) (3 * k + 1) (omega arith) (omega arith))
-      (at (3 * k + 3) (suc (3 * k + 1)) (omega arith) (omega arith))
-      ∙ chain-at 1 w k h
-    where
-      at : (i j : ℕ) → i ≡ suc j → i < 98 → getD (sheetOf kind w) i 0 ≡ getD (chain 1 w) j 0
-      at i j e b = getD-tabulate 98 (λ i. getD (kind ∷ chain 1 w) i 0) i b ∙ ap (λ (i : ℕ). getD (kind ∷ chain 1 w) i 0) e
-
   pub record-disk-is : (k : ℕ) → k < length w → recordDisk (sheetOf kind w) k ≡ diskOf w k
-  unfolding diskOf
-  record-disk-is k h = ap (λ (r : Entry). r .disk) (record-is k h)
+  unfolding recordDisk
+  record-disk-is = sheet-disk kind w fits
 
   pub record-stripe-is : (k : ℕ) → k < length w → recordStripe (sheetOf kind w) k ≡ stripeOf w k
-  unfolding stripeOf
-  record-stripe-is k h = ap (λ (r : Entry). r .stripe) (record-is k h)
+  unfolding recordStripe
+  record-stripe-is = sheet-stripe kind w fits
 
   -- The first k records are the first k of the list.
   pub records-first : (k : ℕ) → k ≤ length w → records (sheetOf kind w) k ≡ take k w
-  unfolding records
+  unfolding records recordDisk recordStripe
   records-first zero h = refl
   records-first (suc k) h =
-      ap₂ (λ (l : List Entry) (r : Entry). l ++ (r ∷ [])) (records-first k (omega arith)) (record-is k h)
+      ap₂ (λ (l : List Entry) (r : Entry). l ++ (r ∷ [])) (records-first k (omega arith)) (sheet-entry kind w fits k h)
       ∙ sym (take-suc w k (record { disk = 0; stripe = 0 }) h)
 
   pub records-are : records (sheetOf kind w) (length w) ≡ w

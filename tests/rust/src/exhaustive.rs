@@ -15,8 +15,8 @@ fn loss(run: &mut Run, size: Size, sealed: &[u8], map: &[u8]) {
     rebuild::sealed_and_damaged(run, size, sealed, map);
 }
 
-/// Every map of a grid, on arrays that change now and then.
-fn all_maps(run: &mut Run, n: usize) {
+/// Every map of a grid for plan, and one in so many for rebuild too, on arrays that change now and then.
+fn all_maps(run: &mut Run, n: usize, rebuilt: usize) {
     let disks = disk_count(n);
     let mut size = Size { n, block: 1 };
     let mut sealed = sealed_array(&mut run.random, size);
@@ -26,7 +26,11 @@ fn all_maps(run: &mut Run, n: usize) {
             sealed = sealed_array(&mut run.random, size);
         }
         let map: Vec<u8> = (0..disks).map(|disk| (set >> disk & 1) as u8).collect();
-        loss(run, size, &sealed, &map);
+        if run.random.one_in(rebuilt) {
+            loss(run, size, &sealed, &map);
+        } else {
+            plan::compare(&mut run.tally, n, &map, &[0; SHEET]);
+        }
     }
     run.tally.report(&format!("all maps, n {n}"), &[0, 6, 7]);
 }
@@ -72,10 +76,10 @@ fn random_losses(run: &mut Run, rounds: usize) {
 
 /// All maps of n = 4 are 33 million: they are part of a long run only.
 pub fn run(run: &mut Run, rounds: usize) {
-    all_maps(run, 2);
-    all_maps(run, 3);
+    all_maps(run, 2, 1);
+    all_maps(run, 3, 1);
     if rounds > 1 {
-        all_maps(run, 4);
+        all_maps(run, 4, 16);
     }
     all_threes(run);
     random_losses(run, rounds);

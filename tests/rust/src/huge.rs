@@ -30,7 +30,7 @@ fn maps_and_sheets(run: &mut Run, at: *mut u8) {
     let (len, sheet_len) = ((1 << 32) + RIGHT, (1 << 32) + SHEET);
     let (mut array, map, mut sheet) = (ARRAY, MAP.as_ptr(), [7; SHEET]);
     let (array, sheet) = (array.as_mut_ptr(), sheet.as_mut_ptr());
-    let mut out = [0; 5].map(|_| Out::new());
+    let mut out: [Out; 5] = std::array::from_fn(|_| Out::new());
     let counts = out.each_mut().map(|out| out.pointer());
     let found = unsafe {
         [

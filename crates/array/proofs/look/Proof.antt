@@ -5,8 +5,9 @@ use native.Mathlib.Omega.{arith}
 use borrow.Author.Needs.{needs}
 use borrow.Author.Tests.{not-true, not-false}
 use Rattle.model.proofs.Refusal.{array-fits}
+use Rattle.model.proofs.Grid.{map-length}
 use Rattle.array.proofs.Blocks.{block-within}
-use Rattle.array.proofs.Part.{map-length, look-refused, look-no-map, look-no-disk, look-erased, look-block}
+use Rattle.array.proofs.Part.{look-refused, look-no-map, look-no-disk, look-erased, look-block}
 use Rattle.array.proofs.look.Statement.{statement}
 use Rattle.array.proofs.look.Tie as tie
 

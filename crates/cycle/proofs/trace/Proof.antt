@@ -7,7 +7,7 @@ use native.Mathlib.Omega.{arith}
 use lib.ListN.{length}
 use Rattle.model.specs.Grid.{across}
 use Rattle.model.proofs.Grid.{size-fits, across-bound}
-use Rattle.sheet.proofs.Appended.{sheet-length}
+use Rattle.model.proofs.Sheets.{sheet-length}
 use Rattle.cycle.proofs.Turn.{Turn, turn-first, turn-disk, turn-small, turn-length, turn-partner, turn-ends, turn-number, turn-closes, turn-next}
 use Rattle.cycle.proofs.trace.Statement.{statement}
 use Rattle.cycle.proofs.trace.Tie as tie

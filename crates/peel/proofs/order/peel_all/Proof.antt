@@ -8,7 +8,7 @@ use borrow.Author.Needs.{needs}
 use lib.ListN.{length}
 use Rattle.model.specs.Grid.{gridOf}
 use Rattle.model.specs.Repair.{erasures}
-use Rattle.sheet.proofs.Appended.{sheet-length}
+use Rattle.model.proofs.Sheets.{sheet-length}
 use Rattle.peel.specs.declared.Next.the-variants.{Repair}
 use Rattle.peel.specs.Pick.{picked}
 use Rattle.peel.proofs.Turns.{Fit, next-fits, Turn, turn-none, turn-next, turn-ends, turn-short, turn-sheet}

@@ -7,7 +7,8 @@ use native.Mathlib.Nat.{lt-of-lt-of-le}
 use native.Mathlib.Omega.{arith}
 use borrow.Author.Needs.{needs}
 use lib.ListN.{length}
-use Rattle.peel.proofs.Tallies.{map-length, Loaded, loaded-none, loaded-next, loaded-bound, loaded-mark, loaded-skip}
+use Rattle.model.proofs.Grid.{map-length}
+use Rattle.peel.proofs.Tallies.{Loaded, loaded-none, loaded-next, loaded-bound, loaded-mark, loaded-skip}
 use Rattle.peel.proofs.tally.load.Statement.{statement}
 use Rattle.peel.proofs.tally.load.Tie as tie
 

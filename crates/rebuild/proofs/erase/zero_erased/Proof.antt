@@ -11,8 +11,8 @@ use Rattle.model.specs.Stripes.{whole}
 use Rattle.model.specs.Repair.{erasures, zeroed}
 use Rattle.model.specs.Cycle.{below}
 use Rattle.model.proofs.Refusal.{ArrayFits, array-fits}
+use Rattle.model.proofs.Grid.{map-length}
 use Rattle.array.proofs.Blocks.{block-within}
-use Rattle.array.proofs.Part.{map-length}
 use Rattle.rebuild.proofs.Zeros.{length-zeroed, zeroed-none, zeroed-present, zeroed-erased, zeroed-all}
 use Rattle.rebuild.proofs.erase.zero_erased.Statement.{statement}
 use Rattle.rebuild.proofs.erase.zero_erased.Tie as tie

@@ -1,0 +1,49 @@
+/* Plan straight from its definition: for each repair every disk is looked at again, with all disks of its stripes. */
+#include "peer.h"
+#include "sheet.h"
+#include "walk.h"
+
+/* Whether the stripe, `count` disks that stand `step` apart, has one erased disk and no more. */
+static int one_erased(const uint8_t *first, size_t step, size_t count)
+{
+    size_t erased = 0;
+    for (size_t k = 0; k < count; k++)
+        erased += first[k * step];
+    return erased == 1;
+}
+
+/* The lowest disk that can be repaired, and by which stripe; or the number of disks. */
+static size_t next_repair(size_t side, const uint8_t *left, size_t *stripe)
+{
+    size_t d = 0;
+    for (; d < side * side; d++) {
+        if (left[d] == 0)
+            continue;
+        *stripe = d / side;
+        if (one_erased(left + d / side * side, 1, side))
+            break;
+        *stripe = FIRST_COLUMN + d % side;
+        if (one_erased(left + d % side, side, side))
+            break;
+    }
+    return d;
+}
+
+uint32_t plain_plan(size_t n, const uint8_t *map, size_t map_len, uint8_t *sheet, size_t sheet_len, size_t *count)
+{
+    uint8_t left[DISKS_MAX];
+    size_t disk, stripe = 0, made = 0, lost = 0;
+    memcpy(left, map, map_len);
+    put_kind(sheet, sheet_len, REPAIRS);
+    while ((disk = next_repair(n + 1, left, &stripe)) < map_len) {
+        left[disk] = 0;
+        put_record(sheet, made++, disk, stripe);
+    }
+    for (size_t d = 0; d < map_len; d++)
+        lost += left[d];
+    *count = lost == 0 ? made : lost;
+    if (lost == 0)
+        return 0;
+    put_loop(n, left, sheet, sheet_len);
+    return FATAL;
+}

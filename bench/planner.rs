@@ -1,0 +1,120 @@
+//! Plan of the Rust peer: erased disks with a counter for each stripe, and the loop of a fatal loss by a walk.
+
+use crate::FIRST_COLUMN;
+
+const STRIPES: usize = 32;
+
+/// The outcome of a plan, and how many repairs it has or disks it loses.
+pub enum Planned {
+    Repairs(usize),
+    Fatal(usize),
+}
+
+struct Erased {
+    side: usize,
+    left: [u8; 256],
+    on: [u8; STRIPES],
+}
+
+/// Record number k + 1 at the end of the chain.
+fn put_record(sheet: &mut [u8], k: usize, disk: usize, stripe: usize) {
+    sheet[3 * k + 1..][..3].copy_from_slice(&[(k + 1) as u8, disk as u8, stripe as u8]);
+}
+
+impl Erased {
+    fn new(side: usize, map: &[u8]) -> Self {
+        let mut erased = Erased { side, left: [0; 256], on: [0; STRIPES] };
+        erased.left[..map.len()].copy_from_slice(map);
+        for (r, row) in map.chunks_exact(side).enumerate() {
+            erased.on[r] = row.iter().sum();
+            for (on, byte) in erased.on[FIRST_COLUMN..].iter_mut().zip(row) {
+                *on += byte;
+            }
+        }
+        erased
+    }
+
+    fn count(&self) -> usize {
+        self.on[..FIRST_COLUMN].iter().map(|&on| usize::from(on)).sum()
+    }
+
+    /// The lowest disk that can be repaired, and its row if that has no other, else its column.
+    fn next(&self) -> Option<(usize, usize)> {
+        let (rows, columns) = self.on.split_at(FIRST_COLUMN);
+        let lines = self.left.chunks_exact(self.side).zip(rows).enumerate();
+        lines.filter(|(_, (_, &on))| on != 0).find_map(|(r, (line, &on))| {
+            let c = line.iter().zip(columns).position(|(&left, &column)| left != 0 && (on == 1 || column == 1))?;
+            Some((r * self.side + c, if on == 1 { r } else { FIRST_COLUMN + c }))
+        })
+    }
+
+    fn repair(&mut self, disk: usize) {
+        self.left[disk] = 0;
+        self.on[disk / self.side] -= 1;
+        self.on[FIRST_COLUMN + disk % self.side] -= 1;
+    }
+
+    /// The row of a disk before even steps of a walk, its column before odd ones.
+    fn stripe(&self, disk: usize, step: usize) -> usize {
+        if step % 2 == 0 {
+            disk / self.side
+        } else {
+            FIRST_COLUMN + disk % self.side
+        }
+    }
+
+    /// The lowest other disk on the stripe.
+    fn partner(&self, disk: usize, stripe: usize) -> usize {
+        let (first, step) =
+            if stripe < FIRST_COLUMN { (stripe * self.side, 1) } else { (stripe - FIRST_COLUMN, self.side) };
+        let mut disks = (0..self.side).map(|k| first + k * step);
+        disks.find(|&d| self.left[d] != 0 && d != disk).expect("no stripe has a single disk left")
+    }
+
+    /// Walks from disk to disk until a stripe comes again: the disks since then are a loop.
+    fn put_loop(&self, sheet: &mut [u8]) {
+        let mut disks = [0; STRIPES + 1];
+        let mut seen = [None; STRIPES];
+        let mut disk = self.left.iter().position(|&left| left != 0).expect("a disk is left");
+        let mut step = 0;
+        let from = loop {
+            disks[step] = disk;
+            let stripe = self.stripe(disk, step);
+            if let Some(before) = seen[stripe].replace(step) {
+                break before + 1;
+            }
+            disk = self.partner(disk, stripe);
+            step += 1;
+        };
+        let found = &mut disks[from..=step];
+        let lowest = (0..found.len()).min_by_key(|&k| found[k]).expect("a loop has disks");
+        found.rotate_left(lowest);
+        if (from + lowest) % 2 == 1 {
+            found[1..].reverse();
+        }
+        for (k, &disk) in found.iter().enumerate() {
+            put_record(sheet, k, disk, self.stripe(disk, k));
+        }
+    }
+}
+
+/// Writes the repairs in plan's order, or a loop, into the sheet.
+pub fn plan(side: usize, map: &[u8], sheet: &mut [u8]) -> Planned {
+    let mut erased = Erased::new(side, map);
+    let count = erased.count();
+    let mut made = 0;
+    sheet.fill(0);
+    sheet[0] = 1;
+    while let Some((disk, stripe)) = erased.next() {
+        erased.repair(disk);
+        put_record(sheet, made, disk, stripe);
+        made += 1;
+    }
+    if made == count {
+        return Planned::Repairs(made);
+    }
+    sheet.fill(0);
+    sheet[0] = 2;
+    erased.put_loop(sheet);
+    Planned::Fatal(count - made)
+}

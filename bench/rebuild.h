@@ -1,0 +1,47 @@
+/* Rebuild for the peers in C, which differ in how they plan, sum and check. */
+#ifndef REBUILD_H
+#define REBUILD_H
+
+#include "sheet.h"
+
+/* Sets block number `own` of `count` that stand `step` bytes apart to the sum of the others. */
+typedef void repair_function(uint8_t *first, size_t step, size_t count, size_t own, size_t block);
+
+static inline void repair_by(repair_function *repair, size_t n, size_t block, uint8_t *array, size_t disk,
+                             size_t stripe)
+{
+    size_t side = n + 1;
+    if (stripe < FIRST_COLUMN)
+        repair(array + stripe * side * block, block, side, disk % side, block);
+    else
+        repair(array + (stripe - FIRST_COLUMN) * block, side * block, side, disk / side, block);
+}
+
+/* The survivors contradict each other: erased blocks and the sheet become zero. */
+static inline uint32_t contradictory(size_t block, uint8_t *array, const uint8_t *map, size_t map_len, uint8_t *sheet,
+                                     size_t sheet_len)
+{
+    for (size_t d = 0; d < map_len; d++)
+        if (map[d] != 0)
+            memset(array + d * block, 0, block);
+    memset(sheet, 0, sheet_len);
+    return CONTRADICTORY;
+}
+
+static inline uint32_t rebuild_by(plan_call *plan, repair_function *repair, check_call *check, size_t n, size_t block,
+                                  uint8_t *array, size_t array_len, const uint8_t *map, size_t map_len, uint8_t *sheet,
+                                  size_t sheet_len, size_t *count)
+{
+    size_t made, stripe;
+    uint32_t status = plan(n, map, map_len, sheet, sheet_len, &made);
+    if (status == 0) {
+        for (size_t k = 0; k < made; k++)
+            repair_by(repair, n, block, array, disk_of(sheet, k), stripe_of(sheet, k));
+        if (check(n, block, array, array_len, &stripe) != SEALED)
+            return contradictory(block, array, map, map_len, sheet, sheet_len);
+    }
+    *count = made;
+    return status;
+}
+
+#endif
