@@ -303,6 +303,10 @@ uint32_t raid2d_check(size_t n, size_t block,
  * a damaged block moves its damage into the three parities. data must not be
  * a part of array.
  *
+ * Do not write to an erased disk: what stands in its block is taken for its
+ * old contents, and a later raid2d_rebuild gives neither the old block nor the
+ * new one. Rebuild first.
+ *
  *   n          data disks along a side, RAID2D_SIDE_MIN to RAID2D_SIDE_MAX
  *   block      bytes in a block, RAID2D_BLOCK_MIN to RAID2D_BLOCK_MAX
  *   array      the blocks of all disks
@@ -408,8 +412,11 @@ uint32_t raid2d_plan(size_t n,
  *
  * Makes the repairs of raid2d_plan, whatever the erased blocks hold, and then
  * checks all stripes. With RAID2D_OK the whole array is sealed: it is the only
- * sealed array with these survivors. The map is not cleared; the host does so
- * when it takes the disks as present again.
+ * sealed array with these survivors. A survivor that was damaged shows only
+ * where the other survivors contradict it; with 2n+1 disks erased none can.
+ * The map is not cleared; the host does so when it takes the disks as present
+ * again. While a cabinet is filled without superparity, its superparity disk
+ * is simply erased in the map.
  *
  *   n          data disks along a side, RAID2D_SIDE_MIN to RAID2D_SIDE_MAX
  *   block      bytes in a block, RAID2D_BLOCK_MIN to RAID2D_BLOCK_MAX
@@ -439,8 +446,8 @@ uint32_t raid2d_plan(size_t n,
  *   RAID2D_FATAL             the loss is fatal, whatever the survivors hold;
  *                            sheet and *count are those of raid2d_plan, the
  *                            array is unchanged
- *   RAID2D_ERR_SURVIVORS     the survivors belong to no sealed array, with no
- *                            disk erased too; the blocks of the erased disks
+ *   RAID2D_ERR_SURVIVORS     the survivors belong to no sealed array, also
+ *                            where no disk is erased; the blocks of the erased disks
  *                            and the whole sheet are zero, *count unchanged
  *   RAID2D_OK                the blocks of the erased disks are restored;
  *                            sheet and *count are those of raid2d_plan

@@ -45,9 +45,12 @@ pub fn run() {
     trial::mark(&mut map, 0, 256, 16, 1);
     spoil(&mut array, &map);
     let mut sheet = [0u8; 98];
-    say::outcome(b"plan 31 repairs", plan::plan(size, &map, &mut sheet));
     say::outcome(
-        b"rebuild 31 disks",
+        b"plan the loss of a row and a column",
+        plan::plan(size, &map, &mut sheet),
+    );
+    say::outcome(
+        b"rebuild it",
         rebuild::rebuild(size, 4096, &mut array, &map, &mut sheet),
     );
     say::number(b"all bytes restored", check::same(&array, &sealed) as usize);

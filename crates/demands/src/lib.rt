@@ -15,8 +15,8 @@ pub struct Answers {
     pub rebuilt: Outcome,
 }
 
-// Plans the repair of a loss into one sheet, the draft, and rebuilds the array with another. For every input that the refusals before 6 let
-// through, demand 3 holds.
+// Plans the repair of a loss into one sheet, the draft, and rebuilds the array with another. Demand 3 holds for every input that
+// the refusals before 6 let through.
 pub fn plan_and_rebuild(
     size: Size,
     block: usize,

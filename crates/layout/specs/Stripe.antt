@@ -16,7 +16,7 @@ disksOn z s =
 unfoldable pub placeOn : Size → (d s : ℕ) → ℕ
 placeOn z d s = cond (ltb s 16) (d % across z) (d / across z)
 
--- The row stripe and the column stripe of disk d, and the one of them that is not s.
+-- The row stripe and the column stripe of disk d.
 unfoldable pub rowStripe : Size → ℕ → ℕ
 rowStripe z d = d / across z
 

@@ -18,7 +18,7 @@ use Rattle.model.specs.Stripes.{Layout, TwoStripes, among, on}
 use Rattle.model.specs.Repair.{without, Entry, alone, allowed, firstAllowed, someAllowed, Peels, Stuck, nextDisk, repairOf, peel, repairs, after, residual, lost, fatal}
 use Rattle.model.specs.Cycle.{diskOf, stripeOf}
 use Rattle.model.specs.Demand3.{InOrder}
-use Rattle.model.proofs.Fold.{and-left, and-right, and-both, or-left, or-right, same-test, by-cases, lt-or-le, every-at, every-all, every-fails, count-le, count-none, count-zero-none, count-some, count-found, count-first, count-without, lowest-is}
+use Rattle.model.proofs.Fold.{and-left, and-right, and-both, or-left, or-right, same-test, by-cases, lt-or-le, every-at, every-fails, count-le, count-none, count-zero-none, count-some, count-found, count-first, count-without, lowest-is}
 
 -- ---- erased disks
 
@@ -79,17 +79,6 @@ allowed-is L e d s h =
           ∙ not-true (e i && on L i s) (ap (λ (b : Bool). b || not (e i && on L i s)) (sym (ne-eqb i d q)) ∙ apart);
     }
 
-pub is-allowed : (L : Layout) (e : ℕ → Bool) (d s : ℕ) → Allowed L e d s → allowed L e d s ≡ true
-unfolding allowed alone
-is-allowed L e d s a =
-    and-both (and-both (lt-ltb d (L .disks) (a .disk)) (a .erased))
-    (and-both (a .here) (every-all (L .disks) (λ i l. apart i l (eqb i d) refl (e i) refl)))
-  where
-    apart : (i : ℕ) → i < L .disks → (x : Bool) → eqb i d ≡ x → (y : Bool) → e i ≡ y → (x || not (y && on L i s)) ≡ true
-    apart i l true q y k = refl
-    apart i l false q true k = ap not (a .only i l (eqb-false i d q) k)
-    apart i l false q false k = refl
-
 -- ---- where no repair is allowed
 
 -- On each stripe through an erased disk there is another.
@@ -142,11 +131,6 @@ after-keeps e (r ∷ rs) d h =
     ∙ without-other e (r .disk) d (λ q. h 0 (zero-lt-suc (length rs)) (sym q))
 
 module _ (L : Layout) where
-  pub peels-append : (e : ℕ → Bool) (v w : List Entry) → Peels L e v → Peels L (after e v) w → Peels L e (v ++ w)
-  unfolding after
-  peels-append e [] w p q = q
-  peels-append e (r ∷ rs) w p q = (p .0, peels-append (without e (r .disk)) rs w (p .1) q)
-
   -- Repairs name disks only.
   pub after-outside : (e : ℕ → Bool) (w : List Entry) → Peels L e w → (d : ℕ) → L .disks ≤ d → after e w d ≡ e d
   unfolding after

@@ -1,4 +1,5 @@
-// Sums of stretches (runs of bytes, evenly spaced), kept in an array that is passed by value, so that the compiler sees that nothing overlaps it.
+// Sums of stretches (runs of bytes, evenly spaced), kept in an array that is passed by value, so that the compiler sees that
+// nothing overlaps it.
 ghost use mathlib.Core.Path.{_≡_};
 ghost use Prim.Native.Nat.{_+_, _*_, _≤_, _<_};
 ghost use lib.ListN.{length};
