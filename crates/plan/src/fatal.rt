@@ -53,7 +53,7 @@ pub fn show(size: Size, map: &[u8], sheet: &mut [u8])
     let last = closing_disk(size, map);
     let mut core = [0u8; 256];
     let mut used = [0u8; 98];
-    let found = peel::peel_below(size, map, last + 1, &mut core, &mut used);
+    peel::peel_below(size, map, last + 1, &mut core, &mut used);
     let mut blank = [0u8; 98];
     blank[0] = 2;
     cycle::trace(size, &core, &mut blank);
