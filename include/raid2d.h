@@ -447,8 +447,9 @@ uint32_t raid2d_plan(size_t n,
  *                            sheet and *count are those of raid2d_plan, the
  *                            array is unchanged
  *   RAID2D_ERR_SURVIVORS     the survivors belong to no sealed array, also
- *                            where no disk is erased; the blocks of the erased disks
- *                            and the whole sheet are zero, *count unchanged
+ *                            where no disk is erased; the blocks of the
+ *                            erased disks and the whole sheet are zero,
+ *                            *count unchanged
  *   RAID2D_OK                the blocks of the erased disks are restored;
  *                            sheet and *count are those of raid2d_plan
  */
