@@ -16,9 +16,9 @@ static const struct guard guards[] = {
     {CHECK, READ, 2.6},
     {SEAL, TUNED, 1.1},
     {CHECK, ISAL, 1.15},
-    {REBUILD, READ, 5.0},
+    {REBUILD, READ, 6.0},
     {REBUILD, TUNED, 1.1},
-    {REBUILD, ISAL, 1.4},
+    {REBUILD, ISAL, 1.5},
     {PLAN, TUNED, 12.0},
 };
 
