@@ -1,11 +1,11 @@
 -- The laws of the planner's working map: how its counts change with one disk, that they fit a byte, and how it is loaded.
 -- Assumes nothing.
-use mathlib.Core.Path.{_≡_, refl, sym, _∙_, ap, ap₂, fun-ext}
+use mathlib.Core.Path.{_≡_, refl, sym, _∙_, ap, ap₂, fun-ext, subst}
 use mathlib.Core.Bool.{Bool, true, false, cond, not, _&&_, _||_, and-true, and-false, or-true, or-false, true≢false}
 use mathlib.Core.Logic.{⊎-elim}
 use mathlib.Core.List.{List}
-use Prim.Native.Nat.{ℕ, _+_, _-_, _≤_, _<_}
-use native.Mathlib.Nat.{le-refl}
+use Prim.Native.Nat.{ℕ, _+_, _-_, _≤_, _<_, zero, suc}
+use native.Mathlib.Nat.{le-refl, add-zero, le-step, lt-suc-self}
 use native.Mathlib.Omega.{arith}
 use borrow.Author.Tests.{eq-eqb, ne-eqb, eqb-true, eqb-false, lt-ltb, le-ltb}
 use lib.Dec.{eqb, ltb}
@@ -409,3 +409,13 @@ module _ {z : Size} {map work counts : List ℕ} {d number : ℕ} (loaded : Load
         numbered = loaded .numbered ∙ sym (ap (count (disks z)) same);
         tallied = loaded .tallied;
       }
+
+-- Disks that are all present are passed over.
+pub loaded-over : {z : Size} {map work counts : List ℕ} {d number : ℕ} → Loaded z map d work counts number
+    → (n : ℕ) → ((i : ℕ) → i < n → getD map (d + i) 0 ≡ 0) → Loaded z map (d + n) work counts number
+loaded-over {z} {map} {work} {counts} {d} {number} loaded zero clear =
+    subst (λ (k : ℕ). Loaded z map k work counts number) (sym (add-zero d)) loaded
+loaded-over {z} {map} {work} {counts} {d} {number} loaded (suc n) clear =
+    subst (λ (k : ℕ). Loaded z map k work counts number) (omega arith)
+    (loaded-skip (loaded-over loaded n (λ i b. clear i (le-step b)))
+    (λ e. let zero-there = clear n (lt-suc-self n) in omega arith))

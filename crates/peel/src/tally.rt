@@ -42,7 +42,41 @@ pub fn take(size: Size, work: &mut [u8], counts: &mut [u8], disk: usize)
     counts[column] = counts[column] - 1;
 }
 
-// Marks the erased disks below k of a map, and says how many they are.
+// Marks the erased disks of a map from `from` on and below `to`. Those below `from` are marked already, `number` of them; the
+// answer is how many there are then.
+fn load_part(
+    size: Size,
+    map: &[u8],
+    from: usize,
+    to: usize,
+    number: usize,
+    work: &mut [u8],
+    counts: &mut [u8],
+) -> usize
+    requires { ⌜ sizeFits size ≡ true ⌝ }
+    requires { ⌜ mapFits size (now map) ≡ true ⌝ }
+    requires { ⌜ from ≤ to ⌝ }
+    requires { ⌜ to ≤ disks size ⌝ }
+    requires { ⌜ number ≡ count (disks size) (below from (erasures (now map))) ⌝ }
+    requires { ⌜ erasures (now work) ≡ below from (erasures (now map)) ⌝ }
+    requires { ⌜ Tallied size (now work) (now counts) ⌝ }
+    ensures number { λ r. ⌜ r ≡ count (disks size) (below to (erasures (now (map .entry)))) ⌝ }
+    ensures erased { λ r. ⌜ erasures (now (work .exit)) ≡ below to (erasures (now (map .entry))) ⌝ }
+    ensures tallied { λ r. ⌜ Tallied size (now (work .exit)) (now (counts .exit)) ⌝ }
+{
+    let mut marked = number;
+    let mut d = from;
+    while d < to {
+        if map[d] == 1 {
+            mark(size, work, counts, d);
+            marked += 1;
+        }
+        d += 1;
+    }
+    marked
+}
+
+// Marks the erased disks below k of a map, and says how many they are. 16 disks that are all present are passed over at once.
 pub fn load(size: Size, map: &[u8], k: usize, work: &mut [u8], counts: &mut [u8]) -> usize
     requires { ⌜ sizeFits size ≡ true ⌝ }
     requires { ⌜ mapFits size (now map) ≡ true ⌝ }
@@ -55,12 +89,12 @@ pub fn load(size: Size, map: &[u8], k: usize, work: &mut [u8], counts: &mut [u8]
 {
     let mut number = 0;
     let mut d = 0;
-    while d < k {
-        if map[d] == 1 {
-            mark(size, work, counts, d);
-            number += 1;
+    while d + 16 <= k {
+        if !xor::cancel::clear16(map, d) {
+            let more = load_part(size, map, d, d + 16, number, work, counts);
+            number = more;
         }
-        d += 1;
+        d += 16;
     }
-    number
+    load_part(size, map, d, k, number, work, counts)
 }

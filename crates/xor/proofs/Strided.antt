@@ -189,9 +189,10 @@ or-zero a b = go (eqb a 0) refl (eqb b 0) refl
 abbrev pub zeroAt : List ℕ → ℕ → Bool
 zeroAt v i = eqb (getD v i 0) 0
 
-pub zero-next : (v : List ℕ) (i any : ℕ) → eqb any 0 ≡ every i (zeroAt v) → eqb (bitOr any (getD v i 0)) 0 ≡ every (i + 1) (zeroAt v)
+-- One byte more is gathered.
+pub zero-next : (f : ℕ → ℕ) (i any : ℕ) → eqb any 0 ≡ every i (λ j. eqb (f j) 0) → eqb (bitOr any (f i)) 0 ≡ every (i + 1) (λ j. eqb (f j) 0)
 unfolding every
-zero-next v i any e = rw add-one (or-zero any (getD v i 0) ∙ ap (λ (t : Bool). t && zeroAt v i) e)
+zero-next f i any e = rw add-one (or-zero any (f i) ∙ ap (λ (t : Bool). t && eqb (f i) 0) e)
 
 pub cancelled-add : (m n : ℕ) (a : List ℕ) (first step count skip : ℕ)
     → cancelled (m + n) a first step count skip ≡ (cancelled m a first step count skip && cancelled n a (first + m) step count skip)

@@ -1,17 +1,17 @@
--- `layout::map_fits` meets its contract: the bytes so far are 0 or 1.
+-- `layout::map_fits` meets its contract: the bytes so far are 0 or 1 exactly if what was gathered is.
 -- Assumes nothing.
 use mathlib.Core.Path.{_≡_, _∙_, sym, ap, refl}
-use mathlib.Core.Bool.{Bool, true, _&&_, and-false}
+use mathlib.Core.Bool.{Bool, _&&_}
 use mathlib.Core.List.{List}
 use Prim.Native.Nat.{ℕ, _≤_, _-_}
 use native.Mathlib.Omega.{arith}
 use borrow.Author.Needs.{needs}
-use borrow.Author.Tests.{eq-eqb, ne-eqb, le-leb, lt-leb}
-use lib.Dec.{leb, eqb}
+use borrow.Author.Tests.{eq-eqb, ne-eqb}
+use lib.Dec.{leb}
 use lib.ListN.{length, getD}
 use Rattle.model.specs.Fold.{every}
-use Rattle.model.specs.Grid.{mapFits, disks}
-use Rattle.model.proofs.Fold.{every-not, every-next, and-both}
+use Rattle.model.specs.Grid.{mapFits}
+use Rattle.layout.proofs.Gathered.{small-next}
 use Rattle.layout.proofs.map_fits.Statement.{statement}
 use Rattle.layout.proofs.map_fits.Tie as tie
 
@@ -20,10 +20,10 @@ abbrev small : List ℕ → ℕ → Bool
 small m d = leb (getD m d 0) 1
 
 abbrev Inv-loop : tie.InvT-loop
-Inv-loop map d₀ d = (d ≤ length map) × (every d (small map) ≡ true)
+Inv-loop map any₀ d₀ any d = (d ≤ length map) × (leb any 1 ≡ every d (small map))
 
 abbrev μ-loop : tie.MeasureT-loop
-μ-loop map d₀ d = length map - d
+μ-loop map any₀ d₀ any d = length map - d
 
 disks-requires : tie.Need-disks-requires Inv-loop μ-loop
 disks-requires c κs = c .before .pre
@@ -38,15 +38,8 @@ loop-holds : tie.Need-loop-holds Inv-loop μ-loop
 unfolding every
 loop-holds c = (search needs, refl)
 
-shared-slice-read-if2 : tie.Need-shared-slice-read-if2 Inv-loop μ-loop
-shared-slice-read-if2 c = search needs
-
-returns-2 : tie.Need-returns-2 Inv-loop μ-loop
-unfolding mapFits
-returns-2 c =
-    let m = c .before .before .before .before .before .before .before .args .map .now in
-    let l = c .before .before .before .loop in
-    sym (ap (λ (t : Bool). eqb (length m) (disks (c .before .before .before .before .before .before .before .args .size)) && t) (every-not (length m) (small m) (l .d) (omega arith) (lt-leb _ _ (c .if2 .taken))) ∙ and-false (eqb (length m) (disks (c .before .before .before .before .before .before .before .args .size))))
+shared-slice-read-any : tie.Need-shared-slice-read-any Inv-loop μ-loop
+shared-slice-read-any c = search needs
 
 add-d : tie.Need-add-d Inv-loop μ-loop
 add-d c = search needs
@@ -56,16 +49,17 @@ loop-less c = search needs
 
 loop-again : tie.Need-loop-again Inv-loop μ-loop
 loop-again c =
-    let m = c .before .before .before .before .before .before .before .args .map .now in
-    let l = c .before .before .before .loop in
-    (search needs, every-next (l .d) (small m) (l .inv .1) (le-leb _ _ (c .if2 .left)))
+    let m = c .before .before .before .before .before .before .args .map .now in
+    let l = c .before .before .loop in
+    (search needs, small-next (λ d. getD m d 0) (l .d) (l .any) (l .inv .1))
 
-returns-3 : tie.Need-returns-3 Inv-loop μ-loop
+returns-2 : tie.Need-returns-2 Inv-loop μ-loop
 unfolding mapFits
-returns-3 c =
+returns-2 c =
     let m = c .before .before .before .before .before .args .map .now in
     let l = c .before .loop in
-    sym (and-both (eq-eqb _ _ (c .before .before .if1 .left ∙ c .before .before .before .disks .ensures)) (ap (λ (n : ℕ). every n (small m)) (omega arith) ∙ l .inv .1))
+    l .inv .1 ∙ ap (λ (n : ℕ). every n (small m)) (omega arith)
+    ∙ sym (ap (λ (t : Bool). t && every (length m) (small m)) (eq-eqb _ _ (c .before .before .if1 .left ∙ c .before .before .before .disks .ensures)))
 
 pub map-fits-spec : {M : Type 1} → statement M
 map-fits-spec =
@@ -76,9 +70,8 @@ map-fits-spec =
     disks-requires
     returns
     loop-holds
-    shared-slice-read-if2
-    returns-2
+    shared-slice-read-any
     add-d
     loop-less
     loop-again
-    returns-3)
+    returns-2)

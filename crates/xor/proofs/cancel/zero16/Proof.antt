@@ -5,6 +5,7 @@ use Prim.Native.Nat.{ℕ, _≤_, _-_}
 use native.Mathlib.Omega.{arith}
 use borrow.Author.Needs.{needs}
 use lib.Dec.{eqb}
+use lib.ListN.{getD}
 use Rattle.model.specs.Fold.{every}
 use Rattle.xor.proofs.Strided.{zeroAt, zero-next}
 use Rattle.xor.proofs.cancel.zero16.Statement.{statement}
@@ -32,7 +33,7 @@ loop-less c = search needs
 loop-again : tie.Need-loop-again Inv-loop μ-loop
 loop-again c =
     let l = c .before .loop in
-    (search needs, zero-next (c .before .before .args .t1) (l .i) (l .any) (l .inv .1))
+    (search needs, zero-next (λ j. getD (c .before .before .args .t1) j 0) (l .i) (l .any) (l .inv .1))
 
 returns : tie.Need-returns Inv-loop μ-loop
 returns c =
