@@ -1,4 +1,4 @@
--- `xor::cancel::clear16` meets its contract: the bytes so far are all zero exactly if nothing was gathered.
+-- `xor::clear::clear16` meets its contract: the bytes so far are all zero exactly if nothing was gathered.
 -- Assumes nothing.
 use mathlib.Core.Path.{_≡_, _∙_, refl, ap}
 use mathlib.Core.Bool.{Bool}
@@ -10,8 +10,8 @@ use lib.Dec.{eqb}
 use lib.ListN.{getD}
 use Rattle.model.specs.Fold.{every}
 use Rattle.xor.proofs.Strided.{zero-next}
-use Rattle.xor.proofs.cancel.clear16.Statement.{statement}
-use Rattle.xor.proofs.cancel.clear16.Tie as tie
+use Rattle.xor.proofs.clear.clear16.Statement.{statement}
+use Rattle.xor.proofs.clear.clear16.Tie as tie
 
 -- Byte number i from `at` on is zero.
 abbrev clearAt : List ℕ → (at i : ℕ) → Bool
