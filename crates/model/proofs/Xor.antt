@@ -1,11 +1,11 @@
--- The laws of the exclusive or.
+-- The laws of the exclusive or, and that the inclusive or is not below its parts.
 -- Assumes nothing.
 use mathlib.Core.Path.{_≡_, refl, sym, _∙_, ap, ap₂}
-use Prim.Native.Nat.{ℕ, zero, suc, _+_, _*_, _/_, _%_, _<_}
+use Prim.Native.Nat.{ℕ, zero, suc, _+_, _*_, _/_, _%_, _≤_, _<_}
 use native.Mathlib.Nat.{mod-lt}
 use native.Mathlib.Omega.{arith}
 use lib.Arith.{bin-ind}
-use lib.Bits.{bitXor, differ, xor-step, xor-shr, xor-mod, xor-zero-l, xor-zero-r, xor-comm, xor-self, xor-lt}
+use lib.Bits.{bitOr, or-add-and, and-le-l, and-le-r, bitXor, differ, xor-step, xor-shr, xor-mod, xor-zero-l, xor-zero-r, xor-comm, xor-self, xor-lt}
 use Rattle.model.specs.Fold.{_⊕_}
 
 -- ---- on one binary digit
@@ -76,3 +76,10 @@ equal-of-zero a b e = sym (⊕-zero a) ∙ ap (λ (x : ℕ). a ⊕ x) (sym e) �
 
 pub zero-of-equal : (a b : ℕ) → a ≡ b → a ⊕ b ≡ 0
 zero-of-equal a b e = ap (λ (x : ℕ). x ⊕ b) e ∙ ⊕-self b
+
+-- ---- the inclusive or
+pub or-above-left : (a b : ℕ) → a ≤ bitOr a b
+or-above-left a b = let sum = or-add-and a b in let both = and-le-r a b in omega arith
+
+pub or-above-right : (a b : ℕ) → b ≤ bitOr a b
+or-above-right a b = let sum = or-add-and a b in let both = and-le-l a b in omega arith

@@ -10,10 +10,10 @@ use native.Mathlib.Numerals.{add-one}
 use native.Mathlib.Omega.{arith}
 use borrow.Author.Tests.{eq-eqb, ne-eqb, eqb-true, eqb-false}
 use lib.Dec.{eqb}
-use lib.Bits.{bitXor, bitOr, bitAnd, or-add-and, and-le-l, and-le-r}
+use lib.Bits.{bitXor, bitOr, or-add-and}
 use lib.ListN.{length, getD, set, replicate, length-replicate, getD-replicate}
 use Rattle.model.specs.Fold.{_⊕_, xsum, gate, every}
-use Rattle.model.proofs.Xor.{⊕-zero}
+use Rattle.model.proofs.Xor.{⊕-zero, or-above-left, or-above-right}
 use Rattle.model.proofs.Fold.{xsum-ext, every-add, every-ext, getD-tabulate, list-is, tabulate-ext, lt-or-le}
 use Rattle.xor.specs.Strided.{strided, sums, mixed, stored, filled, cancelled, Spaced, Within}
 use Rattle.xor.proofs.Stored.{stored-more, stored-next, stored-all, stored-ext, stored-none, length-stored, getD-before, getD-after}
@@ -172,19 +172,10 @@ spaced-later a b first step count skip len n w at s h e p =
 pub or-zero : (a b : ℕ) → eqb (bitOr a b) 0 ≡ (eqb a 0 && eqb b 0)
 or-zero a b = go (eqb a 0) refl (eqb b 0) refl
   where
-    sum : bitOr a b + bitAnd a b ≡ a + b
-    sum = or-add-and a b
-
-    left : bitAnd a b ≤ a
-    left = and-le-l a b
-
-    right : bitAnd a b ≤ b
-    right = and-le-r a b
-
     go : (s : Bool) → eqb a 0 ≡ s → (t : Bool) → eqb b 0 ≡ t → eqb (bitOr a b) 0 ≡ (s && t)
-    go true e true f = let p = eqb-true a 0 e in let q = eqb-true b 0 f in let h = sum in eq-eqb (bitOr a b) 0 (omega arith)
-    go true e false f = ne-eqb (bitOr a b) 0 (λ z. eqb-false b 0 f (let h = sum in let l = left in omega arith))
-    go false e t f = ne-eqb (bitOr a b) 0 (λ z. eqb-false a 0 e (let h = sum in let l = right in omega arith))
+    go true e true f = let p = eqb-true a 0 e in let q = eqb-true b 0 f in let h = or-add-and a b in eq-eqb (bitOr a b) 0 (omega arith)
+    go true e false f = ne-eqb (bitOr a b) 0 (λ z. eqb-false b 0 f (let h = or-above-right a b in omega arith))
+    go false e t f = ne-eqb (bitOr a b) 0 (λ z. eqb-false a 0 e (let h = or-above-left a b in omega arith))
 
 abbrev pub zeroAt : List ℕ → ℕ → Bool
 zeroAt v i = eqb (getD v i 0) 0
