@@ -4,6 +4,8 @@ ghost use mathlib.Core.Path.{_≡_};
 ghost use mathlib.Core.Bool.{true};
 ghost use Prim.Native.Nat.{_≤_};
 ghost use Rattle.model.specs.Grid.{rows, columns, across, disks, diskAt, arrayBytes, isData, sizeFits, blockFits, mapFits};
+ghost use Rattle.model.specs.Stripes.{on};
+ghost use Rattle.model.specs.Grid.{gridOf};
 ghost use Rattle.model.specs.Refusal.{refusal, arrayTests};
 ghost use Rattle.layout.specs.Stripe.{disksOn, placeOn, rowStripe, columnStripe};
 use model::Size;
@@ -143,6 +145,17 @@ pub fn column_stripe(size: Size, disk: usize) -> usize
     ensures { λ r. ⌜ r ≡ columnStripe size disk ⌝ }
 {
     16 + disk % across(size)
+}
+
+// The stripe is the disk's row or its column.
+pub fn on_stripe(size: Size, disk: usize, stripe: usize) -> bool
+    requires { ⌜ sizeFits size ≡ true ⌝ }
+    ensures { λ r. ⌜ r ≡ on (gridOf size) disk stripe ⌝ }
+{
+    if stripe == row_stripe(size, disk) {
+        return true;
+    }
+    stripe == column_stripe(size, disk)
 }
 
 // The map has a byte for each disk, and each is 0 or 1: so is what all of them together have.

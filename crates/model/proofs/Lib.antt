@@ -14,6 +14,7 @@ pub mod Seal
 pub mod Check
 pub mod Write
 pub mod Restore
+pub mod Clears
 pub mod Contents
 pub mod Accept
 pub mod Demand2

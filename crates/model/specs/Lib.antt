@@ -7,7 +7,9 @@ pub mod Array
 pub mod Repair
 pub mod Cycle
 pub mod Sheet
+pub mod Chain
 pub mod Rebuild
+pub mod Follow
 pub mod Listing
 pub mod Demand3
 pub mod Cases

@@ -10,6 +10,7 @@ ghost use Rattle.model.specs.Sheet.{sheetOf};
 
 mod order;
 mod pick;
+pub mod replay;
 mod tally;
 
 use model::Size;

@@ -6,6 +6,7 @@ ghost use Rattle.model.specs.Array.{sealStatus, sealArray, checked, checkStatus
 ghost use Rattle.model.specs.Array.{lookLength, lookPlace};
 ghost use Rattle.model.specs.Rebuild.{planOutcome, planSheet, outcomeStatus, outcomeCount};
 ghost use Rattle.model.specs.Rebuild.{rebuildOutcome, rebuildArray, rebuildSheet};
+ghost use Rattle.model.specs.Follow.{followOutcome, followArray};
 use model::Checked;
 use model::Outcome;
 use model::Size;
@@ -125,5 +126,29 @@ pub extern "C" fn raid2d_rebuild(
         ⌝ }
 {
     let answer = rebuild::rebuild(Size { side: n }, block, array, map, sheet);
+    report(answer, count)
+}
+
+#[no_mangle]
+pub extern "C" fn raid2d_follow(
+    n: usize,
+    block: usize,
+    array: &mut [u8],
+    map: &[u8],
+    sheet: &[u8],
+    count: &mut usize,
+) -> u32
+    ensures status { λ r. ⌜
+        r ≡ outcomeStatus (followOutcome (square n) block (now (array .entry)) (now (map .entry)) (now (sheet .entry)))
+        ⌝ }
+    ensures array { λ r. ⌜
+        now (array .exit) ≡ followArray (square n) block (now (array .entry)) (now (map .entry)) (now (sheet .entry))
+        ⌝ }
+    ensures count { λ r. ⌜
+        now (count .exit) ≡ outcomeCount
+        (followOutcome (square n) block (now (array .entry)) (now (map .entry)) (now (sheet .entry))) (now (count .entry))
+        ⌝ }
+{
+    let answer = follow::follow(Size { side: n }, block, array, map, sheet);
     report(answer, count)
 }

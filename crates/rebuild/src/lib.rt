@@ -1,11 +1,6 @@
-// Rebuild: the repairs of a plan made on the array.
+// Rebuild: the repairs of plan made on the array.
 ghost use mathlib.Core.Path.{_≡_};
 ghost use Rattle.model.specs.Rebuild.{rebuildOutcome, rebuildArray, rebuildSheet};
-
-mod erase;
-mod repair;
-
-use model::Checked;
 use model::Outcome;
 use model::Size;
 
@@ -28,12 +23,9 @@ pub fn rebuild(size: Size, block: usize, array: &mut [u8], map: &[u8], sheet: &m
     let Outcome::Repairs(count) = answer else {
         return answer;
     };
-    repair::repair_all(size, block, array, sheet, count);
-    let checked = array::check(size, block, array);
-    let Checked::Sealed = checked else {
-        erase::zero_erased(size, block, array, map);
+    if !restore::restore(size, block, array, map, sheet, count) {
         sheet::clear(sheet);
         return Outcome::Refused(7);
-    };
+    }
     answer
 }

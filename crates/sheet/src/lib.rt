@@ -1,9 +1,12 @@
-// The sheet of 98 bytes: records written in chain order, and read back.
+// The sheet of 98 bytes: records written in chain order and read back, and sheets from elsewhere.
 ghost use mathlib.Core.Path.{_≡_};
 ghost use Prim.Native.Nat.{_<_};
 ghost use lib.ListN.{length};
 ghost use Rattle.model.specs.Sheet.{blankSheet};
 ghost use Rattle.sheet.specs.Record.{appended, recordDisk, recordStripe, recordCount};
+
+pub mod chain;
+pub mod reader;
 
 // Writes record number k + 1, and its number where the chain ends so far: as the next of record k, or as the first.
 pub fn append(sheet: &mut [u8], k: usize, disk: usize, stripe: usize)

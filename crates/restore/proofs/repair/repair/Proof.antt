@@ -1,4 +1,4 @@
--- `rebuild::repair::repair` meets its contract: what fill makes of the run of the stripe.
+-- `restore::repair::repair` meets its contract: what fill makes of the run of the stripe.
 -- Assumes nothing.
 use mathlib.Core.Path.{_≡_, _∙_}
 use mathlib.Core.Bool.{true}
@@ -7,9 +7,9 @@ use borrow.Author.Needs.{needs}
 use lib.ListN.{length}
 use Rattle.model.specs.Grid.{sizeFits}
 use Rattle.model.proofs.Refusal.{array-fits}
-use Rattle.rebuild.proofs.Steps.{Repair, repair-is}
-use Rattle.rebuild.proofs.repair.repair.Statement.{statement}
-use Rattle.rebuild.proofs.repair.repair.Tie as tie
+use Rattle.restore.proofs.Steps.{Repair, repair-is}
+use Rattle.restore.proofs.repair.repair.Statement.{statement}
+use Rattle.restore.proofs.repair.repair.Tie as tie
 
 fitting : (s : tie.Start) → sizeFits (s .args .size) ≡ true
 fitting s = array-fits (s .args .size) (s .args .block) (length (s .args .array .now)) (s .pre .0) .size

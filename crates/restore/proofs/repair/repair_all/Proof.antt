@@ -1,4 +1,4 @@
--- `rebuild::repair::repair_all` meets its contract: after k turns the first k records are made.
+-- `restore::repair::repair_all` meets its contract: after k turns the first k records are made.
 -- Assumes nothing.
 use mathlib.Core.Path.{_≡_, _∙_, ap, ap₂}
 use Prim.Native.Nat.{ℕ, _≤_, _-_}
@@ -11,9 +11,9 @@ use Rattle.model.specs.Refusal.{refusal, arrayTests}
 use Rattle.model.specs.Repair.{rebuilt}
 use Rattle.model.proofs.Restore.{length-rebuilt}
 use Rattle.sheet.specs.Record.{records}
-use Rattle.rebuild.proofs.Steps.{records-none, records-next}
-use Rattle.rebuild.proofs.repair.repair_all.Statement.{statement}
-use Rattle.rebuild.proofs.repair.repair_all.Tie as tie
+use Rattle.restore.proofs.Steps.{records-none, records-next}
+use Rattle.restore.proofs.repair.repair_all.Statement.{statement}
+use Rattle.restore.proofs.repair.repair_all.Tie as tie
 
 abbrev Inv-loop : tie.InvT-loop
 Inv-loop size block array₀ sheet count k₀ array k =

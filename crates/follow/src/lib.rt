@@ -1,0 +1,38 @@
+// Follow: the repairs of a sheet from elsewhere made on the array.
+ghost use mathlib.Core.Path.{_≡_};
+ghost use Rattle.model.specs.Follow.{followOutcome, followArray};
+use model::Outcome;
+use model::Size;
+use sheet::chain::Chain;
+
+// Restores the erased blocks by the repairs that a sheet lists. The sheet is judged as a whole before any block is changed.
+// Where the survivors contradict each other, the erased blocks become zero. The map and the sheet are only read.
+pub fn follow(size: Size, block: usize, array: &mut [u8], map: &[u8], sheet: &[u8]) -> Outcome
+    ensures outcome { λ r. ⌜ r ≡ followOutcome size block (now (array .entry)) (now (map .entry)) (now (sheet .entry)) ⌝ }
+    ensures array { λ r. ⌜
+        now (array .exit) ≡ followArray size block (now (array .entry)) (now (map .entry)) (now (sheet .entry))
+        ⌝ }
+{
+    let status = layout::array_refusal(size, block, array.len());
+    if status != 0 {
+        return Outcome::Refused(status);
+    }
+    if !layout::map_fits(size, map) {
+        return Outcome::Refused(4);
+    }
+    if sheet.len() != 98 {
+        return Outcome::Refused(5);
+    }
+    let mut own = [0u8; 98];
+    let chain = sheet::chain::straighten(sheet, &mut own);
+    let Chain::Records(count) = chain else {
+        return Outcome::Refused(10);
+    };
+    if !peel::replay::clears(size, map, &own, count) {
+        return Outcome::Refused(11);
+    }
+    if !restore::restore(size, block, array, map, &own, count) {
+        return Outcome::Refused(7);
+    }
+    Outcome::Repairs(count)
+}
