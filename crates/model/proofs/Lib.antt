@@ -19,6 +19,7 @@ pub mod Contents
 pub mod Accept
 pub mod Demand2
 pub mod Sheets
+pub mod Chain
 pub mod Outcomes
 pub mod Demand3
 pub mod Listings
