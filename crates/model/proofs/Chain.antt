@@ -1,22 +1,25 @@
 -- The laws of the chain of a sheet from elsewhere: how to read it record by record, which chains fit, and what they list.
 -- Assumes nothing.
-use mathlib.Core.Path.{_≡_, refl, sym, _∙_, ap}
+use mathlib.Core.Path.{_≡_, refl, sym, _∙_, ap, ap₂}
 use mathlib.Core.Bool.{Bool, true, false, cond, not, _&&_, _||_, and-assoc, or-true, true≢false, false≢true}
 use mathlib.Core.Logic.{_⊎_, inl, inr, ⊎-elim}
 use mathlib.Core.List.{List, [], _∷_, _++_, append-nil}
-use Prim.Native.Nat.{ℕ, zero, suc, _+_, _-_, _≤_, _<_, zero-le}
-use native.Mathlib.Nat.{not-suc-le-zero, pos-of-ne-zero}
+use Prim.Native.Nat.{ℕ, zero, suc, _+_, _*_, _-_, _≤_, _<_, zero-le}
+use native.Mathlib.Nat.{le-refl, le-of-suc-le-suc, not-suc-le-zero, pos-of-ne-zero}
+use native.Mathlib.Numerals.{add-one}
 use native.Mathlib.Omega.{arith}
 use borrow.Author.Tests.{eq-eqb, ne-eqb, eqb-true, eqb-false, leb-true, le-leb, not-true}
 use lib.Dec.{eqb, leb}
-use lib.ListN.{length, getD, length-append}
-use lib.Seq.{append-snoc}
+use lib.ListN.{length, getD, take, length-append}
+use lib.Seq.{append-snoc, take-suc, take-length}
 use Rattle.model.specs.Fold.{count}
 use Rattle.model.specs.Stripes.{among}
 use Rattle.model.specs.Repair.{without, Entry}
+use Rattle.model.specs.Sheet.{sheetOf, recordAt}
 use Rattle.model.specs.Chain.{entryAt, nextNumber, visited, chainNumbers, within, different, chainFits, entriesAt, chainEntries}
 use Rattle.model.proofs.Fold.{and-left, and-right, and-both, by-cases, count-le, count-without}
 use Rattle.model.proofs.Peel.{without-other}
+use Rattle.model.proofs.Sheets.{sheet-kind, sheet-number, sheet-entry, sheet-zero}
 
 -- ---- lists of numbers
 among-here : (k : ℕ) (ks : List ℕ) → among k (k ∷ ks) ≡ true
@@ -29,8 +32,8 @@ among-there k j ks h = ap (λ (b : Bool). eqb k j || b) h ∙ or-true (eqb k j)
 
 among-which : (k j : ℕ) (ks : List ℕ) → among k (j ∷ ks) ≡ true → (k ≡ j) ⊎ (among k ks ≡ true)
 unfolding among
-among-which k j ks = by-cases (λ (b : Bool). (b || among k ks) ≡ true → (k ≡ j) ⊎ (among k ks ≡ true)) (eqb k j)
-    (λ e h. inl (eqb-true k j e)) (λ e h. inr h)
+among-which k j ks =
+    by-cases (λ (b : Bool). (b || among k ks) ≡ true → (k ≡ j) ⊎ (among k ks ≡ true)) (eqb k j) (λ e h. inl (eqb-true k j e)) (λ e h. inr h)
 
 within-append : (n : ℕ) (ks ls : List ℕ) → within n (ks ++ ls) ≡ (within n ks && within n ls)
 unfolding within
@@ -46,7 +49,8 @@ count-listed n t [] inside apart holds = zero-le
 count-listed n t (j ∷ js) inside apart holds =
     let below = leb-true j n (and-left (leb j n) (within n js) inside) in
     let new : among j js ≡ false = not-true (among j js) (and-left (not (among j js)) (different js) apart) in
-    let less = count-listed n (without t j) js (and-right (leb j n) (within n js) inside) (and-right (not (among j js)) (different js) apart)
+    let less =
+    count-listed n (without t j) js (and-right (leb j n) (within n js) inside) (and-right (not (among j js)) (different js) apart)
     (λ k h. without-other t j k (λ e. true≢false (sym h ∙ ap (λ (i : ℕ). among i js) e ∙ new)) ∙ holds k (among-there k j js h)) in
     let one = count-without (suc n) t j (omega arith) (holds j (among-here j js)) in
     omega arith
@@ -74,7 +78,8 @@ module _ (s : List ℕ) where
   entries-length (k ∷ ks) = ap suc (entries-length ks)
 
   -- What is to be shown of the records visited from number k on, by cases: the chain ends there or goes on.
-  visited-cases : (P : List ℕ → Type 0) (n k : ℕ) → (k ≡ 0 → P []) → (0 < k → P (k ∷ visited s n (nextNumber s k))) → P (visited s (suc n) k)
+  visited-cases : (P : List ℕ → Type 0) (n k : ℕ) → (k ≡ 0 → P []) → (0 < k → P (k ∷ visited s n (nextNumber s k)))
+      → P (visited s (suc n) k)
   unfolding visited
   visited-cases P n k end on =
       by-cases (λ (b : Bool). P (cond b [] (k ∷ visited s n (nextNumber s k)))) (eqb k 0) (λ e. end (eqb-true k 0 e))
@@ -94,7 +99,8 @@ module _ (s : List ℕ) where
   visited-zero zero k = refl
   visited-zero (suc n) k =
       visited-cases (λ (ks : List ℕ). among 0 ks ≡ false) n k (λ e. refl)
-      (λ h. ap (λ (b : Bool). b || among 0 (visited s n (nextNumber s k))) (ne-eqb 0 k (λ e. omega arith)) ∙ visited-zero n (nextNumber s k))
+      (λ h.
+      ap (λ (b : Bool). b || among 0 (visited s n (nextNumber s k))) (ne-eqb 0 k (λ e. omega arith)) ∙ visited-zero n (nextNumber s k))
 
   -- A chain that has ended is the same in more steps.
   visited-more : (n k : ℕ) → length (visited s n k) < n → visited s (suc n) k ≡ visited s n k
@@ -145,26 +151,23 @@ module _ (s : List ℕ) where
   unfolding chainFits chainNumbers
   ended-fits e l inside = and-both (eq-eqb (getD s 0 0) 1 e) (and-both inside (visited-different 33 (getD s 1 0) (omega arith)))
 
-  fits-within : chainFits s ≡ true → within 32 (chainNumbers s) ≡ true
+  fits-numbers : chainFits s ≡ true → (within 32 (chainNumbers s) ≡ true) × (different (chainNumbers s) ≡ true)
   unfolding chainFits
-  fits-within e =
-      and-left (within 32 (chainNumbers s)) (different (chainNumbers s))
-      (and-right (eqb (getD s 0 0) 1) (within 32 (chainNumbers s) && different (chainNumbers s)) e)
+  fits-numbers e =
+      let ks : List ℕ = chainNumbers s in
+      let both = and-right (eqb (getD s 0 0) 1) (within 32 ks && different ks) e in
+      (and-left (within 32 ks) (different ks) both, and-right (within 32 ks) (different ks) both)
 
   fits-few : chainFits s ≡ true → length (chainNumbers s) ≤ 32
-  unfolding chainFits chainNumbers
-  fits-few e =
-      few 32 (chainNumbers s) (fits-within e)
-      (and-right (within 32 (chainNumbers s)) (different (chainNumbers s))
-      (and-right (eqb (getD s 0 0) 1) (within 32 (chainNumbers s) && different (chainNumbers s)) e))
-      (visited-zero 33 (getD s 1 0))
+  unfolding chainNumbers
+  fits-few e = let (inside, apart) = fits-numbers e in few 32 (chainNumbers s) inside apart (visited-zero 33 (getD s 1 0))
 
   unfit : (chainFits s ≡ true → ⊥) → chainFits s ≡ false
   unfit h = by-cases (λ (b : Bool). b ≡ false) (chainFits s) (λ e. absurd (h e)) (λ e. refl)
 
 -- ---- reading record by record
 
--- The first k records of a chain are read and list w, and `number` comes next.
+-- The first k records of a chain are read, `number` comes next, and w is what they list. `numbers` are theirs.
 pub record Walked (s : List ℕ) (k number : ℕ) (w : List Entry) : Type 0 where
   pub numbers : List ℕ
   pub chain : chainNumbers s ≡ numbers ++ visited s (33 - k) number
@@ -216,14 +219,143 @@ unfolding within
 walked-outside {s} {k} {number} p h =
     unfit s (λ e.
     let rest : List ℕ = visited s (33 - (k + 1)) (nextNumber s number) in
-    let inside = sym (within-append 32 (p .numbers) (number ∷ rest)) ∙ ap (within 32) (sym (walked-on p (omega arith))) ∙ fits-within s e in
-    let most = leb-true number 32 (and-left (leb number 32) (within 32 rest) (and-right (within 32 (p .numbers)) (within 32 (number ∷ rest)) inside)) in
+    let parts = sym (ap (within 32) (walked-on p (omega arith)) ∙ within-append 32 (p .numbers) (number ∷ rest)) ∙ fits-numbers s e .0 in
+    let inside = and-right (within 32 (p .numbers)) (within 32 (number ∷ rest)) parts in
+    let most = leb-true number 32 (and-left (leb number 32) (within 32 rest) inside) in
     omega arith)
 
--- There are 32 records, and yet another comes next.
+-- 32 records are read, and another number comes next.
 pub walked-ring : {s : List ℕ} {number : ℕ} {w : List Entry} → Walked s 32 number w → 0 < number → chainFits s ≡ false
 walked-ring {s} {number} p h =
     unfit s (λ e.
     let most = fits-few s e in
     let long = ap length (walked-on p h) ∙ length-append (p .numbers) (number ∷ visited s (33 - (32 + 1)) (nextNumber s number)) in
     omega arith)
+
+-- ---- the sheets that the library writes
+module _ (w : List Entry) (most : length w ≤ 32) where
+  -- Record k + 1 is entry k of the list, and behind it stands the number that leads on.
+  written-entry : (k : ℕ) → k < length w → take k w ++ (entryAt (sheetOf 1 w) (k + 1) ∷ []) ≡ take (k + 1) w
+  unfolding entryAt
+  written-entry k h =
+      let s : List ℕ = sheetOf 1 w in
+      let disk : recordAt (k + 1) ≡ 3 * k + 2 = omega arith in
+      let stripe : recordAt (k + 1) + 1 ≡ 3 * k + 3 = omega arith in
+      let entry = ap₂ (λ (i j : ℕ). record { disk = getD s i 0; stripe = getD s j 0 }) disk stripe ∙ sheet-entry 1 w most k h in
+      ap (λ (r : Entry). take k w ++ (r ∷ [])) entry ∙ rw add-one (sym (take-suc w k (record { disk = 0; stripe = 0 }) h))
+
+  written-next : (k : ℕ) → nextNumber (sheetOf 1 w) (k + 1) ≡ getD (sheetOf 1 w) (3 * (k + 1) + 1) 0
+  unfolding nextNumber
+  written-next k = ap (λ (i : ℕ). getD (sheetOf 1 w) i 0) (omega arith)
+
+  written-step : (k : ℕ) → k < length w → Walked (sheetOf 1 w) k (getD (sheetOf 1 w) (3 * k + 1) 0) (take k w)
+      → Walked (sheetOf 1 w) (k + 1) (getD (sheetOf 1 w) (3 * (k + 1) + 1) 0) (take (k + 1) w)
+  written-step k h p =
+      rw (← written-entry k h, ← written-next k)
+      (walked-next (sheetOf 1 w) k (k + 1) (take k w) (rw (sheet-number 1 w most k h) at p) (omega arith) (omega arith) (omega arith))
+
+  written-walked : (k : ℕ) → k ≤ length w → Walked (sheetOf 1 w) k (getD (sheetOf 1 w) (3 * k + 1) 0) (take k w)
+  written-walked zero h = walked-first (sheetOf 1 w)
+  written-walked (suc k) h = rw (← add-one k) (written-step k h (written-walked k (omega arith)))
+
+  -- The list of repairs is read back as it was meant.
+  pub written-chain : (chainFits (sheetOf 1 w) ≡ true) × (chainEntries (sheetOf 1 w) ≡ w)
+  written-chain =
+      let all = written-walked (length w) (le-refl (length w)) in
+      walked-end (rw (take-length, sheet-zero 1 w (3 * length w + 1) (omega arith) (omega arith)) at all) (sheet-kind 1 w)
+
+-- A loop's sheet is refused.
+pub loop-sheet-unfit : (w : List Entry) → chainFits (sheetOf 2 w) ≡ false
+unfolding chainFits
+loop-sheet-unfit w =
+    let numbers : List ℕ = chainNumbers (sheetOf 2 w) in
+    ap (λ (k : ℕ). eqb k 1 && (within 32 numbers && different numbers)) (sheet-kind 2 w)
+
+-- ---- chains that visit any records in any order
+
+-- From number k on the chain visits the records ks, which list w, and ends.
+abbrev pub Linked : List ℕ → ℕ → List ℕ → List Entry → Type 0
+Linked s k [] [] = k ≡ 0
+Linked s k [] (r ∷ rs) = ⊥
+Linked s k (j ∷ js) [] = ⊥
+Linked s k (j ∷ js) (r ∷ rs) = (k ≡ j) × (0 < j) × (entryAt s j ≡ r) × Linked s (nextNumber s j) js rs
+
+module _ (s : List ℕ) where
+  linked-visits : (n k : ℕ) (ks : List ℕ) (w : List Entry) → Linked s k ks w → length ks ≤ n → visited s n k ≡ ks
+  linked-visits n k [] [] e l = ap (visited s n) e ∙ visited-end s n
+  linked-visits n k [] (r ∷ rs) e l = absurd e
+  linked-visits n k (j ∷ js) [] e l = absurd e
+  linked-visits zero k (j ∷ js) (r ∷ rs) e l = absurd (not-suc-le-zero l)
+  linked-visits (suc n) k (j ∷ js) (r ∷ rs) (e, p, _, up) l =
+      ap (visited s (suc n)) e ∙ visited-next s n j p
+      ∙ ap (λ (ks : List ℕ). j ∷ ks) (linked-visits n (nextNumber s j) js rs up (le-of-suc-le-suc l))
+
+  linked-lists : (k : ℕ) (ks : List ℕ) (w : List Entry) → Linked s k ks w → entriesAt s ks ≡ w
+  unfolding entriesAt
+  linked-lists k [] [] e = refl
+  linked-lists k [] (r ∷ rs) e = absurd e
+  linked-lists k (j ∷ js) [] e = absurd e
+  linked-lists k (j ∷ js) (r ∷ rs) (_, _, q, up) = ap₂ (λ (r : Entry) (rs : List Entry). r ∷ rs) q (linked-lists (nextNumber s j) js rs up)
+
+  -- Such a chain fits if no number is too large. Its records differ, so they are few.
+  pub linked-fits : (ks : List ℕ) (w : List Entry) → getD s 0 0 ≡ 1 → Linked s (getD s 1 0) ks w → within 32 ks ≡ true
+      → (chainFits s ≡ true) × (chainEntries s ≡ w) × (chainNumbers s ≡ ks)
+  unfolding chainNumbers chainEntries
+  linked-fits ks w kind linked inside =
+      let first : ℕ = getD s 1 0 in
+      let whole : visited s (suc (length ks)) first ≡ ks = linked-visits (suc (length ks)) first ks w linked (omega arith) in
+      let long = ap length whole in
+      let most : length ks ≤ 32 =
+      few 32 ks inside (ap different (sym whole) ∙ visited-different s (suc (length ks)) first (omega arith))
+      (ap (among 0) (sym whole) ∙ visited-zero s (suc (length ks)) first) in
+      let is : chainNumbers s ≡ ks = linked-visits 33 first ks w linked (omega arith) in
+      let size = ap length is in
+      (ended-fits s kind (omega arith) (ap (within 32) is ∙ inside), ap (entriesAt s) is ∙ linked-lists first ks w linked, is)
+
+  visited-linked : (n k : ℕ) → length (visited s n k) < n → Linked s k (visited s n k) (entriesAt s (visited s n k))
+  unfolding entriesAt
+  visited-linked zero k = λ h. absurd (not-suc-le-zero h)
+  visited-linked (suc n) k =
+      visited-cases s (λ (ks : List ℕ). length ks < suc n → Linked s k ks (entriesAt s ks)) n k (λ e h. e)
+      (λ p h. (refl, p, refl, visited-linked n (nextNumber s k) (le-of-suc-le-suc h)))
+
+  -- Conversely a chain that fits ends.
+  pub fits-linked : chainFits s ≡ true → Linked s (getD s 1 0) (chainNumbers s) (chainEntries s)
+  unfolding chainNumbers chainEntries
+  fits-linked e = let most = fits-few s e in visited-linked 33 (getD s 1 0) (omega arith)
+
+  pub chain-few : chainFits s ≡ true → length (chainEntries s) ≤ 32
+  unfolding chainEntries
+  chain-few e = let most = fits-few s e in let same = entries-length s (chainNumbers s) in omega arith
+
+-- ---- bytes off the chain make no difference
+module _ (s t : List ℕ) where
+  visited-same : (n k : ℕ) → ((j : ℕ) → among j (visited s n k) ≡ true → nextNumber s j ≡ nextNumber t j) → visited s n k ≡ visited t n k
+  unfolding visited
+  visited-same zero k = λ h. refl
+  visited-same (suc n) k =
+      let rest : List ℕ = visited s n (nextNumber s k) in
+      by-cases
+      (λ (b : Bool). ((j : ℕ) → among j (cond b [] (k ∷ rest)) ≡ true → nextNumber s j ≡ nextNumber t j)
+      → cond b [] (k ∷ rest) ≡ cond b [] (k ∷ visited t n (nextNumber t k)))
+      (eqb k 0) (λ e h. refl)
+      (λ e h.
+      ap (λ (ks : List ℕ). k ∷ ks)
+      (visited-same n (nextNumber s k) (λ j m. h j (among-there j k rest m)) ∙ ap (visited t n) (h k (among-here k rest))))
+
+  entries-same : (ks : List ℕ) → ((k : ℕ) → among k ks ≡ true → entryAt s k ≡ entryAt t k) → entriesAt s ks ≡ entriesAt t ks
+  unfolding entriesAt
+  entries-same [] h = refl
+  entries-same (k ∷ ks) h =
+      ap₂ (λ (r : Entry) (rs : List Entry). r ∷ rs) (h k (among-here k ks)) (entries-same ks (λ j m. h j (among-there j k ks m)))
+
+  pub off-chain : getD s 0 0 ≡ getD t 0 0 → getD s 1 0 ≡ getD t 1 0
+      → ((k : ℕ) → among k (chainNumbers s) ≡ true → (entryAt s k ≡ entryAt t k) × (nextNumber s k ≡ nextNumber t k))
+      → (chainFits s ≡ chainFits t) × (chainEntries s ≡ chainEntries t)
+  unfolding chainNumbers chainFits chainEntries
+  off-chain kind first agree =
+      let same : chainNumbers s ≡ chainNumbers t =
+      visited-same 33 (getD s 1 0) (λ j m. agree j m .1) ∙ ap (visited t 33) first in (
+        ap₂ (λ (k : ℕ) (ks : List ℕ). eqb k 1 && (within 32 ks && different ks)) kind same,
+        entries-same (chainNumbers s) (λ k m. agree k m .0) ∙ ap (entriesAt t) same,
+      )
