@@ -13,9 +13,10 @@ use Rattle.model.specs.Grid.{square, rows, columns, across, disks, diskA
 use Rattle.model.specs.Refusal.{refusal, arrayTests}
 use Rattle.model.specs.Array.{writeStatus}
 use Rattle.model.specs.Rebuild.{sheetTests, planTests, rebuildTests}
+use Rattle.model.specs.declared.Size.{Size}
 use Rattle.model.proofs.Fold.{and-left, and-right, and-both, every-at, every-all}
 use Rattle.model.proofs.Grid.{block-fits, disk-is, data-at, data-row, data-column}
-use Rattle.model.proofs.Refusal.{no-tests, passes, passed, array-fits, array-accepted, array-tests, array-passed}
+use Rattle.model.proofs.Refusal.{no-tests, passes, by-test, passed, array-fits, array-accepted, array-tests, array-passed}
 use Rattle.model.proofs.Write.{write-fits, status-none}
 
 pub array-accepts : (n B len : ℕ) → (refusal (arrayTests (square n) B len) ≡ 0)
@@ -65,6 +66,12 @@ sheet-accepts n m len = (
       passes 4 (mapFits (square n) m) _ (and-both (eq-eqb _ _ (h .0)) (every-all (length m) (λ d l. le-leb _ _ (h .1 d l))))
       ∙ passes 5 (eqb len 98) _ (eq-eqb len 98 (h .2)) ∙ no-tests,
 )
+
+-- They refuse by 5 at most.
+pub sheet-small : (z : Size) (m : List ℕ) (len : ℕ) → refusal (sheetTests z m len) ≤ 5
+unfolding sheetTests
+sheet-small z m len =
+    by-test (λ k. k ≤ 5) 4 (mapFits z m) _ (omega arith) (by-test (λ k. k ≤ 5) 5 (eqb len 98) _ (omega arith) (rw no-tests (omega arith)))
 
 pub plan-accepts : (n : ℕ) (m : List ℕ) (len : ℕ) → (refusal (planTests (square n) m len) ≡ 0)
     ↔ ((2 ≤ n) × (n ≤ 15) × SheetFits n m len)

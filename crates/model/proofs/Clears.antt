@@ -4,18 +4,18 @@ use mathlib.Core.Path.{_≡_, refl, sym, _∙_, ap}
 use mathlib.Core.Bool.{Bool, true, false, _&&_, and-true, and-assoc}
 use mathlib.Core.Logic.{_↔_}
 use mathlib.Core.List.{List, [], _∷_, _++_}
-use Prim.Native.Nat.{ℕ, _+_, _<_}
-use native.Mathlib.Nat.{zero-add}
+use Prim.Native.Nat.{ℕ, _+_, _*_, _<_}
 use native.Mathlib.Omega.{arith}
 use borrow.Author.Tests.{eq-eqb, eqb-true}
 use lib.Dec.{eqb}
 use lib.ListN.{length}
 use Rattle.model.specs.Fold.{count}
-use Rattle.model.specs.Stripes.{Layout}
-use Rattle.model.specs.Repair.{without, Entry, allowed, Peels, after}
+use Rattle.model.specs.Stripes.{Layout, whole, Codeword, Bytes}
+use Rattle.model.specs.Repair.{without, Entry, allowed, Peels, repairs, after, residual, lost, fatal, rebuilt, consistent, Agree, Belongs}
 use Rattle.model.specs.Follow.{allAllowed, clears}
-use Rattle.model.proofs.Fold.{same-test, and-left, and-right, and-both}
-use Rattle.model.proofs.Peel.{peel-count}
+use Rattle.model.proofs.Fold.{same-test, by-cases, and-left, and-right, and-both, count-zero-none}
+use Rattle.model.proofs.Peel.{stuck-stays, repairs-peels, residual-stuck, residual-sub, not-fatal, peel-count, none-lost}
+use Rattle.model.proofs.Restore.{Bounded, whole-inside, consistent-belongs, rebuilt-is}
 
 module _ (L : Layout) where
   -- The test says what Peels says.
@@ -64,3 +64,47 @@ module _ (L : Layout) where
   pub clears-none : (e : ℕ → Bool) (w : List Entry) → clears L e w ≡ true → count (L .disks) (after e w) ≡ 0
   unfolding clears
   clears-none e w h = eqb-true _ 0 (and-right (allAllowed L e w) _ h)
+
+  pub clears-left : (e : ℕ → Bool) (w : List Entry) → clears L e w ≡ true → (d : ℕ) → d < L .disks → after e w d ≡ false
+  clears-left e w h = count-zero-none (L .disks) (after e w) (clears-none e w h)
+
+  -- So there is a repair for each erased disk.
+  pub clears-length : (e : ℕ → Bool) (w : List Entry) → clears L e w ≡ true → length w ≡ count (L .disks) e
+  clears-length e w h = let none = clears-none e w h in let all = peel-count L e w (clears-peels e w h) in omega arith
+
+  -- A list that leaves nothing erased exists just where the loss is not fatal: none does where it is, and else plan's is one.
+  pub clears-fine : (e : ℕ → Bool) (w : List Entry) → clears L e w ≡ true → fatal L e ≡ false
+  clears-fine e w h =
+      not-fatal L e .1
+      (λ d l.
+      by-cases (λ (t : Bool). t ≡ false) (residual L e d)
+      (λ k.
+      sym (stuck-stays L (residual L e) e (λ i b. residual-sub L e i) (residual-stuck L e) w (clears-peels e w h) d l k)
+      ∙ clears-left e w h d l)
+      (λ k. refl))
+
+  pub repairs-clear : (e : ℕ → Bool) → fatal L e ≡ false → clears L e (repairs L e) ≡ true
+  unfolding clears lost residual
+  repairs-clear e fine = and-both (peels-all-allowed e (repairs L e) (repairs-peels L e)) (eq-eqb _ 0 (none-lost L e fine))
+
+-- What such a list makes of an array.
+module _ (L : Layout) (bounded : Bounded L) (B : ℕ) (e : ℕ → Bool) (a : List ℕ) (sized : length a ≡ L .disks * whole B .block) where
+  -- It restores the codeword that the survivors belong to, and tells whether there is one.
+  pub clears-restored : (w : List Entry) → clears L e w ≡ true → (b : List ℕ) → Codeword L (whole B) b → Agree L (whole B) e a b
+      → rebuilt L (whole B) a w ≡ b
+  clears-restored w h b = rebuilt-is L bounded B e w (clears-peels L e w h) (clears-left L e w h) a b sized
+
+  pub clears-judged : (w : List Entry) → clears L e w ≡ true → Bytes a
+      → (consistent L (whole B) (rebuilt L (whole B) a w) ≡ true) ↔ Belongs L (whole B) e a
+  clears-judged w h = consistent-belongs L bounded (whole B) (whole-inside B) e w (clears-peels L e w h) (clears-left L e w h) a sized
+
+  -- So two such lists are judged alike, and make the same array where all sums are zero.
+  pub clears-alike : Bytes a → (v w : List Entry) → clears L e v ≡ true → clears L e w ≡ true
+      → (consistent L (whole B) (rebuilt L (whole B) a v) ≡ consistent L (whole B) (rebuilt L (whole B) a w))
+      × (consistent L (whole B) (rebuilt L (whole B) a w) ≡ true → rebuilt L (whole B) a v ≡ rebuilt L (whole B) a w)
+  clears-alike small v w h k =
+      let (to, of) = clears-judged v h small in
+      let (to₂, of₂) = clears-judged w k small in (
+        same-test _ _ (λ c. of₂ (to c)) (λ c. of (to₂ c)),
+        λ c. let (b, word, agree) = to₂ c in clears-restored v h b word agree ∙ sym (clears-restored w k b word agree),
+      )

@@ -7,7 +7,7 @@ use mathlib.Core.List.{List, [], _∷_, _++_}
 use Prim.Native.Nat.{ℕ, _≤_, _<_}
 use native.Mathlib.Omega.{arith}
 use borrow.Author.Tests.{ne-eqb}
-use lib.Dec.{eqb, leb}
+use lib.Dec.{leb}
 use lib.ListN.{length, getD, take, drop, length-take, length-drop}
 use lib.Seq.{take-all, getD-take}
 use Rattle.model.specs.Fold.{every}
@@ -16,19 +16,15 @@ use Rattle.model.specs.Refusal.{refusal}
 use Rattle.model.specs.Listing.{decimal, refusedWord, listing}
 use Rattle.model.specs.Rebuild.{sheetTests, planTests}
 use Rattle.model.specs.declared.Size.{Size}
-use Rattle.model.proofs.Fold.{by-cases, lt-or-le}
+use Rattle.model.proofs.Fold.{lt-or-le}
 use Rattle.model.proofs.Grid.{size-fits, disks-bound}
-use Rattle.model.proofs.Refusal.{given-refused, fails, passes}
+use Rattle.model.proofs.Refusal.{given-refused, fails, passes, by-test}
+use Rattle.model.proofs.Accept.{sheet-small}
 
 -- Refusal numbers are small.
 pub refusal-small : (z : Size) (m : List ℕ) (len : ℕ) → refusal (planTests z m len) ≤ 5
-unfolding planTests sheetTests refusal
-refusal-small z m len =
-    by-cases (λ (t : Bool). cond t (cond (mapFits z m) (cond (eqb len 98) 0 5) 4) 1 ≤ 5) (sizeFits z)
-    (λ e.
-    by-cases (λ (t : Bool). cond t (cond (eqb len 98) 0 5) 4 ≤ 5) (mapFits z m)
-    (λ e. by-cases (λ (t : Bool). cond t 0 5 ≤ 5) (eqb len 98) (λ e. omega arith) (λ e. omega arith)) (λ e. omega arith))
-    (λ e. omega arith)
+unfolding planTests
+refusal-small z m len = by-test (λ k. k ≤ 5) 1 (sizeFits z) _ (omega arith) (sheet-small z m len)
 
 -- A map of more than 256 bytes is refused by 4, or by 1 together with its size.
 overlong : (z : Size) (m : List ℕ) → 256 < length m → refusal (planTests z m 98) ≡ cond (sizeFits z) 4 1

@@ -32,6 +32,12 @@ pub passes : (k : ℕ) (t : Bool) (ts : List Test) → t ≡ true → refusal (k
 unfolding refusal
 passes k t ts e = ap (λ (b : Bool). cond b (refusal ts) k) e
 
+-- What holds of a test's number and of what the tests after it give holds of what all of them give.
+pub by-test : (P : ℕ → Type 0) (k : ℕ) (t : Bool) (ts : List Test) → P k → P (refusal ts) → P (refusal (k unless t ∷ ts))
+unfolding refusal
+by-test P k true ts own rest = rest
+by-test P k false ts own rest = own
+
 -- A refusal by the first tests stands, whatever tests follow.
 pub refused-first : (ts us : List Test) → (refusal ts ≡ 0 → ⊥) → refusal (ts ++ us) ≡ refusal ts
 unfolding refusal
