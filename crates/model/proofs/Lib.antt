@@ -22,5 +22,6 @@ pub mod Sheets
 pub mod Chain
 pub mod Outcomes
 pub mod Demand3
+pub mod Follow
 pub mod Listings
 pub mod Cases

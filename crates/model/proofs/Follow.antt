@@ -1,0 +1,271 @@
+-- Follow: what comes of a sheet from elsewhere, in the words of paper 01, for every size, block, map, array and sheet.
+-- Assumes nothing.
+use mathlib.Core.Path.{_≡_, refl, sym, _∙_, ap}
+use mathlib.Core.Bool.{Bool, true, false, cond, true≢false}
+use mathlib.Core.Logic.{_↔_, _⊎_, inl, inr}
+use mathlib.Core.List.{List, _++_}
+use Prim.Native.Nat.{ℕ, _≤_}
+use native.Mathlib.Nat.{le-of-lt}
+use native.Mathlib.Omega.{arith}
+use borrow.Author.Tests.{ne-eqb, eqb-true, eqb-false}
+use lib.Dec.{eqb}
+use lib.ListN.{length, getD}
+use Rattle.model.specs.Fold.{count}
+use Rattle.model.specs.Stripes.{among, whole, Codeword, Bytes}
+use Rattle.model.specs.Grid.{gridOf, disks, sizeFits, blockFits, arrayBytes, mapFits}
+use Rattle.model.specs.Refusal.{Test, refusal, arrayTests}
+use Rattle.model.specs.Repair.{erasures, Entry, repairs, fatal, zeroed, consistent, Agree, Belongs}
+use Rattle.model.specs.Cycle.{shownCycle}
+use Rattle.model.specs.Sheet.{sheetOf}
+use Rattle.model.specs.Chain.{entryAt, nextNumber, chainNumbers, within, chainFits, chainEntries}
+use Rattle.model.specs.Rebuild.{sheetTests, planTests, mapOutcome, mapSheet, planSheet, outcomeStatus, rebuildTests, rebuildRefusal, repairedArray, choose, rebuildOutcome, rebuildArray}
+use Rattle.model.specs.Follow.{clears, followedArray, followTests, followRefusal, followOutcome, followArray}
+use Rattle.model.specs.declared.Size.{Size}
+use Rattle.model.specs.declared.Outcome.{Outcome}
+use Rattle.model.specs.declared.Outcome.the-variants.{Repairs, Refused}
+use Rattle.model.proofs.Fold.{by-cases}
+use Rattle.model.proofs.Grid.{grid-disks}
+use Rattle.model.proofs.Refusal.{passes, by-test, refused-first, passed, ArrayFits, array-tests, array-passed}
+use Rattle.model.proofs.Peel.{repairs-peels, repairs-count}
+use Rattle.model.proofs.Degree.{grid-repairs-bound}
+use Rattle.model.proofs.Restore.{consistent-iff, grid-bounded, grid-sized}
+use Rattle.model.proofs.Clears.{clears-length, clears-fine, repairs-clear, clears-restored, clears-judged, clears-alike}
+use Rattle.model.proofs.Accept.{sheet-small}
+use Rattle.model.proofs.Sheets.{sheet-length}
+use Rattle.model.proofs.Chain.{written-chain, loop-sheet-unfit, Linked, linked-fits, off-chain}
+
+-- Follow answers o and leaves the array as b.
+abbrev pub Gives : Size → ℕ → (a m s : List ℕ) → Outcome → (b : List ℕ) → Type 0
+Gives z B a m s o b = (followOutcome z B a m s ≡ o) × (followArray z B a m s ≡ b)
+
+-- The chain of the sheet fits, and it lists allowed repairs that leave no disk erased.
+abbrev pub Usable : Size → (m s : List ℕ) → Type 0
+Usable z m s = (chainFits s ≡ true) × (clears (gridOf z) (erasures m) (chainEntries s) ≡ true)
+
+-- ---- what follow gives, by its number
+module _ (z : Size) (B : ℕ) (a m s : List ℕ) where
+  -- Rebuild's tests refuse by 1 to 5. Where they are passed, the array fits, and the tests that follow decide.
+  first-five : rebuildRefusal z B a m s ≤ 5
+  unfolding rebuildRefusal rebuildTests arrayTests
+  first-five =
+      by-test (λ k. k ≤ 5) 1 (sizeFits z) _ (omega arith)
+      (by-test (λ k. k ≤ 5) 2 (blockFits B) _ (omega arith)
+      (by-test (λ k. k ≤ 5) 3 (eqb (length a) (arrayBytes z B)) _ (omega arith) (sheet-small z m (length s))))
+
+  fits : rebuildRefusal z B a m s ≡ 0 → ArrayFits z B (length a)
+  unfolding rebuildRefusal rebuildTests
+  fits ok = array-tests z B (length a) _ ok .0
+
+  decided : rebuildRefusal z B a m s ≡ 0 → (ts : List Test) → refusal (rebuildTests z B (length a) m (length s) ++ ts) ≡ refusal ts
+  unfolding rebuildRefusal rebuildTests arrayTests sheetTests
+  decided ok ts =
+      let (array, e) = array-tests z B (length a) _ ok in
+      let (map, e₂) = passed 4 (mapFits z m) _ (omega arith) e in
+      let (long, e₃) = passed 5 (eqb (length s) 98) _ (omega arith) e₂ in
+      array-passed z B (length a) array _ ∙ passes 4 (mapFits z m) _ map ∙ passes 5 (eqb (length s) 98) ts long
+
+  -- What follow gives where it refuses by k, or where k is 0.
+  given : (k : ℕ) → followRefusal z B a m s ≡ k
+      → Gives z B a m s (cond (eqb k 0) (Repairs (length (chainEntries s))) (Refused k))
+      (cond (eqb k 0) (followedArray z B a s) (cond (eqb k 7) (zeroed (whole B) a (erasures m)) a))
+  unfolding followOutcome followArray
+  given k e = (rw e, rw e)
+
+  status-is : outcomeStatus (followOutcome z B a m s) ≡ followRefusal z B a m s
+  unfolding followOutcome outcomeStatus
+  status-is =
+      let k = followRefusal z B a m s in
+      by-cases (λ (t : Bool). outcomeStatus (cond t (Repairs (length (chainEntries s))) (Refused k)) ≡ k) (eqb k 0)
+      (λ e. sym (eqb-true k 0 e)) (λ e. refl)
+
+-- It is 7 in one case only.
+seven-only : (p q r : Bool) → _≡_ {A = ℕ} (cond p (cond q (cond r 0 7) 11) 10) 7 → (p ≡ true) × (q ≡ true) × (r ≡ false)
+seven-only true true true e = absurd (omega arith)
+seven-only true true false e = (refl, refl, refl)
+seven-only true false r e = absurd (omega arith)
+seven-only false q r e = absurd (omega arith)
+
+-- Rebuild keeps the array where the loss is fatal.
+rebuild-kept : (z : Size) (B : ℕ) (a m t : List ℕ) → fatal (gridOf z) (erasures m) ≡ true → rebuildArray z B a m t ≡ a
+unfolding rebuildArray choose
+rebuild-kept z B a m t lossy = rw lossy (by-cases (λ (u : Bool). cond u a a ≡ a) (eqb (rebuildRefusal z B a m t) 0) (λ e. refl) (λ e. refl))
+
+-- ---- paper 01's words
+module _ (z : Size) (B : ℕ) (a m s : List ℕ) where
+  -- Follow: 1, 2, 3, 4, 5. They are rebuild's, and nothing changes.
+  pub follow-first : (rebuildRefusal z B a m s ≡ 0 → ⊥) → Gives z B a m s (Refused (rebuildRefusal z B a m s)) a
+  unfolding followRefusal followTests rebuildRefusal
+  follow-first refused =
+      let k = rebuildRefusal z B a m s in
+      let few : k ≤ 5 = first-five z B a m s in
+      rw (ne-eqb k 0 refused, ne-eqb k 7 (λ e. omega arith)) at
+      (given z B a m s k (refused-first (rebuildTests z B (length a) m (length s)) _ refused))
+
+  -- Otherwise 10 exactly if the chain does not fit; else 11 exactly if a step is not an allowed repair or a disk stays erased; else 7
+  -- exactly if a stripe's sum is not zero after the repairs.
+  pub follow-order : rebuildRefusal z B a m s ≡ 0
+      → followRefusal z B a m s
+      ≡ cond (chainFits s)
+      (cond (clears (gridOf z) (erasures m) (chainEntries s)) (cond (consistent (gridOf z) (whole B) (followedArray z B a s)) 0 7) 11) 10
+  unfolding followRefusal followTests refusal
+  follow-order ok = decided z B a m s ok _
+
+  -- Numbers 10 and 11 come before any block is changed: after a refusal by a number other than 7 the array is as it was.
+  pub follow-refused : (outcomeStatus (followOutcome z B a m s) ≡ 0 → ⊥) → (outcomeStatus (followOutcome z B a m s) ≡ 7 → ⊥)
+      → followArray z B a m s ≡ a
+  unfolding followArray
+  follow-refused some other =
+      let status = status-is z B a m s in
+      rw (ne-eqb (followRefusal z B a m s) 0 (λ e. some (status ∙ e)), ne-eqb (followRefusal z B a m s) 7 (λ e. other (status ∙ e)))
+
+  module _ (ok : rebuildRefusal z B a m s ≡ 0) where
+    -- 10, and nothing changes.
+    pub follow-ten : chainFits s ≡ false → Gives z B a m s (Refused 10) a
+    follow-ten unfit = given z B a m s 10 (follow-order ok ∙ (rw unfit))
+
+    -- 11, and nothing changes.
+    pub follow-eleven : chainFits s ≡ true → clears (gridOf z) (erasures m) (chainEntries s) ≡ false → Gives z B a m s (Refused 11) a
+    follow-eleven chain unclear = given z B a m s 11 (follow-order ok ∙ (rw (chain, unclear)))
+
+    -- The repairs of a usable sheet leave all sums zero exactly if the survivors belong to a sealed array.
+    pub follow-judged : Usable z m s → Bytes a
+        → (consistent (gridOf z) (whole B) (followedArray z B a s) ≡ true) ↔ Belongs (gridOf z) (whole B) (erasures m) a
+    unfolding followedArray
+    follow-judged (chain, clear) =
+        let array = fits z B a m s ok in
+        clears-judged (gridOf z) (grid-bounded z (array .size)) B (erasures m) a (grid-sized z B a (array .long)) (chainEntries s) clear
+
+    -- If they do, the array becomes that one, and the count of repairs is that of the erased disks.
+    pub follow-restores : Usable z m s → (b : List ℕ) → Codeword (gridOf z) (whole B) b → Agree (gridOf z) (whole B) (erasures m) a b
+        → Gives z B a m s (Repairs (count (disks z) (erasures m))) b
+    unfolding followedArray
+    follow-restores (chain, clear) b word agree =
+        let array = fits z B a m s ok in
+        let is : followedArray z B a s ≡ b =
+        clears-restored (gridOf z) (grid-bounded z (array .size)) B (erasures m) a (grid-sized z B a (array .long))
+        (chainEntries s) clear b word agree in
+        let sealed : consistent (gridOf z) (whole B) (followedArray z B a s) ≡ true =
+        ap (consistent (gridOf z) (whole B)) is ∙ consistent-iff (gridOf z) (whole B) b .1 (word .sums) in
+        let (answer, left) = given z B a m s 0 (follow-order ok ∙ (rw (chain, clear, sealed))) in
+        (answer ∙ (rw (clears-length (gridOf z) (erasures m) (chainEntries s) clear, grid-disks z)), left ∙ is)
+
+    -- If they belong to none, follow refuses by 7, with zeros in the erased blocks;
+    pub follow-seven : Usable z m s → Bytes a → (Belongs (gridOf z) (whole B) (erasures m) a → ⊥)
+        → Gives z B a m s (Refused 7) (zeroed (whole B) a (erasures m))
+    follow-seven usable small none =
+        let unsealed : consistent (gridOf z) (whole B) (followedArray z B a s) ≡ false =
+        by-cases (λ (t : Bool). t ≡ false) (consistent (gridOf z) (whole B) (followedArray z B a s))
+        (λ e. absurd (none (follow-judged usable small .0 e))) (λ e. refl) in
+        given z B a m s 7 (follow-order ok ∙ (rw (usable .0, usable .1, unsealed)))
+
+    -- and it does so just then.
+    pub follow-contradicted : Bytes a
+        → (outcomeStatus (followOutcome z B a m s) ≡ 7) ↔ (Usable z m s × (Belongs (gridOf z) (whole B) (erasures m) a → ⊥))
+    unfolding outcomeStatus
+    follow-contradicted small = (
+      λ e.
+          let (chain, clear, unsealed) = seven-only (chainFits s) _ _ (sym (follow-order ok) ∙ sym (status-is z B a m s) ∙ e) in
+          ((chain, clear), λ belongs. true≢false (sym (follow-judged (chain, clear) small .1 belongs) ∙ unsealed)),
+      λ (usable, none). ap outcomeStatus (follow-seven usable small none .0),
+    )
+
+  -- For 7 the erased blocks are zero.
+  pub follow-zeros : outcomeStatus (followOutcome z B a m s) ≡ 7 → followArray z B a m s ≡ zeroed (whole B) a (erasures m)
+  follow-zeros e = given z B a m s 7 (sym (status-is z B a m s) ∙ e) .1
+
+  -- On a map whose loss is fatal follow changes nothing, whatever the sheet, and refuses by 10 or 11 where it has not refused before.
+  pub follow-fatal : fatal (gridOf z) (erasures m) ≡ true
+      → (followArray z B a m s ≡ a)
+      × (rebuildRefusal z B a m s ≡ 0 → (followOutcome z B a m s ≡ Refused 10) ⊎ (followOutcome z B a m s ≡ Refused 11))
+  follow-fatal lossy = go (eqb (rebuildRefusal z B a m s) 0) refl (chainFits s) refl (clears (gridOf z) (erasures m) (chainEntries s)) refl
+    where
+      go : (u : Bool) → eqb (rebuildRefusal z B a m s) 0 ≡ u → (p : Bool) → chainFits s ≡ p
+          → (q : Bool) → clears (gridOf z) (erasures m) (chainEntries s) ≡ q
+          → (followArray z B a m s ≡ a)
+          × (rebuildRefusal z B a m s ≡ 0 → (followOutcome z B a m s ≡ Refused 10) ⊎ (followOutcome z B a m s ≡ Refused 11))
+      go false e p chain q clear =
+          let refused = eqb-false (rebuildRefusal z B a m s) 0 e in (follow-first refused .1, λ ok. absurd (refused ok))
+      go true e false unfit q clear =
+          let (answer, kept) = follow-ten (eqb-true (rebuildRefusal z B a m s) 0 e) unfit in (kept, λ ok. inl answer)
+      go true e true chain false unclear =
+          let (answer, kept) = follow-eleven (eqb-true (rebuildRefusal z B a m s) 0 e) chain unclear in (kept, λ ok. inr answer)
+      go true e true chain true clear =
+          absurd (true≢false (sym lossy ∙ clears-fine (gridOf z) (erasures m) (chainEntries s) clear))
+
+-- Otherwise the array is as after rebuild: follow on s and rebuild on t give the same answer and the same array.
+abbrev pub AsRebuild : Size → ℕ → (a m s t : List ℕ) → Type 0
+AsRebuild z B a m s t = Gives z B a m s (rebuildOutcome z B a m t) (rebuildArray z B a m t)
+
+-- It is so for every usable sheet: in which order disks are repaired, and by which stripes, counts for nothing. Where the other
+-- arguments or the survivors are refused, they are refused alike.
+pub follow-any : (z : Size) (B : ℕ) (a m s t : List ℕ) → length s ≡ length t → Bytes a → Usable z m s → AsRebuild z B a m s t
+unfolding rebuildRefusal rebuildOutcome rebuildArray choose mapOutcome followedArray repairedArray
+follow-any z B a m s t long small (chain, clear) =
+    go (eqb (rebuildRefusal z B a m t) 0) refl (consistent (gridOf z) (whole B) (repairedArray z B a m)) refl
+  where
+    same : rebuildRefusal z B a m s ≡ rebuildRefusal z B a m t
+    same = rw long
+
+    fine : fatal (gridOf z) (erasures m) ≡ false
+    fine = clears-fine (gridOf z) (erasures m) (chainEntries s) clear
+
+    alike : rebuildRefusal z B a m s ≡ 0
+        → (consistent (gridOf z) (whole B) (followedArray z B a s) ≡ consistent (gridOf z) (whole B) (repairedArray z B a m))
+        × (consistent (gridOf z) (whole B) (repairedArray z B a m) ≡ true → followedArray z B a s ≡ repairedArray z B a m)
+    alike ok =
+        let array = fits z B a m s ok in
+        clears-alike (gridOf z) (grid-bounded z (array .size)) B (erasures m) a (grid-sized z B a (array .long)) small
+        (chainEntries s) (repairs (gridOf z) (erasures m)) clear (repairs-clear (gridOf z) (erasures m) fine)
+
+    go : (u : Bool) → eqb (rebuildRefusal z B a m t) 0 ≡ u
+        → (v : Bool) → consistent (gridOf z) (whole B) (repairedArray z B a m) ≡ v → AsRebuild z B a m s t
+    go false e v j =
+        let (answer, left) = follow-first z B a m s (λ q. eqb-false (rebuildRefusal z B a m t) 0 e (sym same ∙ q)) in
+        rw e (answer ∙ ap Refused same, left)
+    go true e true j =
+        let ok = same ∙ eqb-true (rebuildRefusal z B a m t) 0 e in
+        let (answer, left) = given z B a m s 0 (follow-order z B a m s ok ∙ (rw (chain, clear, alike ok .0, j))) in
+        let count-is = clears-length (gridOf z) (erasures m) (chainEntries s) clear ∙ sym (repairs-count (gridOf z) (erasures m) fine) in
+        rw (e, fine, j) (answer ∙ ap Repairs count-is, left ∙ alike ok .1 j)
+    go true e false j =
+        let ok = same ∙ eqb-true (rebuildRefusal z B a m t) 0 e in
+        rw (e, fine, j) (given z B a m s 7 (follow-order z B a m s ok ∙ (rw (chain, clear, alike ok .0, j))))
+
+module _ (z : Size) (B : ℕ) (a m s₁ t : List ℕ) (planOk : refusal (planTests z m (length s₁)) ≡ 0) (long : length t ≡ 98) where
+  -- It is so for the sheet that plan leaves,
+  pub follow-plan : fatal (gridOf z) (erasures m) ≡ false → Bytes a → AsRebuild z B a m (planSheet z m s₁) t
+  unfolding planSheet mapSheet planTests
+  follow-plan fine small =
+      let w : List Entry = repairs (gridOf z) (erasures m) in
+      let size = passed 1 (sizeFits z) _ (omega arith) planOk .0 in
+      let (chain, lists) = written-chain w (le-of-lt (grid-repairs-bound z size (erasures m) w (repairs-peels (gridOf z) (erasures m)))) in
+      let clear = rw (← lists) at (repairs-clear (gridOf z) (erasures m) fine) in
+      rw (planOk, fine) (follow-any z B a m (sheetOf 1 w) t (sheet-length 1 w ∙ sym long) small (chain, clear))
+
+  -- unless it shows a loop: then neither changes the array, and follow refuses by 10 where rebuild calls the loss fatal.
+  pub follow-loop : fatal (gridOf z) (erasures m) ≡ true
+      → (followArray z B a m (planSheet z m s₁) ≡ a) × (rebuildArray z B a m t ≡ a)
+      × (rebuildRefusal z B a m t ≡ 0 → followOutcome z B a m (planSheet z m s₁) ≡ Refused 10)
+  unfolding planSheet mapSheet rebuildRefusal
+  follow-loop lossy =
+      let w : List Entry = shownCycle (gridOf z) (erasures m) in (
+        follow-fatal z B a m (planSheet z m s₁) lossy .0,
+        rebuild-kept z B a m t lossy,
+        λ ok. rw (planOk, lossy) (follow-ten z B a m (sheetOf 2 w) (rw (sheet-length 2 w, ← long) ok) (loop-sheet-unfit w) .0),
+      )
+
+-- Bytes off the chain are ignored: two sheets of one length that agree on the kind, on the first number and on the records that the
+-- chain visits give the same.
+pub follow-off-chain : (z : Size) (B : ℕ) (a m s t : List ℕ) → length s ≡ length t → getD s 0 0 ≡ getD t 0 0 → getD s 1 0 ≡ getD t 1 0
+    → ((k : ℕ) → among k (chainNumbers s) ≡ true → (entryAt s k ≡ entryAt t k) × (nextNumber s k ≡ nextNumber t k))
+    → Gives z B a m s (followOutcome z B a m t) (followArray z B a m t)
+unfolding followOutcome followArray followRefusal followTests followedArray
+follow-off-chain z B a m s t long kind first same = let (fit, lists) = off-chain s t kind first same in rw (long, fit, lists) (refl, refl)
+
+-- Its chain may visit records in any order: every chain of records up to 32 that lists plan's repairs gives what rebuild gives.
+pub follow-any-order : (z : Size) (B : ℕ) (a m s t : List ℕ) → length s ≡ length t → Bytes a → fatal (gridOf z) (erasures m) ≡ false
+    → getD s 0 0 ≡ 1 → (ks : List ℕ) → within 32 ks ≡ true → Linked s (getD s 1 0) ks (repairs (gridOf z) (erasures m))
+    → AsRebuild z B a m s t
+follow-any-order z B a m s t long small fine kind ks inside linked =
+    let (chain, lists, numbers) = linked-fits s ks (repairs (gridOf z) (erasures m)) kind linked inside in
+    follow-any z B a m s t long small (chain, rw lists (repairs-clear (gridOf z) (erasures m) fine))
