@@ -1,3 +1,4 @@
 pub mod Prefix
 pub mod Appended
 pub mod Chained
+pub mod Straightened
