@@ -1,20 +1,26 @@
--- Where the disks of a stripe stand: the laws of `disksOn` and `placeOn`.
+-- Which stripes a disk lies on, and where the disks of a stripe stand: the laws of `disksOn` and `placeOn`.
 -- Assumes nothing.
 use mathlib.Core.Path.{_≡_, refl, sym, _∙_, ap, subst}
-use mathlib.Core.Bool.{Bool, true, false}
+use mathlib.Core.Bool.{Bool, true, false, _||_, or-false}
 use mathlib.Core.Logic.{⊎-elim}
 use Prim.Native.Nat.{ℕ, _+_, _*_, _-_, _/_, _%_, _≤_, _<_}
 use native.Mathlib.Nat.{add-sub-of-le, lt-trans, lt-of-mul-lt-mul-right, eq-of-mul-eq-mul-right}
 use native.Mathlib.Omega.{arith}
 use borrow.Author.Tests.{eq-eqb, eqb-true, lt-ltb, le-ltb}
+use lib.Dec.{eqb}
 use Rattle.model.specs.Fold.{xsum, lowest}
-use Rattle.model.specs.Stripes.{on, sumOver}
-use Rattle.model.specs.Grid.{rows, columns, across, gridOf, disks, diskAt}
+use Rattle.model.specs.Stripes.{among, on, sumOver}
+use Rattle.model.specs.Grid.{rows, columns, across, grid, gridOf, disks, diskAt}
 use Rattle.model.specs.declared.Size.{Size}
 use Rattle.model.proofs.Fold.{by-cases, lt-or-le, xsum-ext, lowest-found, lowest-end}
 use Rattle.model.proofs.Grid.{Fits, across-positive, on-row, on-column, row-over, column-over, column-inside, row-of, column-of, disk-below, disk-is, row-within, column-within}
-use Rattle.layout.specs.Stripe.{disksOn, placeOn}
+use Rattle.layout.specs.Stripe.{disksOn, placeOn, rowStripe, columnStripe}
 use Rattle.layout.specs.declared.Run.{Run}
+
+-- A disk lies on its row and on its column.
+pub on-place : (z : Size) (d s : ℕ) → on (gridOf z) d s ≡ (eqb s (rowStripe z d) || eqb s (columnStripe z d))
+unfolding on among gridOf grid rowStripe columnStripe across
+on-place z d s = ap (λ (b : Bool). eqb s (rowStripe z d) || b) (or-false (eqb s (columnStripe z d)))
 
 -- ---- the disks of a stripe as a run
 

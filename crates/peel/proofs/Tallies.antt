@@ -12,14 +12,15 @@ use lib.Dec.{eqb, ltb}
 use lib.ListN.{length, getD, set, length-set, replicate, length-replicate, getD-replicate, List·getD-eq-default}
 use lib.Seq.{getD-set-same, getD-set-other}
 use Rattle.model.specs.Fold.{count}
-use Rattle.model.specs.Stripes.{among, on}
-use Rattle.model.specs.Grid.{grid, gridOf, columns, across, disks, diskAt, sizeFits}
+use Rattle.model.specs.Stripes.{on}
+use Rattle.model.specs.Grid.{gridOf, columns, disks, diskAt, sizeFits, mapFits}
 use Rattle.model.specs.Repair.{erasures, without}
 use Rattle.model.specs.Cycle.{below}
 use Rattle.model.specs.declared.Size.{Size}
 use Rattle.model.proofs.Fold.{and-both, by-cases, lt-or-le, count-ext, count-le, count-none, count-some, count-without}
-use Rattle.model.proofs.Grid.{Fits, size-fits, disks-bound, column-inside, row-of, column-of, disk-below, row-within, column-within}
+use Rattle.model.proofs.Grid.{Fits, size-fits, disks-bound, column-inside, row-of, column-of, disk-below, row-within, column-within, map-length}
 use Rattle.layout.specs.Stripe.{rowStripe, columnStripe}
+use Rattle.layout.proofs.Runs.{on-place}
 use Rattle.peel.specs.Tally.{Tallied, together}
 
 -- ---- one disk more
@@ -58,11 +59,6 @@ and-off : (a : Bool) {b : Bool} → b ≡ false → (a && b) ≡ false
 and-off a h = ap (λ (x : Bool). a && x) h ∙ and-false a
 
 -- ---- the stripes of a disk
-
--- A disk lies on its row and on its column.
-pub on-place : (z : Size) (d s : ℕ) → on (gridOf z) d s ≡ (eqb s (rowStripe z d) || eqb s (columnStripe z d))
-unfolding on among gridOf grid rowStripe columnStripe across
-on-place z d s = ap (λ (b : Bool). eqb s (rowStripe z d) || b) (or-false (eqb s (columnStripe z d)))
 
 on-at : (z : Size) (r c s : ℕ) → c ≤ columns z → on (gridOf z) (diskAt z r c) s ≡ (eqb s r || eqb s (16 + c))
 unfolding rowStripe columnStripe
@@ -332,6 +328,20 @@ below-skip e d h =
     below-next e d i
     ∙ by-cases (λ (b : Bool). cond b (e d) (below d e i) ≡ below d e i) (eqb i d)
     (λ q. h ∙ sym (ap (below d e) (eqb-true i d q) ∙ below-at e d)) (λ q. refl))
+
+-- All erased disks of a map that fits are disks.
+pub below-all : (z : Size) (m : List ℕ) → mapFits z m ≡ true → below (disks z) (erasures m) ≡ erasures m
+unfolding below erasures
+below-all z m fits = fun-ext (λ d. ⊎-elim (inside d) (outside d) (lt-or-le d (disks z)))
+  where
+    inside : (d : ℕ) → d < disks z → (ltb d (disks z) && eqb (getD m d 0) 1) ≡ eqb (getD m d 0) 1
+    inside d l = ap (λ (b : Bool). b && eqb (getD m d 0) 1) (lt-ltb d (disks z) l)
+
+    outside : (d : ℕ) → disks z ≤ d → (ltb d (disks z) && eqb (getD m d 0) 1) ≡ eqb (getD m d 0) 1
+    outside d l =
+        let long = map-length z m fits in
+        let none : getD m d 0 ≡ 0 = List·getD-eq-default m 0 {n = d} (omega arith) in
+        ap (λ (b : Bool). b && eqb (getD m d 0) 1) (le-ltb d (disks z) l) ∙ sym (ne-eqb (getD m d 0) 1 (λ q. omega arith))
 
 -- The erased disks of a map below d are marked and counted.
 pub record Loaded (z : Size) (map : List ℕ) (d : ℕ) (work counts : List ℕ) (number : ℕ) : Type 0 where

@@ -1,22 +1,19 @@
 -- The disk that makes a loss fatal, between two bounds that come closer.
 -- Assumes nothing.
-use mathlib.Core.Path.{_≡_, refl, sym, _∙_, ap, fun-ext}
-use mathlib.Core.Bool.{Bool, true, false, _&&_}
-use mathlib.Core.Logic.{⊎-elim}
-use mathlib.Core.List.{List}
+use mathlib.Core.Path.{_≡_, refl, sym, _∙_, ap}
+use mathlib.Core.Bool.{Bool, true, false}
 use Prim.Native.Nat.{ℕ, suc, _+_, _-_, _/_, _%_, _≤_, _<_}
 use native.Mathlib.Nat.{not-suc-le-zero, div-add-mod', mod-lt}
 use native.Mathlib.Numerals.{add-one}
 use native.Mathlib.Omega.{arith}
-use borrow.Author.Tests.{lt-ltb, le-ltb, ltb-true, eqb-true, ne-eqb}
-use lib.Dec.{eqb, ltb}
-use lib.ListN.{length, getD, List·getD-eq-default}
+use borrow.Author.Tests.{lt-ltb, ltb-true}
+use lib.Dec.{ltb}
 use Rattle.model.specs.Stripes.{Layout}
-use Rattle.model.specs.Grid.{grid, across, gridOf, disks, mapFits}
-use Rattle.model.specs.Repair.{erasures, fatal}
+use Rattle.model.specs.Grid.{grid, across, gridOf, disks}
+use Rattle.model.specs.Repair.{fatal}
 use Rattle.model.specs.Cycle.{below, closing}
 use Rattle.model.specs.declared.Size.{Size}
-use Rattle.model.proofs.Fold.{and-left, and-right, and-both, by-cases, lt-or-le, lowest-found}
+use Rattle.model.proofs.Fold.{and-left, and-right, and-both, by-cases, lowest-found}
 use Rattle.model.proofs.Grid.{grid-disks}
 use Rattle.model.proofs.Peel.{Within, is-fatal, fatal-mono}
 
@@ -26,20 +23,6 @@ unfolding below
 below-mono L e j k h d l b =
     let low : d < j = ltb-true d j (and-left (ltb d j) (e d) b) in
     and-both (lt-ltb d k (omega arith)) (and-right (ltb d j) (e d) b)
-
--- All erased disks of a map that fits are disks.
-pub below-all : (z : Size) (m : List ℕ) → mapFits z m ≡ true → below (disks z) (erasures m) ≡ erasures m
-unfolding below erasures mapFits
-below-all z m fits = fun-ext (λ d. ⊎-elim (inside d) (outside d) (lt-or-le d (disks z)))
-  where
-    inside : (d : ℕ) → d < disks z → (ltb d (disks z) && eqb (getD m d 0) 1) ≡ eqb (getD m d 0) 1
-    inside d l = ap (λ (b : Bool). b && eqb (getD m d 0) 1) (lt-ltb d (disks z) l)
-
-    outside : (d : ℕ) → disks z ≤ d → (ltb d (disks z) && eqb (getD m d 0) 1) ≡ eqb (getD m d 0) 1
-    outside d l =
-        let long : length m ≡ disks z = eqb-true (length m) (disks z) (and-left (eqb (length m) (disks z)) _ fits) in
-        let none : getD m d 0 ≡ 0 = List·getD-eq-default m 0 {n = d} (omega arith) in
-        ap (λ (b : Bool). b && eqb (getD m d 0) 1) (le-ltb d (disks z) l) ∙ sym (ne-eqb (getD m d 0) 1 (λ q. omega arith))
 
 -- ---- two bounds
 

@@ -9,7 +9,7 @@ use borrow.Author.Tests.{not-true, not-false}
 use Rattle.model.specs.Grid.{sizeFits, mapFits}
 use Rattle.model.specs.Repair.{erasures}
 use Rattle.model.specs.Cycle.{below}
-use Rattle.plan.proofs.Halving.{below-all}
+use Rattle.peel.proofs.Tallies.{below-all}
 use Rattle.plan.proofs.Answers.{PlanFits, refused-size, refused-map, refused-sheet, answers-repairs, is-lossy, answers-fatal}
 use Rattle.plan.proofs.plan.Statement.{statement}
 use Rattle.plan.proofs.plan.Tie as tie
