@@ -66,7 +66,7 @@ inside-at z r c h l = disk-below z r c h (omega arith)
 -- ---- one row
 
 -- The counts are the numbers of erased disks on the stripes.
-degree-is : {z : Size} {work counts : List ℕ} → Tallied z work counts
+pub degree-is : {z : Size} {work counts : List ℕ} → Tallied z work counts
     → (s : ℕ) → s < 32 → degree (gridOf z) (erasures work) s ≡ getD counts s 0
 unfolding degree gridOf grid disks across
 degree-is tallied s l = sym (tallied .counted s l)

@@ -13,12 +13,13 @@ use lib.ListN.{length, getD, set, length-set, replicate, length-replicate, getD-
 use lib.Seq.{getD-set-same, getD-set-other}
 use Rattle.model.specs.Fold.{count}
 use Rattle.model.specs.Stripes.{on}
-use Rattle.model.specs.Grid.{gridOf, columns, disks, diskAt, sizeFits, mapFits}
+use Rattle.model.specs.Grid.{grid, gridOf, columns, disks, diskAt, sizeFits, mapFits}
 use Rattle.model.specs.Repair.{erasures, without}
 use Rattle.model.specs.Cycle.{below}
 use Rattle.model.specs.declared.Size.{Size}
 use Rattle.model.proofs.Fold.{and-both, by-cases, lt-or-le, count-ext, count-le, count-none, count-some, count-without}
-use Rattle.model.proofs.Grid.{Fits, size-fits, disks-bound, column-inside, row-of, column-of, disk-below, row-within, column-within, map-length}
+use Rattle.model.proofs.Grid.{Fits, size-fits, disks-bound, grid-disks, gridOf-two, column-inside, row-of, column-of, disk-below, row-within, column-within, map-length}
+use Rattle.model.proofs.Degree.{on-bound}
 use Rattle.layout.specs.Stripe.{rowStripe, columnStripe}
 use Rattle.layout.proofs.Runs.{on-place}
 use Rattle.peel.specs.Tally.{Tallied, together}
@@ -84,6 +85,14 @@ off-stripe z fits s = go (eqb s 0) refl (eqb s 16) refl
     go false p true q = let e = eqb-true s 16 q in at 0 1 (omega arith) (omega arith) (λ h. omega arith) (λ h. omega arith)
     go false p false q = at 0 0 (omega arith) (omega arith) (eqb-false s 0 p) (eqb-false s 16 q)
 
+-- The stripes of a disk are below 32.
+pub stripe-low : (z : Size) → sizeFits z ≡ true → {d : ℕ} → d < disks z → (s : ℕ) → on (gridOf z) d s ≡ true → s < 32
+unfolding gridOf grid
+stripe-low z fits {d} l s here =
+    let f : Fits z = size-fits z fits in
+    let low = on-bound (gridOf z) (gridOf-two z fits) d (let same = grid-disks z in omega arith) s here in
+    omega arith
+
 -- ---- lists with one number changed
 
 set-at : (l : List ℕ) (i v j : ℕ) → i < length l → getD (set l i v) j 0 ≡ cond (eqb j i) v (getD l j 0)
@@ -123,6 +132,14 @@ module _ (m : List ℕ) (d : ℕ) (l : d < length m) where
       go true x = sym (and-false x)
       go false x = sym (and-true x)
 
+-- A disk has its place in the map.
+pub disk-place : {z : Size} → sizeFits z ≡ true → {work counts : List ℕ} → Tallied z work counts → {d : ℕ} → d < disks z
+    → d < length work
+disk-place {z} fits tallied l =
+    let long = tallied .workLong in
+    let all = disks-bound z (size-fits z fits) in
+    omega arith
+
 -- ---- a change at one disk
 
 -- How many disks of e lie on a stripe.
@@ -145,11 +162,7 @@ changed f l row column =
 module _ {z : Size} {work counts : List ℕ} {d row column : ℕ} (p : Place z work counts d row column) where
   -- The numbers are within the lists.
   pub work-place : d < length work
-  work-place =
-      let long = p .tallied .workLong in
-      let all = disks-bound z (size-fits z (p .fits)) in
-      let h = p .disk in
-      omega arith
+  work-place = disk-place (p .fits) (p .tallied) (p .disk)
 
   row-low : row < 16
   unfolding rowStripe

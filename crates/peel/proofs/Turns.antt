@@ -11,14 +11,14 @@ use lib.ListN.{length, take}
 use lib.Seq.{length-take-le, take-length}
 use Rattle.model.specs.Fold.{count}
 use Rattle.model.specs.Stripes.{Layout}
-use Rattle.model.specs.Grid.{disks, grid, gridOf, sizeFits}
-use Rattle.model.specs.Repair.{Entry, erasures, without, nextDisk, repairOf, repairs, after, residual, lost}
+use Rattle.model.specs.Grid.{disks, gridOf, sizeFits}
+use Rattle.model.specs.Repair.{Entry, erasures, without, allowed, nextDisk, repairOf, repairs, after, residual, lost}
 use Rattle.model.specs.Sheet.{sheetOf}
 use Rattle.model.specs.declared.Size.{Size}
 use Rattle.model.proofs.Fold.{by-cases, count-le}
-use Rattle.model.proofs.Grid.{Fits, size-fits, disks-bound, grid-disks, gridOf-two}
+use Rattle.model.proofs.Grid.{size-fits, disks-bound, grid-disks}
 use Rattle.model.proofs.Peel.{Allowed, allowed-is, next-allowed, after-snoc, repairs-peels, repairs-lost, peel-goes, peel-stops}
-use Rattle.model.proofs.Degree.{on-bound, grid-repairs-bound}
+use Rattle.model.proofs.Degree.{grid-repairs-bound}
 use Rattle.model.proofs.Sheets.{sheet-length}
 use Rattle.sheet.specs.Record.{appended}
 use Rattle.sheet.proofs.Appended.{append-record}
@@ -26,6 +26,7 @@ use Rattle.peel.specs.declared.Next.{Next}
 use Rattle.peel.specs.declared.Next.the-variants.{Repair, Nothing}
 use Rattle.peel.specs.Tally.{Tallied}
 use Rattle.peel.specs.Pick.{picked}
+use Rattle.peel.proofs.Tallies.{stripe-low}
 
 -- ---- the next repair
 
@@ -41,33 +42,30 @@ picked-says L e =
     (ltb (nextDisk L e) (L .disks)) (λ h. (ltb-true (nextDisk L e) (L .disks) h, refl))
     (λ h l. let m = ltb-false (nextDisk L e) (L .disks) h in omega arith)
 
-stripes-bound : (z : Size) → Fits z → gridOf z .stripeBound ≤ 32
-unfolding gridOf grid
-stripes-bound z f = let h = f .columnsHigh in omega arith
-
--- What a repair's disk and stripe are.
+-- What the disk and the stripe of a repair are.
 pub record Fit (z : Size) (e : ℕ → Bool) (d s : ℕ) : Type 0 where
   pub disk : d < disks z
   pub erased : e d ≡ true
   pub disk256 : d < 256
   pub stripe256 : s < 256
 
+pub allowed-fits : (z : Size) → sizeFits z ≡ true → (e : ℕ → Bool) (d s : ℕ) → allowed (gridOf z) e d s ≡ true → Fit z e d s
+allowed-fits z fits e d s h =
+    let a : Allowed (gridOf z) e d s = allowed-is (gridOf z) e d s h in
+    let inside : d < disks z = subst (λ (n : ℕ). d < n) (grid-disks z) (a .disk) in
+    record {
+      disk = inside;
+      erased = a .erased;
+      disk256 = let most = disks-bound z (size-fits z fits) in omega arith;
+      stripe256 = let low = stripe-low z fits inside s (a .here) in omega arith;
+    }
+
 pub next-fits : (z : Size) → sizeFits z ≡ true → (e : ℕ → Bool) (d s : ℕ) → Repair d s ≡ picked (gridOf z) e → Fit z e d s
 unfolding repairOf
 next-fits z fits e d s q =
     let L : Layout = gridOf z in
     let (l, is) = subst (Says L e) (sym q) (picked-says L e) in
-    let a : Allowed L e d s =
-    subst (λ (r : Entry). Allowed L e (r .disk) (r .stripe)) is (allowed-is L e _ _ (next-allowed L e l)) in
-    let f : Fits z = size-fits z fits in
-    let inside : d < disks z = subst (λ (n : ℕ). d < n) (grid-disks z) (a .disk) in
-    let stripe : s < L .stripeBound = on-bound L (gridOf-two z fits) d (a .disk) s (a .here) in
-    record {
-      disk = inside;
-      erased = a .erased;
-      disk256 = let most = disks-bound z f in omega arith;
-      stripe256 = let most = stripes-bound z f in omega arith;
-    }
+    subst (λ (r : Entry). Fit z e (r .disk) (r .stripe)) is (allowed-fits z fits e _ _ (next-allowed L e l))
 
 -- ---- turn by turn
 
