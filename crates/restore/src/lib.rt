@@ -7,7 +7,7 @@ ghost use Rattle.model.specs.Grid.{gridOf, mapFits};
 ghost use Rattle.model.specs.Refusal.{refusal, arrayTests};
 ghost use Rattle.model.specs.Repair.{erasures, Peels};
 ghost use Rattle.sheet.specs.Record.{records};
-ghost use Rattle.restore.specs.Restored.{fits as Restored·fits, restored};
+ghost use Rattle.restore.specs.Restored.{fits, restored};
 
 mod erase;
 mod repair;
@@ -30,7 +30,7 @@ pub fn restore(
     requires { ⌜ length (now sheet) ≡ 98 ⌝ }
     requires { ⌜ count ≤ 32 ⌝ }
     requires { ⌜ Peels (gridOf size) (erasures (now map)) (records (now sheet) count) ⌝ }
-    ensures answer { λ r. ⌜ r ≡ Restored·fits size block (now (array .entry)) (records (now (sheet .entry)) count) ⌝ }
+    ensures answer { λ r. ⌜ r ≡ fits size block (now (array .entry)) (records (now (sheet .entry)) count) ⌝ }
     ensures array { λ r. ⌜
         now (array .exit) ≡ restored size block (now (array .entry)) (now (map .entry)) (records (now (sheet .entry)) count)
         ⌝ }
