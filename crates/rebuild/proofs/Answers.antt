@@ -2,9 +2,8 @@
 -- Assumes nothing.
 use mathlib.Core.Path.{_≡_, refl, sym, _∙_, ap, ap₂, subst}
 use mathlib.Core.Bool.{Bool, true, false}
-use mathlib.Core.Logic.{⊎-elim}
 use mathlib.Core.List.{List, [], _∷_, _++_}
-use Prim.Native.Nat.{ℕ, _≤_, _<_}
+use Prim.Native.Nat.{ℕ, _≤_}
 use native.Mathlib.Nat.{le-of-lt}
 use native.Mathlib.Omega.{arith}
 use types.Run.{OneOf}
@@ -12,39 +11,27 @@ use denote.Enum.Declared.{tagOf}
 use borrow.Author.Tests.{ne-eqb, eqb-true}
 use lib.Dec.{eqb}
 use lib.ListN.{length}
-use Rattle.model.specs.Stripes.{on, whole}
-use Rattle.model.specs.Grid.{gridOf, disks, sizeFits, mapFits}
+use Rattle.model.specs.Grid.{gridOf, sizeFits, mapFits}
 use Rattle.model.specs.Refusal.{refusal, arrayTests}
-use Rattle.model.specs.Repair.{Entry, erasures, allowed, Peels, repairs, lost, fatal, rebuilt, zeroed, consistent}
+use Rattle.model.specs.Repair.{Entry, erasures, Peels, repairs, lost, fatal}
 use Rattle.model.specs.Sheet.{sheetOf, blankSheet}
-use Rattle.model.specs.Array.{checked}
 use Rattle.model.specs.Rebuild.{sheetTests, planTests, mapOutcome, mapSheet, planOutcome, planSheet, rebuildTests, rebuildRefusal, repairedArray, choose, rebuildOutcome, rebuildArray, rebuildSheet}
 use Rattle.model.specs.declared.Size.{Size}
 use Rattle.model.proofs.Outcome as outcome
 use Rattle.model.specs.declared.Outcome.{Outcome}
 use Rattle.model.specs.declared.Outcome.the-variants.{Repairs, Fatal, Refused}
-use Rattle.model.proofs.Checked as checking
-use Rattle.model.specs.declared.Checked.{Checked}
-use Rattle.model.specs.declared.Checked.the-variants.{Sealed}
-use Rattle.model.proofs.Fold.{by-cases}
-use Rattle.model.proofs.Grid.{grid-disks}
-use Rattle.model.proofs.Refusal.{ArrayFits, passes, passed, refused-first, array-fits, array-passed, array-accepted}
-use Rattle.model.proofs.Peel.{Allowed, allowed-is, repairs-peels, peels-at, atTurn}
+use Rattle.model.proofs.Refusal.{ArrayFits, passes, passed, refused-first, array-fits, array-passed}
+use Rattle.model.proofs.Peel.{repairs-peels}
 use Rattle.model.proofs.Degree.{grid-repairs-bound}
-use Rattle.model.proofs.Restore.{length-rebuilt, whole-inside, grid-sized, zeroed-rebuilt, consistent-sealed}
 use Rattle.model.proofs.Sheets.{sheet-length}
-use Rattle.sheet.specs.Record.{recordDisk, recordStripe, records}
-use Rattle.sheet.proofs.Appended.{record-disk-is, record-stripe-is, records-are}
+use Rattle.sheet.specs.Record.{records}
+use Rattle.sheet.proofs.Appended.{records-are}
+use Rattle.restore.specs.Restored.{fits, restored}
+use Rattle.restore.proofs.Judged.{other-kind}
 
 -- Plan's repairs of the disks that a map has as erased.
 abbrev planOf : Size → List ℕ → List Entry
 planOf z m = repairs (gridOf z) (erasures m)
-
--- An answer of another kind than the first.
-other-kind : {A : Type 0} (tag : A → ℕ) (o first : A) → OneOf (1 ∷ 2 ∷ []) (tag o) → tag first ≡ 0 → o ≡ first → ⊥
-other-kind tag o first other none e =
-    let q : tag o ≡ 0 = ap tag e ∙ none in
-    ⊎-elim (λ (h : tag o ≡ 1). omega arith) (λ (h : tag o ≡ 2). omega arith) other
 
 -- What rebuild promises of its answer, and of the array and the sheet after it.
 abbrev pub Rebuilt : Size → ℕ → (a m sheet : List ℕ) → Outcome → (b s : List ℕ) → Type 0
@@ -131,71 +118,38 @@ module _ {z : Size} {B : ℕ} {a m sheet s : List ℕ} {count : ℕ} (p : Planne
   pub sheet-98 : length s ≡ 98
   sheet-98 = ap length (p .written) ∙ sheet-length 1 (planOf z m)
 
-  -- The records are plan's repairs, each by a stripe of its disk.
-  peels : Peels (gridOf z) (erasures m) (planOf z m)
-  peels = repairs-peels (gridOf z) (erasures m)
-
   few : length (planOf z m) ≤ 32
-  few = le-of-lt (grid-repairs-bound z (p .arrayFits .size) (erasures m) (planOf z m) peels)
+  few = le-of-lt (grid-repairs-bound z (p .arrayFits .size) (erasures m) (planOf z m) (repairs-peels (gridOf z) (erasures m)))
 
   pub count-few : count ≤ 32
   count-few = let h = few in let e = p .counted in omega arith
 
-  turn : (k : ℕ) → k < count → Allowed (gridOf z) (atTurn (erasures m) (planOf z m) k) (recordDisk s k) (recordStripe s k)
-  turn k h =
-      let l : k < length (planOf z m) = let e = p .counted in omega arith in
-      allowed-is _ _ _ _
-      (ap₂ (λ (d t : ℕ). allowed (gridOf z) (atTurn (erasures m) (planOf z m) k) d t)
-      (ap (λ (l : List ℕ). recordDisk l k) (p .written) ∙ record-disk-is 1 (planOf z m) few k l)
-      (ap (λ (l : List ℕ). recordStripe l k) (p .written) ∙ record-stripe-is 1 (planOf z m) few k l)
-      ∙ peels-at (gridOf z) (erasures m) (planOf z m) peels k l)
+  -- The records are plan's repairs.
+  plan-records : records s count ≡ planOf z m
+  plan-records = ap₂ records (p .written) (p .counted) ∙ records-are 1 (planOf z m) few
 
-  pub on-disks : (k : ℕ) → k < count → recordDisk s k < disks z
-  on-disks k h = subst (λ (n : ℕ). recordDisk s k < n) (grid-disks z) (turn k h .disk)
+  pub peels : Peels (gridOf z) (erasures m) (records s count)
+  peels = subst (Peels (gridOf z) (erasures m)) (sym plan-records) (repairs-peels (gridOf z) (erasures m))
 
-  pub on-stripes : (k : ℕ) → k < count → on (gridOf z) (recordDisk s k) (recordStripe s k) ≡ true
-  on-stripes k h = turn k h .here
+  none-refused : rebuildRefusal z B a m sheet ≡ 0
+  none-refused = plan-tests z B a m sheet (p .arrayFits) ∙ p .passing
 
   -- ---- after the repairs
-  module _ (b : List ℕ) (made : b ≡ rebuilt (gridOf z) (whole B) a (records s count)) where
-    pub still-fits : refusal (arrayTests z B (length b)) ≡ 0
-    still-fits =
-        ap (λ (n : ℕ). refusal (arrayTests z B n)) (ap length made ∙ length-rebuilt (gridOf z) (whole B) a (records s count))
-        ∙ array-accepted z B (length a) (p .arrayFits)
-
-    is-repaired : b ≡ repairedArray z B a m
-    unfolding repairedArray
-    is-repaired = made ∙ ap (rebuilt (gridOf z) (whole B) a) (ap₂ records (p .written) (p .counted) ∙ records-are 1 (planOf z m) few)
-
-    none-refused : rebuildRefusal z B a m sheet ≡ 0
-    none-refused = plan-tests z B a m sheet (p .arrayFits) ∙ p .passing
-
+  module _ (b : List ℕ) (array-is : b ≡ restored z B a m (records s count)) where
     -- All sums are zero: the array is restored.
-    pub restored : checked z B b ≡ Sealed → Rebuilt z B a m sheet (Repairs count) b s
-    unfolding rebuildOutcome rebuildArray rebuildSheet choose mapSheet
-    restored sealed =
-        let c : consistent (gridOf z) (whole B) (repairedArray z B a m) ≡ true =
-        ap (consistent (gridOf z) (whole B)) (sym is-repaired) ∙ consistent-sealed z B b still-fits .1 sealed in (
+    pub agreed : fits z B a (records s count) ≡ true → Rebuilt z B a m sheet (Repairs count) b s
+    unfolding rebuildOutcome rebuildArray rebuildSheet choose mapSheet repairedArray fits restored
+    agreed fit =
+        let c : fits z B a (planOf z m) ≡ true = ap (fits z B a) (sym plan-records) ∙ fit in (
           p .answered ∙ rw (none-refused, p .fine, c),
-          (is-repaired ∙ rw (none-refused, p .fine, c), p .written ∙ rw (none-refused, p .fine, c)),
+          (array-is ∙ ap (restored z B a m) plan-records ∙ rw (none-refused, p .fine, c), p .written ∙ rw (none-refused, p .fine, c)),
         )
 
-    -- Survivors that contradict each other: nothing is left of the repairs.
-    zeros-kept : zeroed (whole B) b (erasures m) ≡ zeroed (whole B) a (erasures m)
-    unfolding repairedArray
-    zeros-kept =
-        ap (λ (l : List ℕ). zeroed (whole B) l (erasures m)) is-repaired
-        ∙ zeroed-rebuilt (gridOf z) (whole B) (whole-inside B) (erasures m) a (grid-sized z B a (p .arrayFits .long)) (planOf z m) peels
-
-    pub contradicted : (o : Checked) → o ≡ checked z B b → OneOf (1 ∷ 2 ∷ []) (tagOf checking.the-type o)
-        → (l t : List ℕ) → l ≡ zeroed (whole B) b (erasures m) → t ≡ blankSheet → Rebuilt z B a m sheet (Refused 7) l t
-    unfolding rebuildOutcome rebuildArray rebuildSheet choose
-    contradicted o checked-is other l t zeros blank =
-        let c : consistent (gridOf z) (whole B) (repairedArray z B a m) ≡ false =
-        ap (consistent (gridOf z) (whole B)) (sym is-repaired)
-        ∙ by-cases (λ (t : Bool). t ≡ false) (consistent (gridOf z) (whole B) b)
-        (λ yes. absurd (other-kind (tagOf checking.the-type) o Sealed other refl (checked-is ∙ consistent-sealed z B b still-fits .0 yes)))
-        (λ no. refl) in (
+    -- The survivors contradict each other.
+    pub contradicted : fits z B a (records s count) ≡ false → (t : List ℕ) → t ≡ blankSheet → Rebuilt z B a m sheet (Refused 7) b t
+    unfolding rebuildOutcome rebuildArray rebuildSheet choose repairedArray fits restored
+    contradicted unfit t blank =
+        let c : fits z B a (planOf z m) ≡ false = ap (fits z B a) (sym plan-records) ∙ unfit in (
           rw (none-refused, p .fine, c),
-          (zeros ∙ zeros-kept ∙ rw (none-refused, p .fine, c), blank ∙ rw (none-refused, p .fine, c)),
+          (array-is ∙ ap (restored z B a m) plan-records ∙ rw (none-refused, p .fine, c), blank ∙ rw (none-refused, p .fine, c)),
         )

@@ -2,9 +2,10 @@
 -- Assumes nothing.
 use mathlib.Core.Path.{_≡_, _∙_, sym}
 use borrow.Author.Needs.{needs}
+use borrow.Author.Tests.{not-true, not-false}
 use lib.ListN.{length}
 use Rattle.model.specs.Refusal.{refusal, arrayTests}
-use Rattle.rebuild.proofs.Answers.{Planned, refused, as-plan, plan-repairs, map-fits, sheet-98, count-few, on-disks, on-stripes, still-fits, restored, contradicted}
+use Rattle.rebuild.proofs.Answers.{Planned, refused, as-plan, plan-repairs, map-fits, sheet-98, count-few, peels, agreed, contradicted}
 use Rattle.rebuild.proofs.rebuild.Statement.{statement}
 use Rattle.rebuild.proofs.rebuild.Tie as tie
 
@@ -49,28 +50,14 @@ returns-2 c =
     as-plan (a .size) (a .block) (a .array .now) (a .map .now) (a .sheet .now) (accepted (plan .before .before))
     _ _ (plan .plan .ensures .0) (plan .plan .ensures .1) (c .match .keys2)
 
-repair-all-requires : tie.Need-repair-all-requires
-repair-all-requires c κs =
+restore-requires : tie.Need-restore-requires
+restore-requires c κs =
     let answer = c .before .before .before in
     let p = planned answer in
-    (accepted (answer .before .before .before .before .before .before), (sheet-98 p, (count-few p, (on-disks p, on-stripes p))))
-
-check-requires : tie.Need-check-requires
-check-requires c κs = search needs
-
-enum-told : tie.Need-enum-told
-enum-told c = search needs
-
-zero-erased-requires : tie.Need-zero-erased-requires
-zero-erased-requires c κs =
-    let repairs = c .before .before .before .before .before .before in
-    let p = planned (repairs .before .before .before .before) in
-    (still-fits p _ (repairs .repair-all .ensures), map-fits p)
+    (accepted (answer .before .before .before .before .before .before), (map-fits p, (sheet-98 p, (count-few p, peels p))))
 
 clear-requires : tie.Need-clear-requires
-clear-requires c κs =
-    let repairs = c .before .before .before .before .before .before .before .before .before .before in
-    sheet-98 (planned (repairs .before .before .before .before))
+clear-requires c κs = sheet-98 (planned (c .before .before .before .before .before .before .before .before))
 
 same-length-2 : tie.Need-same-length-2
 same-length-2 c = search needs
@@ -80,12 +67,10 @@ same-length-3 c = search needs
 
 returns-3 : tie.Need-returns-3
 returns-3 c =
-    let zeros = c .before .before .before .before .before .before in
-    let other = zeros .before .before in
-    let check = other .before in
-    let repairs = check .before .before .before .before in
-    contradicted (planned (repairs .before .before .before .before)) _ (repairs .repair-all .ensures)
-    (check .check .result) (check .check .ensures) (other .match2 .keys2) _ _ (zeros .zero-erased .ensures) (c .before .before .clear .ensures)
+    let other = c .before .before .before .before in
+    let restore = other .before .before .before in
+    contradicted (planned (restore .before .before .before .before)) _ (restore .restore .ensures .1)
+    (sym (restore .restore .ensures .0) ∙ not-true _ (other .if2 .taken)) _ (c .before .before .clear .ensures)
 
 same-length-4 : tie.Need-same-length-4
 same-length-4 c = search needs
@@ -95,9 +80,9 @@ same-length-5 c = search needs
 
 returns-4 : tie.Need-returns-4
 returns-4 c =
-    let check = c .before .before in
-    let repairs = check .before .before .before .before in
-    restored (planned (repairs .before .before .before .before)) _ (repairs .repair-all .ensures) (sym (check .check .ensures) ∙ c .enum-told .given .1)
+    let restore = c .before .before .before in
+    agreed (planned (restore .before .before .before .before)) _ (restore .restore .ensures .1)
+    (sym (restore .restore .ensures .0) ∙ not-false _ (c .if2 .left))
 
 pub rebuild-spec : {M : Type 1} → statement M
 rebuild-spec =
@@ -109,10 +94,7 @@ rebuild-spec =
     enum-known-answer
     same-length
     returns-2
-    repair-all-requires
-    check-requires
-    enum-told
-    zero-erased-requires
+    restore-requires
     clear-requires
     same-length-2
     same-length-3
