@@ -17,11 +17,11 @@ returns c = rw (eq-eqb _ _ (c .if1 .taken))
 
 returns-2 : tie.Need-returns-2
 unfolding foundAt
-returns-2 c = rw (ne-eqb _ _ (c .before .if1 .left), lt-leb _ _ (c .if2 .taken))
+returns-2 c = rw (ne-eqb _ _ (c .before .if1 .left), lt-leb _ 32 (c .if2 .taken))
 
 returns-3 : tie.Need-returns-3
 unfolding foundAt
-returns-3 c = rw (ne-eqb _ _ (c .before .before .if1 .left), le-leb _ _ (c .before .if2 .left), ne-eqb _ _ (c .if3 .taken))
+returns-3 c = rw (ne-eqb _ _ (c .before .before .if1 .left), le-leb _ 32 (c .before .if2 .left), ne-eqb _ _ (c .if3 .taken))
 
 mul-at : tie.Need-mul-at
 mul-at c = search needs
@@ -58,7 +58,7 @@ unfolding foundAt entryAt nextNumber
 returns-4 c =
     let d = c .before .before .before in
     let place : recordAt (d .before .before .before .args .number) ≡ 3 * d .before .before .before .args .number - 1 = omega arith in
-    rw (ne-eqb _ _ (d .before .before .if1 .left), le-leb _ _ (d .before .if2 .left), eq-eqb _ _ (d .if3 .left), place)
+    rw (ne-eqb _ _ (d .before .before .if1 .left), le-leb _ 32 (d .before .if2 .left), eq-eqb _ _ (d .if3 .left), place)
 
 pub record-at-spec : {M : Type 1} → statement M
 record-at-spec =
