@@ -53,7 +53,7 @@ refused z B a m sheet status e some =
 plan-tests : (z : Size) (B : ℕ) (a m sheet : List ℕ) → ArrayFits z B (length a)
     → rebuildRefusal z B a m sheet ≡ refusal (planTests z m (length sheet))
 unfolding rebuildRefusal rebuildTests planTests
-plan-tests z B a m sheet fits = array-passed z B (length a) fits _ ∙ sym (passes 1 (sizeFits z) _ (fits .size))
+plan-tests z B a m sheet sized = array-passed z B (length a) sized _ ∙ sym (passes 1 (sizeFits z) _ (sized .size))
 
 module _ (z : Size) (B : ℕ) (a m sheet : List ℕ) (ok : refusal (arrayTests z B (length a)) ≡ 0) (answer : Outcome) (s : List ℕ)
     (answer-is : answer ≡ planOutcome z m sheet) (sheet-is : s ≡ planSheet z m sheet) where
