@@ -1,0 +1,178 @@
+/* Reads an input of the fuzzer, and makes the bytes it stands for. */
+#include <string.h>
+
+#include "input.h"
+
+/* Numbers that are wrong for n, most of them right if they were shortened. */
+static const size_t sides[] = {
+    255, 256, 258, 271, (size_t)1 << 16 | 3, ((size_t)1 << 31 << 1) + 2,
+    SIZE_MAX / 2 + 3, SIZE_MAX - 1, SIZE_MAX
+};
+
+/* Numbers around the lengths that are handled at once, around the limit, and
+   too great ones. */
+static const size_t blocks[] = {
+    127, 128, 129, 143, 255, 256, 257, 4095, 4096, 4097,
+    ((size_t)1 << 16) + 1, (size_t)1 << 31 << 1, ((size_t)1 << 31 << 1) + 1,
+    SIZE_MAX / 2 + 2, SIZE_MAX
+};
+
+struct numbers numbers_from(uint32_t seed)
+{
+    struct numbers r;
+
+    r.state = UINT64_C(0x9e3779b97f4a7c15) ^ ((uint64_t)seed << 17 | seed);
+    return r;
+}
+
+/* xorshift with a multiplication. */
+static uint32_t next_number(struct numbers *r)
+{
+    r->state ^= r->state >> 12;
+    r->state ^= r->state << 25;
+    r->state ^= r->state >> 27;
+    return (uint32_t)((r->state * UINT64_C(2685821657736338717)) >> 32);
+}
+
+uint32_t draw(struct numbers *r, uint32_t bound)
+{
+    return next_number(r) % bound;
+}
+
+void fill_arbitrary(uint32_t seed, uint8_t *bytes, size_t len)
+{
+    struct numbers r = numbers_from(seed);
+    size_t i;
+
+    for (i = 0; i < len; i++)
+        bytes[i] = (uint8_t)next_number(&r);
+}
+
+static size_t side_of(uint8_t code)
+{
+    if (code <= SIDE_CODES)
+        return code;
+    return sides[(code - SIDE_CODES - 1) % (sizeof sides / sizeof *sides)];
+}
+
+static size_t block_of(uint8_t code)
+{
+    if (code <= BLOCK_CODES)
+        return code;
+    return blocks[(code - BLOCK_CODES - 1) % (sizeof blocks / sizeof *blocks)];
+}
+
+/* The length that is asked for, changed by a signed byte and never below 0. */
+static size_t changed_length(size_t length, uint8_t by)
+{
+    if (by < 128)
+        return length + by;
+    return length < 256u - by ? 0 : length - (256u - by);
+}
+
+static void read_lengths(struct input *in, const uint8_t *head)
+{
+    size_t disks;
+
+    in->n = side_of(head[AT_SIDE]);
+    in->side = in->n <= SIDE_CODES ? in->n : in->n % 16;
+    in->block = block_of(head[AT_BLOCK]);
+    in->block_len = in->block <= 4098 ? in->block : in->block % 4096;
+    disks = (in->side + 1) * (in->side + 1);
+    in->array_len = changed_length(disks * in->block_len, head[AT_ARRAY_LEN]);
+    in->map_len = changed_length(disks, head[AT_MAP_LEN]);
+    in->sheet_len = changed_length(98, head[AT_SHEET_LEN]);
+}
+
+void read_input(struct input *in, const uint8_t *data, size_t size)
+{
+    uint8_t all[INPUT_MAX] = {0};
+
+    memcpy(all, data, size < INPUT_MAX ? size : INPUT_MAX);
+    in->follow = (all[AT_FLAGS] & FLAG_FOLLOW) != 0;
+    in->behind = (all[AT_FLAGS] & FLAG_BEHIND) != 0;
+    in->pass_null = (all[AT_FLAGS] & FLAG_NULL) != 0;
+    read_lengths(in, all);
+    in->contents = (enum contents)(all[AT_CONTENTS] % CONTENTS);
+    in->disk = all[AT_DISK];
+    in->seed = all[AT_SEED] | (uint32_t)all[AT_SEED + 1] << 8 |
+               (uint32_t)all[AT_SEED + 2] << 16 |
+               (uint32_t)all[AT_SEED + 3] << 24;
+    memset(in->sheet, 0, sizeof in->sheet);
+    memcpy(in->sheet, all + AT_SHEET, AT_MAP - AT_SHEET);
+    memset(in->map, 0, sizeof in->map);
+    memcpy(in->map, all + AT_MAP, INPUT_MAX - AT_MAP);
+}
+
+/* Sets the parities at one byte place by their definitions. */
+static void seal_place(uint8_t *array, size_t n, size_t block, size_t place)
+{
+    size_t r, c, side = n + 1;
+
+#define CELL(r, c) array[((r) * side + (c)) * block + place]
+    for (r = 0; r <= n; r++) {
+        CELL(r, n) = 0;
+        CELL(n, r) = 0;
+    }
+    for (r = 0; r < n; r++)
+        for (c = 0; c < n; c++) {
+            CELL(r, n) ^= CELL(r, c);
+            CELL(n, c) ^= CELL(r, c);
+            CELL(n, n) ^= CELL(r, c);
+        }
+#undef CELL
+}
+
+/* Changes one byte of a disk. Which place and how comes from the seed, so it
+   is the same for every disk. */
+static void change(const struct input *in, uint8_t *array,
+                   size_t row, size_t column)
+{
+    size_t side = in->side + 1;
+    size_t disk = row % side * side + column % side;
+
+    array[disk * in->block_len + in->seed % in->block_len] ^=
+        (uint8_t)(1u << in->seed % 8);
+}
+
+static void damage(const struct input *in, uint8_t *array)
+{
+    size_t side = in->side + 1;
+    size_t row = in->disk / side, column = in->disk % side;
+    size_t down = 1 + in->seed % (side - 1);
+
+    if (in->contents == SEALED || in->contents == ARBITRARY)
+        return;
+    change(in, array, row, column);
+    if (in->contents == ROW_CHANGED || in->contents == CORNERS_CHANGED)
+        change(in, array, row, column + down);
+    if (in->contents == COLUMN_CHANGED || in->contents == CORNERS_CHANGED)
+        change(in, array, row + down, column);
+    if (in->contents == CORNERS_CHANGED)
+        change(in, array, row + down, column + down);
+}
+
+/* Arbitrary bytes on the erased disks, others than before. */
+static void spoil_erased(const struct input *in, uint8_t *array, size_t disks)
+{
+    size_t disk;
+
+    for (disk = 0; disk < disks && disk < in->map_len; disk++)
+        if (in->map[disk] == 1)
+            fill_arbitrary(in->seed + 1 + (uint32_t)disk,
+                           array + disk * in->block_len, in->block_len);
+}
+
+void fill_array(const struct input *in, uint8_t *array)
+{
+    size_t disks = (in->side + 1) * (in->side + 1), place;
+
+    fill_arbitrary(in->seed, array, in->array_len);
+    if (in->side < 2 || in->array_len < disks * in->block_len ||
+        in->block_len == 0 || in->contents == ARBITRARY)
+        return;
+    for (place = 0; place < in->block_len; place++)
+        seal_place(array, in->side, in->block_len, place);
+    damage(in, array);
+    spoil_erased(in, array, disks);
+}

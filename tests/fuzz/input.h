@@ -1,0 +1,87 @@
+/*
+ * An input of the fuzzer: a call of raid2d_plan or raid2d_follow in a few
+ * hundred bytes.
+ *
+ *   byte 0       bit 0: follow, else plan. Bit 1: what is lent begins right
+ *                behind a page without access, else it ends right before one.
+ *                Bit 2: NULL is passed for what is empty.
+ *   bytes 1, 2   n and block: small numbers as they are, others by a table
+ *   bytes 3..5   how much longer the array, the map and the sheet are than n
+ *                and block ask for, from -128 to 127
+ *   byte 6       what the array holds: one of enum contents
+ *   byte 7       the disk that is damaged
+ *   bytes 8..11  the seed of all arbitrary bytes
+ *   98 bytes     the sheet that follow reads
+ *   the rest     the map
+ *
+ * Bytes that are missing are zero, so every byte string is an input.
+ */
+#ifndef INPUT_H
+#define INPUT_H
+
+#include <stddef.h>
+#include <stdint.h>
+
+enum {
+    AT_FLAGS = 0,
+    AT_SIDE = 1,
+    AT_BLOCK = 2,
+    AT_ARRAY_LEN = 3,
+    AT_MAP_LEN = 4,
+    AT_SHEET_LEN = 5,
+    AT_CONTENTS = 6,
+    AT_DISK = 7,
+    AT_SEED = 8,
+    AT_SHEET = 12,
+    AT_MAP = AT_SHEET + 98,
+    INPUT_MAX = AT_MAP + 18 * 18
+};
+
+enum { FLAG_FOLLOW = 1, FLAG_BEHIND = 2, FLAG_NULL = 4 };
+
+/* The array is sealed; or one byte of one disk is changed; or two disks of a
+   row, of a column, or four in the corners of a rectangle are changed by the
+   same; or it holds arbitrary bytes. In each the erased blocks are arbitrary. */
+enum contents {
+    SEALED, ONE_CHANGED, ROW_CHANGED, COLUMN_CHANGED, CORNERS_CHANGED,
+    ARBITRARY, CONTENTS
+};
+
+/* Numbers up to these stand for themselves in bytes 1 and 2. */
+enum { SIDE_CODES = 17, BLOCK_CODES = 64 };
+
+/* The most bytes that an input can ask for. */
+enum {
+    ARRAY_LEN_MAX = 18 * 18 * 4098 + 127,
+    MAP_LEN_MAX = 18 * 18 + 127,
+    SHEET_LEN_MAX = 98 + 127
+};
+
+struct input {
+    int follow, behind, pass_null;
+    size_t n, block;
+    size_t side;       /* n where it is small: the grid has side + 1 rows */
+    size_t block_len;  /* likewise for block */
+    size_t array_len, map_len, sheet_len;
+    enum contents contents;
+    size_t disk;
+    uint32_t seed;
+    uint8_t sheet[SHEET_LEN_MAX];
+    uint8_t map[MAP_LEN_MAX];
+};
+
+void read_input(struct input *in, const uint8_t *data, size_t size);
+
+/* Fills an array of the input's length as the input says. */
+void fill_array(const struct input *in, uint8_t *array);
+
+/* Numbers that look arbitrary, the same from the same seed. */
+struct numbers {
+    uint64_t state;
+};
+
+struct numbers numbers_from(uint32_t seed);
+uint32_t draw(struct numbers *r, uint32_t bound);
+void fill_arbitrary(uint32_t seed, uint8_t *bytes, size_t len);
+
+#endif

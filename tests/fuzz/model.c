@@ -1,0 +1,369 @@
+/*
+ * The model: what plan and follow must answer. Written from the order's words,
+ * and from nothing of the library.
+ */
+#include <string.h>
+
+#include "model.h"
+
+/* The refusals, by the order's numbers. */
+enum {
+    DONE = 0,
+    WRONG_SIDE = 1,
+    WRONG_BLOCK = 2,
+    WRONG_ARRAY = 3,
+    WRONG_MAP = 4,
+    WRONG_SHEET = 5,
+    FATAL = 6,
+    CONTRADICTION = 7,
+    BROKEN_CHAIN = 10,
+    NOT_ALLOWED = 11
+};
+
+size_t record_at(size_t k)
+{
+    return 2 + 3 * (k - 1);
+}
+
+static size_t disks_of(size_t n)
+{
+    return (n + 1) * (n + 1);
+}
+
+int on_stripe(size_t n, size_t disk, size_t stripe)
+{
+    if (stripe < COLUMNS)
+        return disk / (n + 1) == stripe;
+    return disk % (n + 1) == stripe - COLUMNS;
+}
+
+/* The disk at place i of a stripe of the grid. */
+static size_t disk_on(size_t n, size_t stripe, size_t i)
+{
+    if (stripe < COLUMNS)
+        return stripe * (n + 1) + i;
+    return i * (n + 1) + (stripe - COLUMNS);
+}
+
+int may_repair(size_t n, const uint8_t *work, size_t disk, size_t stripe)
+{
+    size_t i;
+
+    if (disk >= disks_of(n))
+        return 0;
+    if (work[disk] != 1)
+        return 0;
+    if (!on_stripe(n, disk, stripe))
+        return 0;
+    for (i = 0; i <= n; i++) {
+        size_t other = disk_on(n, stripe, i);
+
+        if (other != disk && work[other] == 1)
+            return 0;
+    }
+    return 1;
+}
+
+size_t count_erased(const uint8_t *map, size_t disks)
+{
+    size_t disk, count = 0;
+
+    for (disk = 0; disk < disks; disk++)
+        count += map[disk] == 1;
+    return count;
+}
+
+static int map_fits(size_t n, const uint8_t *map, size_t map_len)
+{
+    size_t disk;
+
+    if (map_len != disks_of(n))
+        return 0;
+    for (disk = 0; disk < map_len; disk++)
+        if (map[disk] != 0 && map[disk] != 1)
+            return 0;
+    return 1;
+}
+
+/* ---- plan */
+
+/* The lowest disk that can be repaired, and its stripe: the row if that is
+   allowed, else the column. 0 if there is none. */
+static int next_repair(size_t n, const uint8_t *work,
+                       size_t *disk, size_t *stripe)
+{
+    size_t d;
+
+    for (d = 0; d < disks_of(n); d++) {
+        if (work[d] != 1)
+            continue;
+        *disk = d;
+        *stripe = d / (n + 1);
+        if (may_repair(n, work, d, *stripe))
+            return 1;
+        *stripe = COLUMNS + d % (n + 1);
+        if (may_repair(n, work, d, *stripe))
+            return 1;
+    }
+    return 0;
+}
+
+size_t plan_repairs(size_t n, uint8_t *work, uint8_t *sheet)
+{
+    size_t disk, stripe, count = 0;
+
+    memset(sheet, 0, SHEET_BYTES);
+    sheet[0] = 1;
+    while (next_repair(n, work, &disk, &stripe)) {
+        work[disk] = 0;
+        count++;
+        if (count > RECORDS)
+            continue;
+        if (count == 1)
+            sheet[1] = 1;
+        else
+            sheet[record_at(count - 1) + 2] = (uint8_t)count;
+        sheet[record_at(count)] = (uint8_t)disk;
+        sheet[record_at(count) + 1] = (uint8_t)stripe;
+    }
+    return count;
+}
+
+/* How many records a loop has that stand in the order 1, 2, 3 and so on, with
+   zeros behind them. 0 if they do not. */
+static size_t loop_length(const uint8_t *sheet)
+{
+    size_t k = 1, at;
+
+    if (sheet[0] != 2 || sheet[1] != 1)
+        return 0;
+    while (k < RECORDS && sheet[record_at(k) + 2] == k + 1)
+        k++;
+    if (sheet[record_at(k) + 2] != 0)
+        return 0;
+    for (at = record_at(k + 1); at < SHEET_BYTES; at++)
+        if (sheet[at] != 0)
+            return 0;
+    return k;
+}
+
+/* Each stripe holds none or two of a loop's disks. */
+static int two_on_each_stripe(size_t n, const uint8_t *sheet, size_t length)
+{
+    size_t stripe, k, count;
+
+    for (stripe = 0; stripe < STRIPES; stripe++) {
+        count = 0;
+        for (k = 1; k <= length; k++)
+            count += on_stripe(n, sheet[record_at(k)], stripe) ? 1 : 0;
+        if (count != 0 && count != 2)
+            return 0;
+    }
+    return 1;
+}
+
+/* Record k of a loop: an erased disk of the grid, not below the first, and the
+   stripe that it shares with the next: a row for odd k, a column for even. */
+static const char *judge_loop_record(const struct planned *p, size_t k,
+                                     size_t length)
+{
+    size_t next = k == length ? 1 : k + 1;
+    size_t disk = p->sheet[record_at(k)];
+    size_t stripe = p->sheet[record_at(k) + 1];
+    size_t after = p->sheet[record_at(next)];
+
+    if (disk >= disks_of(p->n) || p->map[disk] != 1)
+        return "a loop has a disk that is not erased";
+    if (k > 1 && disk <= p->sheet[record_at(1)])
+        return "a loop does not begin with its lowest disk";
+    if ((k % 2 == 1) != (stripe < COLUMNS))
+        return "a loop's rows and columns do not take turns";
+    if (!on_stripe(p->n, disk, stripe) || !on_stripe(p->n, after, stripe))
+        return "a loop's disk does not share its stripe with the next";
+    return NULL;
+}
+
+static const char *judge_loop(const struct planned *p)
+{
+    size_t length = loop_length(p->sheet), k, other;
+
+    if (length < 4 || length % 2 != 0)
+        return "the sheet is not a loop of four disks or more";
+    for (k = 1; k <= length; k++) {
+        const char *wrong = judge_loop_record(p, k, length);
+
+        if (wrong != NULL)
+            return wrong;
+        for (other = 1; other < k; other++)
+            if (p->sheet[record_at(other)] == p->sheet[record_at(k)])
+                return "a loop has a disk twice";
+    }
+    if (!two_on_each_stripe(p->n, p->sheet, length))
+        return "a loop's stripe does not hold two of its disks";
+    return NULL;
+}
+
+/* A refusal: the status, and that nothing has changed. */
+static const char *judge_refusal(const struct planned *p, uint32_t status)
+{
+    if (p->status != status)
+        return "plan's refusal is another one";
+    if (p->count != p->count_before)
+        return "plan refused and changed the count";
+    if (memcmp(p->sheet, p->sheet_before, p->sheet_len) != 0)
+        return "plan refused and changed the sheet";
+    return NULL;
+}
+
+static const char *judge_outcome(const struct planned *p)
+{
+    uint8_t work[DISKS_MAX], sheet[SHEET_BYTES];
+    size_t repairs, lost;
+
+    memcpy(work, p->map, p->map_len);
+    repairs = plan_repairs(p->n, work, sheet);
+    lost = count_erased(work, p->map_len);
+    if (p->status != (lost > 0 ? FATAL : DONE))
+        return "plan and the model differ on whether the loss is fatal";
+    if (p->count != (lost > 0 ? lost : repairs))
+        return "plan's count is another one";
+    if (lost > 0)
+        return judge_loop(p);
+    if (memcmp(p->sheet, sheet, SHEET_BYTES) != 0)
+        return "plan's list of repairs is another one";
+    return NULL;
+}
+
+const char *judge_plan(const struct planned *p)
+{
+    if (p->n < 2 || p->n > SIDE_MAX)
+        return judge_refusal(p, WRONG_SIDE);
+    if (!map_fits(p->n, p->map, p->map_len))
+        return judge_refusal(p, WRONG_MAP);
+    if (p->sheet_len != SHEET_BYTES)
+        return judge_refusal(p, WRONG_SHEET);
+    return judge_outcome(p);
+}
+
+/* ---- follow */
+
+int read_chain(const uint8_t *sheet, uint8_t order[RECORDS])
+{
+    uint8_t visited[RECORDS + 1] = {0};
+    size_t number = sheet[1];
+    int count = 0;
+
+    if (sheet[0] != 1)
+        return -1;
+    while (number != 0) {
+        if (number > RECORDS || visited[number])
+            return -1;
+        visited[number] = 1;
+        order[count++] = (uint8_t)number;
+        number = sheet[record_at(number) + 2];
+    }
+    return count;
+}
+
+/* Each step is an allowed repair at its turn, and no disk remains erased. */
+static int steps_allowed(size_t n, const uint8_t *map, const uint8_t *sheet,
+                         const uint8_t *order, int count)
+{
+    uint8_t work[DISKS_MAX];
+    int i;
+
+    memcpy(work, map, disks_of(n));
+    for (i = 0; i < count; i++) {
+        const uint8_t *record = sheet + record_at(order[i]);
+
+        if (!may_repair(n, work, record[0], record[1]))
+            return 0;
+        work[record[0]] = 0;
+    }
+    return count_erased(work, disks_of(n)) == 0;
+}
+
+/* The sum of a stripe's disks at one byte place, but for one disk. */
+static uint8_t sum_without(size_t n, size_t block, const uint8_t *array,
+                           size_t stripe, size_t place, size_t but)
+{
+    uint8_t sum = 0;
+    size_t i;
+
+    for (i = 0; i <= n; i++) {
+        size_t disk = disk_on(n, stripe, i);
+
+        if (disk != but)
+            sum ^= array[disk * block + place];
+    }
+    return sum;
+}
+
+static int is_sealed(size_t n, size_t block, const uint8_t *array)
+{
+    size_t line, place;
+
+    for (line = 0; line <= n; line++)
+        for (place = 0; place < block; place++) {
+            if (sum_without(n, block, array, line, place, SIZE_MAX) != 0)
+                return 0;
+            if (sum_without(n, block, array, COLUMNS + line, place,
+                            SIZE_MAX) != 0)
+                return 0;
+        }
+    return 1;
+}
+
+static void make_repair(size_t n, size_t block, uint8_t *array,
+                        const uint8_t *record)
+{
+    size_t disk = record[0], place;
+
+    for (place = 0; place < block; place++)
+        array[disk * block + place] =
+            sum_without(n, block, array, record[1], place, disk);
+}
+
+static void zero_erased(size_t block, uint8_t *array,
+                        const uint8_t *map, size_t map_len)
+{
+    size_t disk;
+
+    for (disk = 0; disk < map_len; disk++)
+        if (map[disk] == 1)
+            memset(array + disk * block, 0, block);
+}
+
+uint32_t model_follow(size_t n, size_t block,
+                      uint8_t *array, size_t array_len,
+                      const uint8_t *map, size_t map_len,
+                      const uint8_t *sheet, size_t sheet_len,
+                      size_t *count)
+{
+    uint8_t order[RECORDS];
+    int steps, i;
+
+    if (n < 2 || n > SIDE_MAX)
+        return WRONG_SIDE;
+    if (block < 1 || block > 4096)
+        return WRONG_BLOCK;
+    if (array_len != disks_of(n) * block)
+        return WRONG_ARRAY;
+    if (!map_fits(n, map, map_len))
+        return WRONG_MAP;
+    if (sheet_len != SHEET_BYTES)
+        return WRONG_SHEET;
+    steps = read_chain(sheet, order);
+    if (steps < 0)
+        return BROKEN_CHAIN;
+    if (!steps_allowed(n, map, sheet, order, steps))
+        return NOT_ALLOWED;
+    for (i = 0; i < steps; i++)
+        make_repair(n, block, array, sheet + record_at(order[i]));
+    if (!is_sealed(n, block, array)) {
+        zero_erased(block, array, map, map_len);
+        return CONTRADICTION;
+    }
+    *count = (size_t)steps;
+    return DONE;
+}

@@ -1,0 +1,452 @@
+/*
+ * Changes inputs in ways that keep most of them near to a valid call: a loss
+ * that can be repaired or just not, with a sheet that lists its repairs, and
+ * from there one small fault or another. The general mutator of the fuzzer has
+ * its turn too.
+ */
+#include <string.h>
+
+#include "input.h"
+#include "model.h"
+
+size_t LLVMFuzzerMutate(uint8_t *data, size_t size, size_t max_size);
+size_t LLVMFuzzerCustomMutator(uint8_t *data, size_t size, size_t max_size,
+                               unsigned int seed);
+
+/* An input while it is being changed: all its bytes, and what they mean. */
+struct draft {
+    uint8_t bytes[INPUT_MAX];
+    uint8_t *sheet, *map;
+    size_t n, disks;
+    struct numbers random;
+};
+
+static int one_in(struct draft *d, uint32_t bound)
+{
+    return draw(&d->random, bound) == 0;
+}
+
+/* The grid that the input's n asks for, kept to what the library takes. */
+static void read_grid(struct draft *d)
+{
+    d->n = d->bytes[AT_SIDE];
+    if (d->n < 2 || d->n > SIDE_MAX)
+        d->n = 2;
+    d->disks = (d->n + 1) * (d->n + 1);
+}
+
+/* ---- losses */
+
+/*
+ * Marks a disk unless that closes a loop: rows and columns that are joined by
+ * erased disks have the same part number.
+ */
+static int mark_in_forest(struct draft *d, uint8_t *part, size_t disk)
+{
+    uint8_t row = part[disk / (d->n + 1)];
+    uint8_t column = part[COLUMNS + disk % (d->n + 1)];
+    size_t i;
+
+    if (row == column)
+        return 0;
+    for (i = 0; i < STRIPES; i++)
+        if (part[i] == column)
+            part[i] = row;
+    d->map[disk] = 1;
+    return 1;
+}
+
+/* A loss that can be repaired, of about this many disks. */
+static void draw_forest(struct draft *d, size_t wanted)
+{
+    uint8_t part[STRIPES];
+    size_t i, tries;
+
+    for (i = 0; i < STRIPES; i++)
+        part[i] = (uint8_t)i;
+    for (tries = 0; wanted > 0 && tries < 400; tries++)
+        if (mark_in_forest(d, part, draw(&d->random, (uint32_t)d->disks)))
+            wanted--;
+}
+
+/* Four disks in the corners of a rectangle. */
+static void draw_corners(struct draft *d)
+{
+    size_t side = d->n + 1;
+    size_t row = draw(&d->random, (uint32_t)side);
+    size_t column = draw(&d->random, (uint32_t)side);
+    size_t down = (row + 1 + draw(&d->random, (uint32_t)d->n)) % side;
+    size_t right = (column + 1 + draw(&d->random, (uint32_t)d->n)) % side;
+
+    d->map[row * side + column] = 1;
+    d->map[row * side + right] = 1;
+    d->map[down * side + column] = 1;
+    d->map[down * side + right] = 1;
+}
+
+/* A stair of this many steps that comes back to its beginning. */
+static void draw_stair(struct draft *d, size_t steps)
+{
+    size_t side = d->n + 1, i;
+
+    for (i = 0; i < steps; i++) {
+        d->map[i * side + i] = 1;
+        d->map[i * side + (i + 1) % steps] = 1;
+    }
+}
+
+static void draw_loss(struct draft *d)
+{
+    uint32_t most = (uint32_t)(2 * d->n + 2);
+
+    memset(d->map, 0, INPUT_MAX - AT_MAP);
+    switch (draw(&d->random, 8)) {
+    case 0:
+        draw_forest(d, 2 * d->n + 1);
+        break;
+    case 1:
+        draw_forest(d, draw(&d->random, most));
+        draw_corners(d);
+        break;
+    case 2:
+        draw_stair(d, 2 + draw(&d->random, (uint32_t)d->n));
+        break;
+    case 3:
+        draw_stair(d, d->n + 1);
+        d->map[draw(&d->random, (uint32_t)d->n)] = 0;
+        break;
+    case 4:
+        memset(d->map, one_in(d, 2), d->disks);
+        break;
+    default:
+        draw_forest(d, draw(&d->random, most));
+    }
+}
+
+/* ---- sheets */
+
+/* Record numbers in an arbitrary order. */
+static void draw_places(struct draft *d, uint8_t place[RECORDS])
+{
+    size_t i, j;
+    uint8_t kept;
+
+    for (i = 0; i < RECORDS; i++)
+        place[i] = (uint8_t)(i + 1);
+    for (i = RECORDS - 1; i > 0; i--) {
+        j = draw(&d->random, (uint32_t)i + 1);
+        kept = place[i];
+        place[i] = place[j];
+        place[j] = kept;
+    }
+}
+
+/* An allowed repair, looked for from an arbitrary disk on. 0 if none is. */
+static int draw_repair(struct draft *d, const uint8_t *work, uint8_t record[2])
+{
+    size_t from = draw(&d->random, (uint32_t)d->disks), i;
+
+    for (i = 0; i < d->disks; i++) {
+        size_t disk = (from + i) % d->disks;
+        size_t row = disk / (d->n + 1);
+        size_t column = COLUMNS + disk % (d->n + 1);
+        size_t first = one_in(d, 2) ? row : column;
+
+        record[0] = (uint8_t)disk;
+        record[1] = (uint8_t)first;
+        if (may_repair(d->n, work, disk, first))
+            return 1;
+        record[1] = (uint8_t)(row + column - first);
+        if (may_repair(d->n, work, disk, record[1]))
+            return 1;
+    }
+    return 0;
+}
+
+/* A sheet of repairs in an arbitrary allowed order and at arbitrary places. */
+static void draw_sheet(struct draft *d)
+{
+    uint8_t work[DISKS_MAX], place[RECORDS];
+    uint8_t *link = d->sheet + 1;
+    size_t k;
+
+    memcpy(work, d->map, d->disks);
+    memset(d->sheet, 0, SHEET_BYTES);
+    d->sheet[0] = 1;
+    draw_places(d, place);
+    for (k = 0; k < RECORDS; k++) {
+        uint8_t *record = d->sheet + record_at(place[k]);
+
+        if (!draw_repair(d, work, record)) {
+            record[0] = 0;
+            record[1] = 0;
+            break;
+        }
+        work[record[0]] = 0;
+        *link = place[k];
+        link = record + 2;
+    }
+}
+
+static void plan_sheet(struct draft *d)
+{
+    uint8_t work[DISKS_MAX];
+
+    memcpy(work, d->map, d->disks);
+    plan_repairs(d->n, work, d->sheet);
+}
+
+/* The record numbers on the chain, as far as it can be walked. */
+static size_t walk(const struct draft *d, uint8_t order[RECORDS])
+{
+    uint8_t visited[RECORDS + 1] = {0};
+    size_t count = 0, number = d->sheet[1];
+
+    while (number != 0 && number <= RECORDS && !visited[number]) {
+        visited[number] = 1;
+        order[count++] = (uint8_t)number;
+        number = d->sheet[record_at(number) + 2];
+    }
+    return count;
+}
+
+/* A record of the chain; any record if the chain is empty. */
+static uint8_t *some_record(struct draft *d)
+{
+    uint8_t order[RECORDS];
+    size_t count = walk(d, order), k;
+
+    k = count == 0 ? 1 + draw(&d->random, RECORDS)
+                   : order[draw(&d->random, (uint32_t)count)];
+    return d->sheet + record_at(k);
+}
+
+/* The same chain at other places. */
+static void move_records(struct draft *d)
+{
+    uint8_t order[RECORDS], place[RECORDS], old[SHEET_BYTES];
+    uint8_t *link = d->sheet + 1;
+    size_t count = walk(d, order), i;
+
+    memcpy(old, d->sheet, SHEET_BYTES);
+    draw_places(d, place);
+    for (i = 0; i < count; i++) {
+        uint8_t *record = d->sheet + record_at(place[i]);
+
+        memcpy(record, old + record_at(order[i]), 2);
+        *link = place[i];
+        link = record + 2;
+    }
+    *link = 0;
+}
+
+/* A number for a link: mostly of a record, else around the limit. */
+static uint8_t draw_link(struct draft *d)
+{
+    static const uint8_t edges[] = {0, 1, 31, 32, 33, 34, 64, 255};
+
+    if (one_in(d, 2))
+        return (uint8_t)(1 + draw(&d->random, RECORDS));
+    return edges[draw(&d->random, sizeof edges)];
+}
+
+static void change_stripe(struct draft *d, uint8_t *record)
+{
+    switch (draw(&d->random, 4)) {
+    case 0:
+        record[1] = (uint8_t)(record[0] / (d->n + 1));
+        break;
+    case 1:
+        record[1] = (uint8_t)(COLUMNS + record[0] % (d->n + 1));
+        break;
+    case 2:
+        record[1] ^= COLUMNS;
+        break;
+    default:
+        record[1] = (uint8_t)draw(&d->random, one_in(d, 2) ? 256 : 34);
+    }
+}
+
+/* Swaps what two records repair. */
+static void swap_records(struct draft *d)
+{
+    uint8_t *one = some_record(d), *two = some_record(d), kept[2];
+
+    memcpy(kept, one, 2);
+    memcpy(one, two, 2);
+    memcpy(two, kept, 2);
+}
+
+/* Arbitrary bytes in all records that the chain does not visit. */
+static void fill_off_chain(struct draft *d)
+{
+    uint8_t order[RECORDS], visited[RECORDS + 1] = {0};
+    size_t count = walk(d, order), i, k;
+
+    for (i = 0; i < count; i++)
+        visited[order[i]] = 1;
+    for (k = 1; k <= RECORDS; k++)
+        for (i = 0; i < 3 && !visited[k]; i++)
+            d->sheet[record_at(k) + i] = (uint8_t)draw(&d->random, 256);
+}
+
+/* One more record at the chain's end: any disk of the grid. */
+static void lengthen(struct draft *d)
+{
+    uint8_t order[RECORDS];
+    size_t count = walk(d, order);
+    uint8_t next = (uint8_t)(1 + draw(&d->random, RECORDS));
+
+    if (count == 0)
+        d->sheet[1] = next;
+    else
+        d->sheet[record_at(order[count - 1]) + 2] = next;
+    d->sheet[record_at(next)] = (uint8_t)draw(&d->random, (uint32_t)d->disks);
+    change_stripe(d, d->sheet + record_at(next));
+    d->sheet[record_at(next) + 2] = 0;
+}
+
+static void change_sheet(struct draft *d)
+{
+    switch (draw(&d->random, 12)) {
+    case 0:
+        some_record(d)[2] = draw_link(d);
+        break;
+    case 1:
+        some_record(d)[0] = (uint8_t)draw(&d->random, 256);
+        break;
+    case 2:
+        some_record(d)[0] = (uint8_t)draw(&d->random, (uint32_t)d->disks + 2);
+        break;
+    case 3:
+        change_stripe(d, some_record(d));
+        break;
+    case 4:
+        d->sheet[0] = (uint8_t)draw(&d->random, one_in(d, 2) ? 4 : 256);
+        break;
+    case 5:
+        d->sheet[1] = draw_link(d);
+        break;
+    case 6:
+        swap_records(d);
+        break;
+    case 7:
+        some_record(d)[2] = 0;
+        break;
+    case 8:
+        fill_off_chain(d);
+        break;
+    case 9:
+        lengthen(d);
+        break;
+    default:
+        move_records(d);
+    }
+}
+
+/* ---- the rest of an input */
+
+static void change_map(struct draft *d)
+{
+    uint8_t *byte = d->map + draw(&d->random, (uint32_t)d->disks);
+
+    if (one_in(d, 6))
+        *byte = (uint8_t)draw(&d->random, 256);
+    else
+        *byte ^= 1;
+    if (one_in(d, 3))
+        plan_sheet(d);
+}
+
+/* A length byte: mostly right, else a little off, else anything. */
+static uint8_t draw_length(struct draft *d)
+{
+    if (one_in(d, 2))
+        return 0;
+    return (uint8_t)(one_in(d, 2) ? draw(&d->random, 3) + 255
+                                  : draw(&d->random, 256));
+}
+
+static void change_head(struct draft *d)
+{
+    size_t at = draw(&d->random, AT_SHEET);
+
+    if (at >= AT_ARRAY_LEN && at <= AT_SHEET_LEN)
+        d->bytes[at] = draw_length(d);
+    else if (at == AT_SIDE && !one_in(d, 4))
+        d->bytes[at] = (uint8_t)draw(&d->random, SIDE_CODES + 1);
+    else if (at == AT_BLOCK && !one_in(d, 4))
+        d->bytes[at] = (uint8_t)draw(&d->random, BLOCK_CODES + 1);
+    else
+        d->bytes[at] = (uint8_t)draw(&d->random, 256);
+    read_grid(d);
+}
+
+/* A new input: right lengths, a loss, and mostly a sheet for it. */
+static void draw_input(struct draft *d)
+{
+    size_t i;
+
+    memset(d->bytes, 0, AT_MAP);
+    d->bytes[AT_FLAGS] = (uint8_t)draw(&d->random, 4) | !one_in(d, 4);
+    d->bytes[AT_SIDE] = (uint8_t)(2 + draw(&d->random, one_in(d, 2) ? 3 : 14));
+    d->bytes[AT_BLOCK] = (uint8_t)(1 + draw(&d->random, one_in(d, 2) ? 4 : 40));
+    d->bytes[AT_CONTENTS] = (uint8_t)draw(&d->random, CONTENTS);
+    for (i = AT_DISK; i < AT_SHEET; i++)
+        d->bytes[i] = (uint8_t)draw(&d->random, 256);
+    read_grid(d);
+    draw_loss(d);
+    if (one_in(d, 2))
+        draw_sheet(d);
+    else
+        plan_sheet(d);
+}
+
+static void change(struct draft *d)
+{
+    switch (draw(&d->random, 16)) {
+    case 0:
+        draw_input(d);
+        break;
+    case 1:
+        draw_loss(d);
+        plan_sheet(d);
+        break;
+    case 2:
+        plan_sheet(d);
+        break;
+    case 3:
+        draw_sheet(d);
+        break;
+    case 4:
+    case 5:
+        change_map(d);
+        break;
+    case 6:
+    case 7:
+        change_head(d);
+        break;
+    default:
+        change_sheet(d);
+    }
+}
+
+size_t LLVMFuzzerCustomMutator(uint8_t *data, size_t size, size_t max_size,
+                               unsigned int seed)
+{
+    struct draft d;
+    uint32_t left;
+
+    d.random = numbers_from(seed);
+    if (max_size < INPUT_MAX || one_in(&d, 16))
+        return LLVMFuzzerMutate(data, size, max_size);
+    d.sheet = d.bytes + AT_SHEET;
+    d.map = d.bytes + AT_MAP;
+    memset(d.bytes, 0, INPUT_MAX);
+    memcpy(d.bytes, data, size < INPUT_MAX ? size : INPUT_MAX);
+    read_grid(&d);
+    for (left = 1 + draw(&d.random, 3); left > 0; left--)
+        change(&d);
+    memcpy(data, d.bytes, AT_MAP + d.disks);
+    return AT_MAP + d.disks;
+}
