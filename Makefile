@@ -5,6 +5,8 @@
 #   make check      all proofs and tests
 #   make test-c     the tests in C, the header as C99 and C++, the example
 #   make test-rust  the comparison with a program in Rust
+#   make test-fuzz  a bounded run of the fuzzer, and that it finds faults
+#   make fuzz       a longer run, of FUZZ_TIME seconds
 #   make bench      the benchmark
 #   make clean      removes build/
 #
@@ -25,7 +27,10 @@ PROVED_SOURCES = crates.txt $(shell find crates -type f -not -path '*/must-fail/
 C_TESTS = $(wildcard tests/c/*.c)
 STRICT = -Wall -Wextra -Wpedantic -Werror -Iinclude -fsyntax-only
 
-.PHONY: all lib example check test-c test-rust bench clean
+# How long `make fuzz` runs, in seconds.
+FUZZ_TIME = 600
+
+.PHONY: all lib example check test-c test-rust test-fuzz fuzz bench clean
 
 all: lib
 
@@ -62,6 +67,13 @@ test-c: $(BUILD)/host $(BUILD)/tests-c
 test-rust: $(LIB)
 	RAID2D_LIB_DIR=$(abspath $(dir $(LIB))) cargo run --release --offline \
 	    --manifest-path tests/rust/Cargo.toml --target-dir $(BUILD)/rust
+
+test-fuzz: $(LIB)
+	sh tests/fuzz/wrong
+	sh tests/fuzz/run $(LIB)
+
+fuzz: $(LIB)
+	sh tests/fuzz/run $(LIB) $(FUZZ_TIME)
 
 bench: $(LIB)
 	$(MAKE) -C bench LIB=$(abspath $(LIB)) BUILD=$(abspath $(BUILD)/bench)

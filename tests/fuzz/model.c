@@ -117,8 +117,6 @@ size_t plan_repairs(size_t n, uint8_t *work, uint8_t *sheet)
     while (next_repair(n, work, &disk, &stripe)) {
         work[disk] = 0;
         count++;
-        if (count > RECORDS)
-            continue;
         if (count == 1)
             sheet[1] = 1;
         else

@@ -31,8 +31,8 @@ int may_repair(size_t n, const uint8_t *work, size_t disk, size_t stripe);
 /*
  * Plan's order on a working map, until no repair is allowed. Writes the sheet
  * that lists the repairs, takes the repaired disks off the map, and returns
- * the number of repairs. What is left on the map are the lost disks. Repairs
- * beyond the sheet's end are not written.
+ * the number of repairs: at most 32, since no stripe is used twice. What is
+ * left on the map are the lost disks.
  */
 size_t plan_repairs(size_t n, uint8_t *work, uint8_t *sheet);
 

@@ -348,10 +348,11 @@ static void change_sheet(struct draft *d)
 
 static void change_map(struct draft *d)
 {
+    static const uint8_t edges[] = {2, 3, 128, 129, 255};
     uint8_t *byte = d->map + draw(&d->random, (uint32_t)d->disks);
 
     if (one_in(d, 6))
-        *byte = (uint8_t)draw(&d->random, 256);
+        *byte = edges[draw(&d->random, sizeof edges)];
     else
         *byte ^= 1;
     if (one_in(d, 3))
