@@ -25,8 +25,7 @@ static int wrong(const char *name)
 
 /* ---- follow: faults in what the model is given, and in what it left */
 
-/* The links of a chain that lead nowhere, changed to one that the model takes
-   for the end. */
+/* Every link with this number becomes 0, the end of a chain. */
 static void end_chain_at(uint8_t *sheet, size_t number)
 {
     size_t k;
@@ -112,7 +111,7 @@ static void spoil_given(size_t n, uint8_t *map, uint8_t *sheet)
         sheet[record_at(32) + 2] = 33;
 }
 
-/* The sum of a row at the first byte place that is not zero there. */
+/* Each row's sum is zero at every byte place. */
 static int rows_are_sealed(size_t n, size_t block, const uint8_t *array)
 {
     size_t row, column, place;
