@@ -8,7 +8,7 @@ use Prim.Native.Nat.{ℕ, zero, suc, _+_, _≤_, _<_}
 use native.Mathlib.Nat.{eq-or-lt-of-le, le-of-suc-le-suc}
 use native.Mathlib.Numerals.{add-one}
 use native.Mathlib.Omega.{arith}
-use borrow.Author.Tests.{le-ltb}
+use borrow.Author.Tests.{eq-eqb, ne-eqb, le-ltb}
 use lib.Dec.{eqb}
 use lib.ListN.{length, length-append, getD}
 use Rattle.model.specs.Fold.{count}
@@ -29,16 +29,16 @@ use Rattle.peel.proofs.Rows.{degree-is}
 -- ---- one repair
 
 -- Each test that fails refuses it.
-module _ (z : Size) (e : ℕ → Bool) (d s : ℕ) where
-  pub outside-refused : disks z ≤ d → allowed (gridOf z) e d s ≡ false
+module _ (z : Size) (work : List ℕ) (d s : ℕ) where
+  pub outside-refused : disks z ≤ d → allowed (gridOf z) (erasures work) d s ≡ false
   unfolding allowed
   outside-refused l = simp (grid-disks z, le-ltb d (disks z) l)
 
-  pub present-refused : e d ≡ false → allowed (gridOf z) e d s ≡ false
-  unfolding allowed
-  present-refused h = simp (h, and-false)
+  pub present-refused : (getD work d 0 ≡ 1 → ⊥) → allowed (gridOf z) (erasures work) d s ≡ false
+  unfolding allowed erasures
+  present-refused h = simp (ne-eqb (getD work d 0) 1 h, and-false)
 
-  pub off-refused : on (gridOf z) d s ≡ false → allowed (gridOf z) e d s ≡ false
+  pub off-refused : on (gridOf z) d s ≡ false → allowed (gridOf z) (erasures work) d s ≡ false
   unfolding allowed
   off-refused h = simp (h, and-false)
 
@@ -48,11 +48,12 @@ module _ {z : Size} (fits : sizeFits z ≡ true) {work counts : List ℕ} (talli
   pub stripe-place : s < length counts
   stripe-place = let long = tallied .countsLong in let low = stripe-low z fits inside s here in omega arith
 
-  pub count-decides : erasures work d ≡ true → eqb (getD counts s 0) 1 ≡ allowed (gridOf z) (erasures work) d s
+  pub count-decides : getD work d 0 ≡ 1 → eqb (getD counts s 0) 1 ≡ allowed (gridOf z) (erasures work) d s
+  unfolding erasures
   count-decides erased =
       let same = grid-disks z in
       sym (allowed-count (gridOf z) (erasures work) d (omega arith) s here
-      ∙ simp (erased, degree-is tallied s (stripe-low z fits inside s here)))
+      ∙ simp (eq-eqb (getD work d 0) 1 erased, degree-is tallied s (stripe-low z fits inside s here)))
 
 -- ---- the records of a sheet
 

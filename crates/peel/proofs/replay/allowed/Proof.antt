@@ -5,10 +5,9 @@ use mathlib.Core.Bool.{true}
 use Prim.Native.Nat.{_<_}
 use native.Mathlib.Omega.{arith}
 use borrow.Author.Needs.{needs}
-use borrow.Author.Tests.{eq-eqb, ne-eqb, not-true, not-false}
+use borrow.Author.Tests.{not-true, not-false}
 use Rattle.model.specs.Stripes.{on}
 use Rattle.model.specs.Grid.{disks, gridOf}
-use Rattle.model.specs.Repair.{erasures}
 use Rattle.peel.proofs.Tallies.{disk-place}
 use Rattle.peel.proofs.Replayed.{outside-refused, present-refused, off-refused, stripe-place, count-decides}
 use Rattle.peel.proofs.replay.allowed.Statement.{statement}
@@ -33,8 +32,7 @@ shared-slice-read-if2 c =
     disk-place (p .0) (p .1) (inside (c .before))
 
 returns-2 : tie.Need-returns-2
-unfolding erasures
-returns-2 c = sym (present-refused _ _ _ _ (ne-eqb _ _ (c .if2 .taken)))
+returns-2 c = let h = c .if2 .taken in sym (present-refused _ _ _ _ (λ e. omega arith))
 
 on-stripe-requires : tie.Need-on-stripe-requires
 on-stripe-requires c κs = search needs
@@ -54,11 +52,10 @@ shared-slice-read-result c =
     stripe-place (p .0) (p .1) (inside (c .before .before .before .before .before)) _ (here (c .before))
 
 returns-4 : tie.Need-returns-4
-unfolding erasures
 returns-4 c =
     let p = c .before .before .before .before .before .before .before .before .before .pre in
     count-decides (p .0) (p .1) (inside (c .before .before .before .before .before)) _ (here (c .before))
-    (eq-eqb _ _ (c .before .before .before .if2 .left))
+    (let h = c .before .before .before .if2 .left in omega arith)
 
 pub allowed-spec : {M : Type 1} → statement M
 allowed-spec =
