@@ -65,7 +65,7 @@ module _ (z : Size) (B : ℕ) (a m s : List ℕ) where
       array-passed z B (length a) array _ ∙ passes 4 (mapFits z m) _ map ∙ passes 5 (eqb (length s) 98) ts long
 
   -- What follow gives where it refuses by k, or where k is 0.
-  given : (k : ℕ) → followRefusal z B a m s ≡ k
+  pub given : (k : ℕ) → followRefusal z B a m s ≡ k
       → Gives z B a m s (cond (eqb k 0) (Repairs (length (chainEntries s))) (Refused k))
       (cond (eqb k 0) (followedArray z B a s) (cond (eqb k 7) (zeroed (whole B) a (erasures m)) a))
   unfolding followOutcome followArray

@@ -1,89 +1,138 @@
+-- `follow::follow` meets its contract, at each of its seven ends.
+-- Assumes nothing.
+use mathlib.Core.Path.{_≡_, _∙_, sym}
+use mathlib.Core.Bool.{true}
 use borrow.Author.Needs.{needs}
+use borrow.Author.Tests.{not-true, not-false}
+use lib.ListN.{length}
+use Rattle.model.specs.Grid.{gridOf, mapFits}
+use Rattle.model.specs.Refusal.{refusal, arrayTests}
+use Rattle.model.specs.Repair.{erasures}
+use Rattle.model.specs.Rebuild.{rebuildRefusal}
+use Rattle.model.specs.Follow.{clears}
+use Rattle.model.proofs.Refusal.{array-fits}
+use Rattle.sheet.specs.Record.{records}
+use Rattle.follow.proofs.Answers.{Listed, array-refused, map-refused, sheet-refused, none-refused, broken, records-listed, own-98, count-few, steps-refused, peels, agreed, contradicted}
 use Rattle.follow.proofs.follow.Statement.{statement}
 use Rattle.follow.proofs.follow.Tie as tie
-use Rattle.follow.proofs.follow.Reads as reads
-use Rattle.follow.proofs.follow.Lts as lts
-use Rattle.layout.proofs.array_refusal.Reads as array-refusal-reads
-use Rattle.layout.proofs.map_fits.Reads as map-fits-reads
-use Rattle.peel.proofs.replay.clears.Reads as clears-reads
-use Rattle.restore.proofs.restore.Reads as restore-reads
-use Rattle.sheet.proofs.chain.straighten.Reads as straighten-reads
 
--- src/lib.rt:16:9
+-- The array, the map and the sheet's length have passed their tests.
+sized : (c : tie.Else1) → let a = c .before .before .before .before .before .args in
+    refusal (arrayTests (a .size) (a .block) (length (a .array .now))) ≡ 0
+sized c = sym (c .before .array-refusal .ensures) ∙ c .if1 .left
+
+mapped : (c : tie.Else2) → let a = c .before .before .before .before .before .before .before .args in
+    mapFits (a .size) (a .map .now) ≡ true
+mapped c = sym (c .before .map-fits .ensures) ∙ not-false _ (c .if2 .left)
+
+passed : (c : tie.Else3) → let a = c .before .before .before .before .before .before .before .before .args in
+    rebuildRefusal (a .size) (a .block) (a .array .now) (a .map .now) (a .sheet .now) ≡ 0
+passed c =
+    let s = c .before .before .before .before .before .before .before .before in
+    let a = s .args in
+    none-refused (a .size) (a .block) (a .array .now) (a .map .now) (a .sheet .now) (sized (c .before .before .before)) (mapped (c .before))
+    (c .if3 .left)
+
+-- The chain fits, and its records are listed in their order.
+listed : (c : tie.After-chain) → Listed (c .before .before .before .before .before .before .before .before .before .before .before .before .before .args .sheet .now) (c .before .before .before .straighten .last .1 .0) (c .chain .given .0 .0)
+listed c =
+    let straighten = c .before .before .before .straighten in
+    records-listed _ _ _ (straighten .ensures .0) (straighten .ensures .1) _ (c .chain .given .1)
+
+-- Every step is allowed, and nothing is left erased.
+cleared : (c : tie.Else4) → let chain = c .before .before .before .before in let a = chain .before .before .before .before .before .before .before .before .before .before .before .before .before .args in
+    clears (gridOf (a .size)) (erasures (a .map .now)) (records (chain .before .before .before .straighten .last .1 .0) (chain .chain .given .0 .0)) ≡ true
+cleared c = sym (c .before .clears .ensures) ∙ not-false _ (c .if4 .left)
+
 array-refusal-requires : tie.Need-array-refusal-requires
 array-refusal-requires c κs = search needs
 
--- src/lib.rt:18:9
 returns : tie.Need-returns
-returns c = ?
+returns c =
+    let a = c .before .before .before .before .before .args in
+    array-refused (a .size) (a .block) (a .array .now) (a .map .now) (a .sheet .now) _ (c .before .array-refusal .ensures) (c .if1 .taken)
 
--- src/lib.rt:20:9
 map-fits-requires : tie.Need-map-fits-requires
-map-fits-requires c κs = ?
+map-fits-requires c κs =
+    let a = c .before .before .before .before .before .args in
+    array-fits (a .size) (a .block) (length (a .array .now)) (sized c) .size
 
--- src/lib.rt:21:9
 returns-2 : tie.Need-returns-2
-returns-2 c = ?
+returns-2 c =
+    let a = c .before .before .before .before .before .before .before .args in
+    map-refused (a .size) (a .block) (a .array .now) (a .map .now) (a .sheet .now) (sized (c .before .before))
+    (sym (c .before .map-fits .ensures) ∙ not-true _ (c .if2 .taken))
 
--- src/lib.rt:24:9
 returns-3 : tie.Need-returns-3
-returns-3 c = ?
+returns-3 c =
+    let a = c .before .before .before .before .before .before .before .before .args in
+    sheet-refused (a .size) (a .block) (a .array .now) (a .map .now) (a .sheet .now) (sized (c .before .before .before)) (mapped (c .before))
+    (c .if3 .taken)
 
--- src/lib.rt:27:49
 slice-aggregate-straighten : tie.Need-slice-aggregate-straighten
 slice-aggregate-straighten c = search needs
 
--- src/lib.rt:27:9
 straighten-requires : tie.Need-straighten-requires
 straighten-requires c κs = search needs
 
--- src/lib.rt:28:24
 enum-known-chain : tie.Need-enum-known-chain
 enum-known-chain c = search needs
 
--- src/lib.rt:29:9
 enum-told : tie.Need-enum-told
 enum-told c = search needs
 
--- src/lib.rt:29:9
 returns-4 : tie.Need-returns-4
-returns-4 c = ?
+returns-4 c =
+    let s = c .before .before .before .before .before .before .before .before .before .before .before .before .before in
+    let a = s .args in
+    broken (a .size) (a .block) (a .array .now) (a .map .now) (a .sheet .now) (passed (c .before .before .before .before .before))
+    _ (c .before .before .before .straighten .ensures .0) (c .enum-told .given .1)
 
--- src/lib.rt:31:41
 slice-aggregate-clears : tie.Need-slice-aggregate-clears
 slice-aggregate-clears c = search needs
 
--- src/lib.rt:31:9
 clears-requires : tie.Need-clears-requires
-clears-requires c κs = ?
+clears-requires c κs =
+    let a = c .before .before .before .before .before .before .before .before .before .before .before .before .before .before .before .args in
+    let l = listed (c .before .before) in
+    (array-fits (a .size) (a .block) (length (a .array .now)) (sized (c .before .before .before .before .before .before .before .before .before .before)) .size, (mapped (c .before .before .before .before .before .before .before .before), (own-98 l, count-few l)))
 
--- src/lib.rt:32:9
 returns-5 : tie.Need-returns-5
-returns-5 c = ?
+returns-5 c =
+    let a = c .before .before .before .before .before .before .before .before .before .before .before .before .before .before .before .before .before .args in
+    steps-refused (listed (c .before .before .before .before)) (a .size) (a .block) (a .array .now) (a .map .now) (passed (c .before .before .before .before .before .before .before .before .before))
+    (sym (c .before .clears .ensures) ∙ not-true _ (c .if4 .taken))
 
--- src/lib.rt:34:51
 slice-aggregate-restore : tie.Need-slice-aggregate-restore
 slice-aggregate-restore c = search needs
 
--- src/lib.rt:34:9
 restore-requires : tie.Need-restore-requires
-restore-requires c κs = ?
+restore-requires c κs =
+    let a = c .before .before .before .before .before .before .before .before .before .before .before .before .before .before .before .before .before .before .before .args in
+    let l = listed (c .before .before .before .before .before .before) in (
+      sized (c .before .before .before .before .before .before .before .before .before .before .before .before .before .before),
+      (mapped (c .before .before .before .before .before .before .before .before .before .before .before .before), (own-98 l, (count-few l, peels l (a .size) (a .block) (a .array .now) (a .map .now) (passed (c .before .before .before .before .before .before .before .before .before .before .before)) (cleared (c .before .before))))),
+    )
 
--- src/lib.rt:35:9
 same-length : tie.Need-same-length
 same-length c = search needs
 
--- src/lib.rt:35:9
 returns-6 : tie.Need-returns-6
-returns-6 c = ?
+returns-6 c =
+    let a = c .before .before .before .before .before .before .before .before .before .before .before .before .before .before .before .before .before .before .before .before .before .before .before .args in
+    let restore = c .before .before .before .restore in
+    contradicted (listed (c .before .before .before .before .before .before .before .before .before .before)) (a .size) (a .block) (a .array .now) (a .map .now) (passed (c .before .before .before .before .before .before .before .before .before .before .before .before .before .before .before)) (cleared (c .before .before .before .before .before .before))
+    _ (restore .ensures .1) (sym (restore .ensures .0) ∙ not-true _ (c .if5 .taken))
 
--- src/lib.rt:10:1
 same-length-2 : tie.Need-same-length-2
 same-length-2 c = search needs
 
--- src/lib.rt:10:1
 returns-7 : tie.Need-returns-7
-returns-7 c = ?
+returns-7 c =
+    let a = c .before .before .before .before .before .before .before .before .before .before .before .before .before .before .before .before .before .before .before .before .before .before .before .args in
+    let restore = c .before .before .before .restore in
+    agreed (listed (c .before .before .before .before .before .before .before .before .before .before)) (a .size) (a .block) (a .array .now) (a .map .now) (passed (c .before .before .before .before .before .before .before .before .before .before .before .before .before .before .before)) (cleared (c .before .before .before .before .before .before))
+    _ (restore .ensures .1) (sym (restore .ensures .0) ∙ not-false _ (c .if5 .left))
 
 pub follow-spec : {M : Type 1} → statement M
 follow-spec =

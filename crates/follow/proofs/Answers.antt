@@ -1,0 +1,146 @@
+-- What follow answers and leaves of the array at each of its ends.
+-- Assumes nothing.
+use mathlib.Core.Path.{_≡_, refl, sym, _∙_, ap, ap₂, subst}
+use mathlib.Core.Bool.{Bool, true, false}
+use mathlib.Core.List.{List}
+use Prim.Native.Nat.{ℕ, _≤_}
+use native.Mathlib.Omega.{arith}
+use borrow.Author.Tests.{eq-eqb, ne-eqb}
+use lib.Dec.{eqb}
+use lib.ListN.{length}
+use Rattle.model.specs.Grid.{gridOf, mapFits}
+use Rattle.model.specs.Refusal.{refusal, arrayTests}
+use Rattle.model.specs.Repair.{erasures, Peels}
+use Rattle.model.specs.Sheet.{sheetOf}
+use Rattle.model.specs.Chain.{chainFits, chainEntries}
+use Rattle.model.specs.Rebuild.{sheetTests, rebuildTests, rebuildRefusal}
+use Rattle.model.specs.Follow.{clears, followedArray, followOutcome, followArray}
+use Rattle.model.specs.declared.Size.{Size}
+use Rattle.model.specs.declared.Outcome.{Outcome}
+use Rattle.model.specs.declared.Outcome.the-variants.{Repairs, Refused}
+use Rattle.model.proofs.Refusal.{no-tests, fails, passes, refused-first, array-fits, array-passed}
+use Rattle.model.proofs.Clears.{clears-peels}
+use Rattle.model.proofs.Chain.{chain-few}
+use Rattle.model.proofs.Sheets.{sheet-length}
+use Rattle.model.proofs.Follow.{Gives, given, follow-first, follow-order, follow-ten, follow-eleven}
+use Rattle.sheet.specs.Record.{records}
+use Rattle.sheet.specs.Found.{chainRead}
+use Rattle.sheet.specs.declared.chain.Chain.{Chain}
+use Rattle.sheet.specs.declared.chain.Chain.the-variants.{Records, Broken}
+use Rattle.sheet.proofs.Appended.{records-are}
+use Rattle.restore.specs.Restored.{fits, restored}
+
+-- What follow promises of its answer and of the array after it.
+abbrev pub Followed : Size → ℕ → (a m s : List ℕ) → Outcome → (b : List ℕ) → Type 0
+Followed z B a m s answer b = (answer ≡ followOutcome z B a m s) × (b ≡ followArray z B a m s)
+
+module _ (z : Size) (B : ℕ) (a m s : List ℕ) where
+  as-given : {answer : Outcome} {b : List ℕ} → Gives z B a m s answer b → Followed z B a m s answer b
+  as-given g = (sym (g .0), sym (g .1))
+
+  -- ---- refused by the tests that rebuild has too
+  early : (k : ℕ) → rebuildRefusal z B a m s ≡ k → (k ≡ 0 → ⊥) → Followed z B a m s (Refused k) a
+  early k e some =
+      subst (λ (k : ℕ). Followed z B a m s (Refused k) a) e (as-given (follow-first z B a m s (λ q. some (sym e ∙ q))))
+
+  pub array-refused : (status : ℕ) → status ≡ refusal (arrayTests z B (length a)) → (status ≡ 0 → ⊥)
+      → Followed z B a m s (Refused status) a
+  unfolding rebuildRefusal rebuildTests
+  array-refused status e some = early status (refused-first (arrayTests z B (length a)) _ (λ q. some (e ∙ q)) ∙ sym e) some
+
+  module _ (sized : refusal (arrayTests z B (length a)) ≡ 0) where
+    tests-left : rebuildRefusal z B a m s ≡ refusal (sheetTests z m (length s))
+    unfolding rebuildRefusal rebuildTests
+    tests-left = array-passed z B (length a) (array-fits z B (length a) sized) _
+
+    pub map-refused : mapFits z m ≡ false → Followed z B a m s (Refused 4) a
+    unfolding sheetTests
+    map-refused unfit = early 4 (tests-left ∙ fails 4 (mapFits z m) _ unfit) (λ q. omega arith)
+
+    module _ (mapped : mapFits z m ≡ true) where
+      pub sheet-refused : (length s ≡ 98 → ⊥) → Followed z B a m s (Refused 5) a
+      unfolding sheetTests
+      sheet-refused other =
+          early 5 (tests-left ∙ passes 4 (mapFits z m) _ mapped ∙ fails 5 (eqb (length s) 98) _ (ne-eqb (length s) 98 other)) (λ q. omega arith)
+
+      pub none-refused : length s ≡ 98 → rebuildRefusal z B a m s ≡ 0
+      unfolding sheetTests
+      none-refused long =
+          tests-left ∙ passes 4 (mapFits z m) _ mapped ∙ passes 5 (eqb (length s) 98) _ (eq-eqb (length s) 98 long) ∙ no-tests
+
+-- ---- the sheet
+
+-- Straightening has answered that the chain is broken.
+pub broken : (z : Size) (B : ℕ) (a m s : List ℕ) → rebuildRefusal z B a m s ≡ 0
+    → (answer : Chain) → answer ≡ chainRead s → answer ≡ Broken → Followed z B a m s (Refused 10) a
+unfolding chainRead
+broken z B a m s ok answer answer-is e = go (chainFits s) refl
+  where
+    go : (t : Bool) → chainFits s ≡ t → Followed z B a m s (Refused 10) a
+    go true q =
+        let found : answer ≡ Records (length (chainEntries s)) = answer-is ∙ rw q in
+        let clash : _≡_ {A = ℕ} 0 1 = cc in
+        absurd (omega arith)
+    go false q = as-given z B a m s (follow-ten z B a m s ok q)
+
+-- The chain fits: `own` lists its records in their order, `count` of them.
+pub record Listed (s own : List ℕ) (count : ℕ) : Type 0 where
+  pub chain : chainFits s ≡ true
+  pub counted : count ≡ length (chainEntries s)
+  pub written : own ≡ sheetOf 1 (chainEntries s)
+
+pub records-listed : (s own : List ℕ) (answer : Chain) → answer ≡ chainRead s
+    → (chainFits s ≡ true → own ≡ sheetOf 1 (chainEntries s)) → (count : ℕ) → answer ≡ Records count → Listed s own count
+unfolding chainRead
+records-listed s own answer answer-is own-is count e = go (chainFits s) refl
+  where
+    go : (t : Bool) → chainFits s ≡ t → Listed s own count
+    go true q =
+        let found : answer ≡ Records (length (chainEntries s)) = answer-is ∙ rw q in
+        record { chain = q; counted = cc; written = own-is q }
+    go false q =
+        let found : answer ≡ Broken = answer-is ∙ rw q in
+        let clash : _≡_ {A = ℕ} 0 1 = cc in
+        absurd (omega arith)
+
+module _ {s own : List ℕ} {count : ℕ} (listed : Listed s own count) where
+  pub own-98 : length own ≡ 98
+  own-98 = ap length (listed .written) ∙ sheet-length 1 (chainEntries s)
+
+  few : length (chainEntries s) ≤ 32
+  few = chain-few s (listed .chain)
+
+  pub count-few : count ≤ 32
+  count-few = let h = few in let e = listed .counted in omega arith
+
+  own-records : records own count ≡ chainEntries s
+  own-records = ap₂ records (listed .written) (listed .counted) ∙ records-are 1 (chainEntries s) few
+
+  -- ---- the steps, then the survivors
+  module _ (z : Size) (B : ℕ) (a m : List ℕ) (ok : rebuildRefusal z B a m s ≡ 0) where
+    pub steps-refused : clears (gridOf z) (erasures m) (records own count) ≡ false → Followed z B a m s (Refused 11) a
+    steps-refused unclear =
+        as-given z B a m s
+        (follow-eleven z B a m s ok (listed .chain) (ap (clears (gridOf z) (erasures m)) (sym own-records) ∙ unclear))
+
+    module _ (clear : clears (gridOf z) (erasures m) (records own count) ≡ true) where
+      pub peels : Peels (gridOf z) (erasures m) (records own count)
+      peels = clears-peels (gridOf z) (erasures m) (records own count) clear
+
+      usable : clears (gridOf z) (erasures m) (chainEntries s) ≡ true
+      usable = ap (clears (gridOf z) (erasures m)) (sym own-records) ∙ clear
+
+      module _ (b : List ℕ) (array-is : b ≡ restored z B a m (records own count)) where
+        pub agreed : fits z B a (records own count) ≡ true → Followed z B a m s (Repairs count) b
+        unfolding fits restored followedArray
+        agreed fit =
+            let c : fits z B a (chainEntries s) ≡ true = ap (fits z B a) (sym own-records) ∙ fit in
+            let g = as-given z B a m s (given z B a m s 0 (follow-order z B a m s ok ∙ rw (listed .chain, usable, c))) in
+            (ap Repairs (listed .counted) ∙ g .0, array-is ∙ ap (restored z B a m) own-records ∙ (rw c) ∙ g .1)
+
+        pub contradicted : fits z B a (records own count) ≡ false → Followed z B a m s (Refused 7) b
+        unfolding fits restored followedArray
+        contradicted unfit =
+            let c : fits z B a (chainEntries s) ≡ false = ap (fits z B a) (sym own-records) ∙ unfit in
+            let g = as-given z B a m s (given z B a m s 7 (follow-order z B a m s ok ∙ rw (listed .chain, usable, c))) in
+            (g .0, array-is ∙ ap (restored z B a m) own-records ∙ (rw c) ∙ g .1)
