@@ -67,6 +67,8 @@
  *                  its lowest-numbered disk. Each fatal loss has a cycle, and
  *                  no other loss has one.
  *   sheet          A list of repairs or a cycle, in 98 bytes: see below.
+ *   chain          The records of a sheet from the first on, each with the
+ *                  number of the next.
  *   status         [refusal number] What a call returns.
  *
  *
@@ -89,6 +91,12 @@
  * row 2. The second is a cycle from disk 0 along row 0 to disk 2, along column
  * 2 to disk 8, along row 2 to disk 6, and along column 0 back to disk 0.
  *
+ * raid2d_follow also takes lists of repairs from elsewhere. Their chain may
+ * visit the records in any order, and bytes off the chain are ignored. The
+ * first list once more, by records 3, 4 and 1, with record 2 off the chain:
+ *
+ *     disks 0, 2, 6 erased      1 3  6 2 0  9 9 9  2 18 4  0 0 1  0 0 0 ..
+ *
  *
  * CONVENTIONS
  *
@@ -106,9 +114,9 @@
  *
  * Statuses. 0 is success. Where several statuses apply, the first in the
  * call's list below is returned. A call that refuses leaves every buffer and
- * every out-parameter as it was, but for what the lists of raid2d_plan and
- * raid2d_rebuild say of RAID2D_FATAL and RAID2D_ERR_SURVIVORS. A status keeps
- * its number for good.
+ * every out-parameter as it was, but for what the lists of raid2d_plan,
+ * raid2d_rebuild and raid2d_follow say of RAID2D_FATAL and
+ * RAID2D_ERR_SURVIVORS. A status keeps its number for good.
  *
  * State. There is none: no memory is allocated, nothing is read or written
  * but what is lent. Calls may run at the same time unless one writes what
@@ -160,6 +168,8 @@ enum raid2d_status {
     RAID2D_ERR_SURVIVORS = 7,
     RAID2D_ERR_DISK = 8,
     RAID2D_ERR_DATA_LENGTH = 9,
+    RAID2D_ERR_CHAIN = 10,
+    RAID2D_ERR_REPAIRS = 11,
     RAID2D_NOT_SEALED = 64
 };
 
@@ -187,6 +197,10 @@ static inline const char *raid2d_strerror(uint32_t status)
         return "the disk is not a data disk";
     case RAID2D_ERR_DATA_LENGTH:
         return "the new block's length is not that of a block";
+    case RAID2D_ERR_CHAIN:
+        return "the sheet's kind is not 1, or its chain leads outside or back";
+    case RAID2D_ERR_REPAIRS:
+        return "a repair of the sheet is not allowed, or a disk is left over";
     case RAID2D_NOT_SEALED:
         return "the array is not sealed";
     default:
@@ -203,7 +217,8 @@ static inline const char *raid2d_strerror(uint32_t status)
  *         use(raid2d_sheet_disk(sheet, k), raid2d_sheet_stripe(sheet, k));
  *
  * They test nothing: the sheet has RAID2D_SHEET_BYTES bytes and the record a
- * number from 1 to RAID2D_SHEET_RECORDS.
+ * number from 1 to RAID2D_SHEET_RECORDS. The chain of a sheet from elsewhere
+ * may lead outside or never end; raid2d_follow takes no such sheet.
  */
 
 /* The kind: RAID2D_SHEET_REPAIRS or RAID2D_SHEET_CYCLE. */
@@ -458,6 +473,63 @@ uint32_t raid2d_rebuild(size_t n, size_t block,
                         const uint8_t *map, size_t map_len,
                         uint8_t *sheet, size_t sheet_len,
                         size_t *count);
+
+/*
+ * raid2d_follow: restore the blocks of all erased disks by a given list.
+ *
+ * Makes the repairs of a sheet in the order of its chain, whatever the erased
+ * blocks hold, and then checks all stripes. Any list will do in which each
+ * repair is allowed at its turn and after which no disk is erased: it need
+ * not be that of raid2d_plan, and its records may stand anywhere. The array
+ * is then what raid2d_rebuild makes of it. A fatal loss has no such list.
+ * The sheet is judged as a whole before any block is changed. The map is not
+ * cleared.
+ *
+ *   n          data disks along a side, RAID2D_SIDE_MIN to RAID2D_SIDE_MAX
+ *   block      bytes in a block, RAID2D_BLOCK_MIN to RAID2D_BLOCK_MAX
+ *   array      the blocks of all disks
+ *   array_len  its length, RAID2D_ARRAY_BYTES(n, block)
+ *   map        which disks are erased: every byte 0 or 1
+ *   map_len    its length, RAID2D_DISKS(n)
+ *   sheet      the repairs, each erased disk once
+ *   sheet_len  its length, RAID2D_SHEET_BYTES
+ *   count      receives the number of repairs, which is that of the erased
+ *              disks and at most 2n+1
+ *
+ * Reads       the map, the sheet, and the blocks of the disks that are not
+ *             erased.
+ * Writes      the blocks of the erased disks with RAID2D_OK and
+ *             RAID2D_ERR_SURVIVORS; *count with RAID2D_OK.
+ * Unchanged   the blocks of all other disks, the map and the sheet, always.
+ *
+ * Returns the first of these that applies:
+ *
+ *   RAID2D_ERR_SIDE          n is not 2 to 15; all unchanged
+ *   RAID2D_ERR_BLOCK         block is not 1 to 4096; all unchanged
+ *   RAID2D_ERR_ARRAY_LENGTH  array_len is wrong; all unchanged
+ *   RAID2D_ERR_MAP           map_len is wrong, or a byte of the map is neither
+ *                            0 nor 1; all unchanged
+ *   RAID2D_ERR_SHEET_LENGTH  sheet_len is not 98; all unchanged
+ *   RAID2D_ERR_CHAIN         the kind is not 1, the number of the first or of
+ *                            a next record is above 32, or a record is reached
+ *                            twice; all unchanged
+ *   RAID2D_ERR_REPAIRS       a repair is not allowed at its turn: its disk is
+ *                            not in the grid, is not erased or was repaired
+ *                            before, its stripe does not go through the disk,
+ *                            or another disk of the stripe is still erased; or
+ *                            a disk is still erased at the end; all unchanged
+ *   RAID2D_ERR_SURVIVORS     the survivors belong to no sealed array, also
+ *                            where no disk is erased; the blocks of the
+ *                            erased disks are zero, *count unchanged
+ *   RAID2D_OK                the blocks of the erased disks are restored;
+ *                            *count is the number of repairs: 0 where no disk
+ *                            is erased
+ */
+uint32_t raid2d_follow(size_t n, size_t block,
+                       uint8_t *array, size_t array_len,
+                       const uint8_t *map, size_t map_len,
+                       const uint8_t *sheet, size_t sheet_len,
+                       size_t *count);
 
 #ifdef __cplusplus
 }

@@ -12,7 +12,9 @@
 /* The largest array, as a static one. */
 static uint8_t largest[RAID2D_ARRAY_BYTES(RAID2D_SIDE_MAX, RAID2D_BLOCK_MAX)];
 
-static const uint32_t statuses[] = { 0, 1, 2, 3, 4, 5, 6, 7, 8, 9, 64 };
+static const uint32_t statuses[] = {
+    0, 1, 2, 3, 4, 5, 6, 7, 8, 9, 10, 11, 64
+};
 
 #define STATUSES (sizeof statuses / sizeof statuses[0])
 
@@ -43,13 +45,15 @@ static void numbers_of_statuses(void)
     expect(RAID2D_ERR_SURVIVORS == 7, "number of wrong survivors");
     expect(RAID2D_ERR_DISK == 8, "number of a wrong disk");
     expect(RAID2D_ERR_DATA_LENGTH == 9, "number of a wrong data length");
+    expect(RAID2D_ERR_CHAIN == 10, "number of a wrong chain");
+    expect(RAID2D_ERR_REPAIRS == 11, "number of wrong repairs");
     expect(RAID2D_NOT_SEALED == 64, "number of an array that is not sealed");
 }
 
 /* Each status has words of its own; all other numbers share theirs. */
 static void words_of_statuses(void)
 {
-    static const uint32_t others[] = { 10, 63, 65, 256, 0xffffffffu };
+    static const uint32_t others[] = { 12, 63, 65, 256, 0xffffffffu };
     const char *unknown = raid2d_strerror(others[0]);
     size_t i, j;
 
@@ -84,20 +88,23 @@ static void readers_of_places(void)
     expect(raid2d_sheet_next(sheet, 32) == 197, "next of record 32");
 }
 
-/* The header's two sheets, read as it says. */
+/* The header's three sheets, read as it says. */
 static void readers_of_sheets(void)
 {
-    static const uint8_t sheets[2][RAID2D_SHEET_BYTES] = {
+    static const uint8_t sheets[3][RAID2D_SHEET_BYTES] = {
         { 1, 1, 2, 18, 2, 0, 0, 3, 6, 2, 0 },
-        { 2, 1, 0, 0, 2, 2, 18, 3, 8, 2, 4, 6, 16, 0 }
+        { 2, 1, 0, 0, 2, 2, 18, 3, 8, 2, 4, 6, 16, 0 },
+        { 1, 3, 6, 2, 0, 9, 9, 9, 2, 18, 4, 0, 0, 1 }
     };
-    static const size_t records[2][4][2] = {
+    static const size_t counts[3] = { 3, 4, 3 };
+    static const size_t records[3][4][2] = {
         { { 2, 18 }, { 0, 0 }, { 6, 2 }, { 0, 0 } },
-        { { 0, 0 }, { 2, 18 }, { 8, 2 }, { 6, 16 } }
+        { { 0, 0 }, { 2, 18 }, { 8, 2 }, { 6, 16 } },
+        { { 2, 18 }, { 0, 0 }, { 6, 2 }, { 0, 0 } }
     };
     size_t s, k, count;
 
-    for (s = 0; s < 2; s++) {
+    for (s = 0; s < 3; s++) {
         const uint8_t *sheet = sheets[s];
 
         count = 0;
@@ -109,7 +116,7 @@ static void readers_of_sheets(void)
                    "stripe of record %u", (unsigned)k);
             count++;
         }
-        expect(count == 3 + s, "records of a sheet");
+        expect(count == counts[s], "records of a sheet");
     }
 }
 
