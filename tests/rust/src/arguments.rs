@@ -6,6 +6,7 @@ use crate::losses;
 use crate::model::disk_count;
 use crate::random::Random;
 use crate::sheet::SHEET;
+use crate::sheets;
 
 /// Buffers in these tests are no longer than this.
 const LONGEST: usize = 1 << 21;
@@ -102,4 +103,15 @@ pub fn spoil(random: &mut Random, map: &mut [u8], disk: usize) {
 pub fn sheet(random: &mut Random) -> Vec<u8> {
     let length = length(random, SHEET);
     random.bytes(length)
+}
+
+/// A list of repairs for the map, now and then with something wrong or of a wrong length.
+pub fn repairs(random: &mut Random, n: usize, map: &[u8]) -> Vec<u8> {
+    let steps = sheets::any_order(random, n, map);
+    let mut sheet = sheets::scattered(random, &steps);
+    if random.one_in(BAD) {
+        sheet = sheets::damaged(random, n, &sheet);
+    }
+    sheet.resize(length(random, SHEET), 0);
+    sheet
 }

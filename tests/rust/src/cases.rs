@@ -2,7 +2,7 @@
 //! paper.
 
 use crate::losses::map_of;
-use crate::model::{disk_count, FATAL};
+use crate::model::{disk_count, BROKEN, FATAL};
 use crate::outcome::Outcome;
 use crate::sheet::SHEET;
 use crate::{ffi, model, Run};
@@ -48,10 +48,15 @@ fn plan(run: &mut Run, case: &str, map: &[u8], status: usize, count: usize, begi
     stated(run, &format!("{case}, plan"), expected, || ffi::plan(2, map, &OLD), model);
 }
 
-/// The same of rebuild, with 99 on the marked cards.
+/// The array with 99 on the marked cards.
+fn lost(mut array: [u8; 9], map: &[u8]) -> [u8; 9] {
+    (0..9).filter(|&card| map[card] == 1).for_each(|card| array[card] = 99);
+    array
+}
+
+/// The same of rebuild.
 fn rebuild(run: &mut Run, case: &str, array: [u8; 9], map: &[u8], expected: Outcome) {
-    let mut lost = array;
-    (0..9).filter(|&card| map[card] == 1).for_each(|card| lost[card] = 99);
+    let lost = lost(array, map);
     let mut model = model::rebuild(2, 1, &lost, map, &OLD);
     if expected.answer == FATAL {
         model.written[1] = expected.written[1].clone();
@@ -59,20 +64,28 @@ fn rebuild(run: &mut Run, case: &str, array: [u8; 9], map: &[u8], expected: Outc
     stated(run, &format!("{case}, rebuild"), expected, || ffi::rebuild(2, 1, &lost, map, &OLD), model);
 }
 
+/// The same of follow on plan's sheet: the loop of a fatal loss is refused by 10, and otherwise it does as rebuild.
+fn follow(run: &mut Run, case: &str, array: [u8; 9], map: &[u8], begins: &[u8], expected: Outcome) {
+    let (lost, sheet) = (lost(array, map), sheet(begins));
+    let model = model::follow(2, 1, &lost, map, &sheet);
+    stated(run, &format!("{case}, follow"), expected, || ffi::follow(2, 1, &lost, map, &sheet), model);
+}
+
 fn restored(run: &mut Run, case: &str, marked: &[usize], begins: &[u8]) {
     let (map, count) = (map_of(2, marked), marked.len());
     plan(run, case, &map, 0, count, begins);
     let written = vec![A.to_vec(), sheet(begins)];
     rebuild(run, case, A, &map, Outcome { answer: 0, out: Some(count), written });
+    follow(run, case, A, &map, begins, Outcome { answer: 0, out: Some(count), written: vec![A.to_vec()] });
 }
 
 fn fatal(run: &mut Run, case: &str, marked: &[usize], begins: &[u8]) {
     let (map, count) = (map_of(2, marked), marked.len());
-    let mut kept = A;
-    marked.iter().for_each(|&card| kept[card] = 99);
+    let kept = lost(A, &map).to_vec();
     plan(run, case, &map, FATAL, count, begins);
-    let written = vec![kept.to_vec(), sheet(begins)];
+    let written = vec![kept.clone(), sheet(begins)];
     rebuild(run, case, A, &map, Outcome { answer: FATAL, out: Some(count), written });
+    follow(run, case, A, &map, begins, Outcome::writing(BROKEN, kept));
 }
 
 /// Cases 2 to 8. The paper gives no sheets for 5 and 7: there is one loop in 5, and 7 follows plan's order by hand.
@@ -87,14 +100,19 @@ fn losses(run: &mut Run) {
     (contradictory[8], zeroed[8], zeroed[0]) = (14, 14, 0);
     let written = vec![zeroed.to_vec(), sheet(&[])];
     rebuild(run, "8", contradictory, &map_of(2, &[0]), Outcome { answer: 7, out: None, written });
+    let zeroed = Outcome::writing(7, zeroed.to_vec());
+    follow(run, "8", contradictory, &map_of(2, &[0]), &[1, 1, 0, 0, 0], zeroed);
 }
 
-/// Cases 10 and 11 for plan and rebuild: sizes, a map byte of 2.
+/// Cases 10 and 11 for plan, rebuild and follow: sizes, a map byte of 2.
 fn refused(run: &mut Run, case: &str, n: usize, block: usize, map: &[u8], status: usize) {
     let array = vec![7; map.len() * block];
     let expected = Outcome { answer: status, out: None, written: vec![array.clone(), OLD.to_vec()] };
     let model = model::rebuild(n, block, &array, map, &OLD);
     stated(run, &format!("{case}, rebuild"), expected, || ffi::rebuild(n, block, &array, map, &OLD), model);
+    let expected = Outcome::writing(status, array.clone());
+    let model = model::follow(n, block, &array, map, &OLD);
+    stated(run, &format!("{case}, follow"), expected, || ffi::follow(n, block, &array, map, &OLD), model);
     if status != 2 {
         let expected = Outcome { answer: status, out: None, written: vec![OLD.to_vec()] };
         let model = model::plan(n, map, &OLD);

@@ -3,7 +3,7 @@
 use crate::inputs::{sealed_array, Size, SIDE_MAX};
 use crate::model::disk_count;
 use crate::sheet::SHEET;
-use crate::{losses, plan, rebuild, Run};
+use crate::{follow, losses, plan, rebuild, Run};
 
 /// Random losses of four disks at the largest n, and of other numbers.
 const FOURS: usize = 20_000;
@@ -13,9 +13,10 @@ fn loss(run: &mut Run, size: Size, sealed: &[u8], map: &[u8]) {
     let sheet = run.random.bytes(SHEET);
     plan::compare(&mut run.tally, size.n, map, &sheet);
     rebuild::sealed_and_damaged(run, size, sealed, map);
+    follow::sealed_and_damaged(run, size, sealed, map);
 }
 
-/// Every map of a grid for plan, and one in so many for rebuild too, on arrays that change now and then.
+/// Every map of a grid for plan, and one in so many for rebuild and follow too, on arrays that change now and then.
 fn all_maps(run: &mut Run, n: usize, rebuilt: usize) {
     let disks = disk_count(n);
     let mut size = Size { n, block: 1 };
@@ -32,7 +33,7 @@ fn all_maps(run: &mut Run, n: usize, rebuilt: usize) {
             plan::compare(&mut run.tally, n, &map, &[0; SHEET]);
         }
     }
-    run.tally.report(&format!("all maps, n {n}"), &[0, 6, 7]);
+    run.tally.report(&format!("all maps, n {n}"), &[0, 6, 7, 10, 11]);
 }
 
 /// All losses of three disks at the largest n: none is fatal.
@@ -66,12 +67,12 @@ fn random_losses(run: &mut Run, rounds: usize) {
         };
         loss(run, size, &sealed, &losses::map_of(size.n, &disks));
     }
-    run.tally.report("losses of four disks, n 15", &[0, 6, 7]);
+    run.tally.report("losses of four disks, n 15", &[0, 6, 7, 10, 11]);
     for turn in 0..rounds * OTHERS {
         let map = losses::map(&mut run.random, size.n, turn % losses::KINDS);
         loss(run, size, &sealed, &map);
     }
-    run.tally.report("random losses, n 15", &[0, 6, 7]);
+    run.tally.report("random losses, n 15", &[0, 6, 7, 10, 11]);
 }
 
 /// All maps of n = 4 are 33 million: they are part of a long run only.

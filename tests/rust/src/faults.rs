@@ -1,16 +1,16 @@
-//! Every refusal of plan and rebuild alone, every pair of them, and every larger set: of those that apply, the first in
-//! the paper's list is due.
+//! Every refusal of plan, rebuild and follow alone, every pair of them, and every larger set: of those that apply, the
+//! first in the paper's list is due.
 
 use crate::inputs::{sealed_array, Size, SIDE_MAX};
 use crate::model::disk_at;
 use crate::random::Random;
-use crate::sheet::SHEET;
-use crate::{arguments, losses, plan, rebuild, Run};
+use crate::sheet::place_of;
+use crate::{arguments, follow, losses, plan, rebuild, sheets, Run};
 
 /// How often each set of faults is tried, each time with other values.
-const TURNS: usize = 40;
+const TURNS: usize = 10;
 
-/// The arguments of rebuild; those of plan are among them.
+/// The arguments of rebuild and follow; those of plan are among them.
 struct Arguments {
     n: usize,
     block: usize,
@@ -19,13 +19,14 @@ struct Arguments {
     sheet: Vec<u8>,
 }
 
-/// A call with nothing wrong: a sealed array that has lost one of its row parities.
+/// A call with nothing wrong: a sealed array that has lost one of its row parities, and a sheet with the repair.
 fn faultless(random: &mut Random) -> Arguments {
     let size = Size { n: random.between(2, SIDE_MAX), block: random.between(1, 20) };
     let map = losses::map_of(size.n, &[disk_at(size.n, random.below(size.n), size.n)]);
     let mut array = sealed_array(random, size);
     losses::forget(random, size, &mut array, &map);
-    Arguments { n: size.n, block: size.block, array, map, sheet: random.bytes(SHEET) }
+    let steps = sheets::any_order(random, size.n, &map);
+    Arguments { n: size.n, block: size.block, array, map, sheet: sheets::scattered(random, &steps) }
 }
 
 /// One byte more or less, or another wrong length.
@@ -38,7 +39,7 @@ fn resize(random: &mut Random, bytes: &mut Vec<u8>) {
 }
 
 /// What can be wrong, those of the contents first: they need the lengths to be right.
-const FAULTS: [fn(&mut Random, &mut Arguments); 8] = [
+const FAULTS: [fn(&mut Random, &mut Arguments); 10] = [
     // 7: a data disk is changed. Its column then contradicts it.
     |random, a| {
         let disk = disk_at(a.n, random.below(a.n), random.below(a.n));
@@ -46,6 +47,21 @@ const FAULTS: [fn(&mut Random, &mut Arguments); 8] = [
     },
     // 6: the corners of a rectangle are lost.
     |random, a| losses::ring(random, a.n, 2, 0).iter().for_each(|&disk| a.map[disk] = 1),
+    // 11: another disk, a stripe that does not go through the disk, or no repair at all.
+    |random, a| {
+        let at = place_of(a.sheet[1] as usize);
+        match random.below(3) {
+            0 => a.sheet[at] ^= 1,
+            1 => a.sheet[at + 1] += 1,
+            _ => a.sheet[1] = 0,
+        }
+    },
+    // 10: another kind, a number that no record has, or a record that leads to itself.
+    |random, a| match random.below(3) {
+        0 => a.sheet[0] = random.pick(&[0, 2, 3, 255]),
+        1 => a.sheet[1] = random.between(33, 255) as u8,
+        _ => (a.sheet[1], a.sheet[place_of(1) + 2]) = (1, 1),
+    },
     // 4, by a byte and by the length.
     |random, a| arguments::spoil(random, &mut a.map, 0),
     |random, a| resize(random, &mut a.map),
@@ -70,7 +86,8 @@ pub fn run(run: &mut Run) {
             }
             plan::compare(&mut run.tally, a.n, &a.map, &a.sheet);
             rebuild::compare(&mut run.tally, a.n, a.block, &a.array, &a.map, &a.sheet);
+            follow::compare(&mut run.tally, a.n, a.block, &a.array, &a.map, &a.sheet);
         }
     }
-    run.tally.report("every set of refusals", &[0, 1, 2, 3, 4, 5, 6, 7]);
+    run.tally.report("every set of refusals", &[0, 1, 2, 3, 4, 5, 6, 7, 10, 11]);
 }

@@ -19,6 +19,9 @@ extern "C" {
     pub fn raid2d_rebuild(n: usize, block: usize, array: *mut u8, array_len: usize,
                           map: *const u8, map_len: usize, sheet: *mut u8, sheet_len: usize,
                           count: *mut usize) -> u32;
+    pub fn raid2d_follow(n: usize, block: usize, array: *mut u8, array_len: usize,
+                         map: *const u8, map_len: usize, sheet: *const u8, sheet_len: usize,
+                         count: *mut usize) -> u32;
 }
 
 pub fn seal(n: usize, block: usize, array: &[u8]) -> Result<Outcome, String> {
@@ -77,4 +80,19 @@ pub fn rebuild(n: usize, block: usize, array: &[u8], map: &[u8], sheet: &[u8]) -
     map.only_read()?;
     let written = vec![array.written()?, sheet.written()?];
     Ok(Outcome { answer: status as usize, out: count.value()?, written })
+}
+
+pub fn follow(n: usize, block: usize, array: &[u8], map: &[u8], sheet: &[u8]) -> Result<Outcome, String> {
+    let mut array = Lent::new("array", array);
+    let mut map = Lent::new("map", map);
+    let mut sheet = Lent::new("sheet", sheet);
+    let mut count = Out::new();
+    let (array_at, array_len) = (array.pointer(), array.len());
+    let (map_at, map_len) = (map.pointer(), map.len());
+    let (sheet_at, sheet_len) = (sheet.pointer(), sheet.len());
+    let status =
+        unsafe { raid2d_follow(n, block, array_at, array_len, map_at, map_len, sheet_at, sheet_len, count.pointer()) };
+    map.only_read()?;
+    sheet.only_read()?;
+    Ok(Outcome { answer: status as usize, out: count.value()?, written: vec![array.written()?] })
 }

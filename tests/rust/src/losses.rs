@@ -1,4 +1,4 @@
-//! Maps to try plan and rebuild on, and what a lost array holds.
+//! Maps to try plan, rebuild and follow on, and what a lost array holds.
 
 use crate::equations::Equations;
 use crate::inputs::{place, Size};
@@ -13,7 +13,7 @@ pub fn map_of(n: usize, disks: &[usize]) -> Vec<u8> {
 }
 
 /// The numbers below a bound in random order.
-fn shuffled(random: &mut Random, bound: usize) -> Vec<usize> {
+pub fn shuffled(random: &mut Random, bound: usize) -> Vec<usize> {
     let mut numbers: Vec<usize> = (0..bound).collect();
     for i in (1..bound).rev() {
         numbers.swap(i, random.below(i + 1));

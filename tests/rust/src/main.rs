@@ -11,6 +11,7 @@ mod equations;
 mod exhaustive;
 mod faults;
 mod ffi;
+mod follow;
 mod guard;
 mod huge;
 mod inputs;
@@ -23,6 +24,8 @@ mod random;
 mod rebuild;
 mod seal;
 mod sheet;
+mod sheets;
+mod steps;
 mod tally;
 mod write;
 
@@ -51,7 +54,7 @@ struct Call {
     answers: &'static [usize],
 }
 
-const CALLS: [Call; 6] = [
+const CALLS: [Call; 7] = [
     Call { name: "seal", contents: seal::contents, refusals: seal::refusals, draws: 30_000, answers: &[0, 1, 2, 3] },
     Call {
         name: "check",
@@ -82,6 +85,13 @@ const CALLS: [Call; 6] = [
         refusals: rebuild::refusals,
         draws: 60_000,
         answers: &[0, 1, 2, 3, 4, 5, 6, 7],
+    },
+    Call {
+        name: "follow",
+        contents: follow::contents,
+        refusals: follow::refusals,
+        draws: 60_000,
+        answers: &[0, 1, 2, 3, 4, 5, 7, 10, 11],
     },
 ];
 
@@ -116,12 +126,13 @@ fn main() -> ExitCode {
     println!("seed {seed}, rounds {rounds}");
     let mut run = Run { random: Random::new(seed), tally: Tally::new(is_set("RAID2D_TRACE")) };
     cases::run(&mut run);
-    run.tally.report("paper's cases", &[0, 1, 2, 4, 6, 7, 8]);
+    run.tally.report("paper's cases", &[0, 1, 2, 4, 6, 7, 8, 10]);
     huge::run(&mut run);
     for call in &CALLS {
         run.compare(call, rounds);
     }
     faults::run(&mut run);
+    steps::run(&mut run);
     exhaustive::run(&mut run, rounds);
     if run.tally.finish() {
         ExitCode::SUCCESS

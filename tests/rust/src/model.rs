@@ -13,6 +13,10 @@ const SUCCESS: usize = 0;
 pub const FATAL: usize = 6;
 /// The status of survivors that belong to no sealed array.
 const CONTRADICTORY: usize = 7;
+/// The status of a sheet that is not a chain of repairs.
+pub const BROKEN: usize = 10;
+/// The status of repairs that are not allowed or leave a disk erased.
+pub const NOT_ALLOWED: usize = 11;
 /// What check answers for an array that is not sealed. Paper 01 gives no number; the C interface does.
 const NOT_SEALED: usize = 64;
 /// Column c is stripe 16 + c.
@@ -180,6 +184,19 @@ fn map_refusal(n: usize, map: &[u8], sheet: &[u8]) -> usize {
     SUCCESS
 }
 
+/// Refusals 1 to 5, with which rebuild and follow begin.
+fn restore_refusal(n: usize, block: usize, array: &[u8], map: &[u8], sheet: &[u8]) -> usize {
+    match array_refusal(n, block, array) {
+        SUCCESS => map_refusal(n, map, sheet),
+        refusal => refusal,
+    }
+}
+
+/// The erased disks in rising order.
+pub fn erased_disks(map: &[u8]) -> Vec<usize> {
+    (0..map.len()).filter(|&disk| map[disk] == 1).collect()
+}
+
 /// A loss: the stripe equations say whether it is fatal, plan's order how it is repaired.
 struct Loss {
     fatal: bool,
@@ -191,7 +208,7 @@ struct Loss {
 
 impl Loss {
     fn new(n: usize, map: &[u8]) -> Loss {
-        let erased: Vec<usize> = (0..map.len()).filter(|&disk| map[disk] == 1).collect();
+        let erased = erased_disks(map);
         let mut equations = Equations::new(n);
         let independent = erased.iter().filter(|&&disk| equations.add(disk)).count();
         let fatal = independent < erased.len();
@@ -229,10 +246,7 @@ fn with_erased(block: usize, array: &[u8], map: &[u8], erased: &[u8]) -> Vec<u8>
 
 /// The sealed array to which the survivors belong. With 7 the erased blocks and the whole sheet are zero.
 pub fn rebuild(n: usize, block: usize, array: &[u8], map: &[u8], sheet: &[u8]) -> Outcome {
-    let mut refusal = array_refusal(n, block, array);
-    if refusal == SUCCESS {
-        refusal = map_refusal(n, map, sheet);
-    }
+    let refusal = restore_refusal(n, block, array, map, sheet);
     if refusal != SUCCESS {
         return Outcome { answer: refusal, out: None, written: vec![array.to_vec(), sheet.to_vec()] };
     }
@@ -250,4 +264,34 @@ pub fn rebuild(n: usize, block: usize, array: &[u8], map: &[u8], sheet: &[u8]) -
             Outcome { answer: CONTRADICTORY, out: None, written: vec![zeroed, vec![0; sheet::SHEET]] }
         }
     }
+}
+
+/// Sets the block of a disk to the sum of the other disks of a stripe.
+fn repair(n: usize, block: usize, array: &mut [u8], disk: usize, stripe: usize) {
+    let mut others =
+        if stripe < FIRST_COLUMN { row(n, stripe, n + 1) } else { column(n, stripe - FIRST_COLUMN, n + 1) };
+    others.retain(|&other| other != disk);
+    let bytes = sum(array, block, &others);
+    set_block(array, block, disk, &bytes);
+}
+
+/// The repairs of a sheet made one after another. With 7 the erased blocks are zero.
+pub fn follow(n: usize, block: usize, array: &[u8], map: &[u8], sheet: &[u8]) -> Outcome {
+    let refused = |status: usize| Outcome::writing(status, array.to_vec());
+    let refusal = restore_refusal(n, block, array, map, sheet);
+    if refusal != SUCCESS {
+        return refused(refusal);
+    }
+    let Some(steps) = sheet::chain(sheet) else {
+        return refused(BROKEN);
+    };
+    if !sheet::clears(n, &erased_disks(map), &steps) {
+        return refused(NOT_ALLOWED);
+    }
+    let mut restored = array.to_vec();
+    steps.iter().for_each(|&(disk, stripe)| repair(n, block, &mut restored, disk, stripe));
+    if lowest_unsealed(n, block, &restored).is_some() {
+        return Outcome::writing(CONTRADICTORY, with_erased(block, array, map, &vec![0; array.len()]));
+    }
+    Outcome { answer: SUCCESS, out: Some(steps.len()), written: vec![restored] }
 }

@@ -1,10 +1,14 @@
-//! Sheets by paper 01: repairs in plan's order, and the rule for a loop.
+//! Sheets by paper 01: repairs in plan's order, the chain of a sheet from elsewhere and the rule for its steps, and the
+//! rule for a loop.
 
-use crate::equations::stripes_through;
+use crate::equations::{stripes_through, STRIPES};
+use std::collections::HashSet;
 
 pub const SHEET: usize = 98;
+/// Records are numbered from 1 to this.
+pub const RECORDS: usize = 32;
 
-const REPAIRS: u8 = 1;
+pub const REPAIRS: u8 = 1;
 const LOOP: u8 = 2;
 
 /// Stands for every sheet that holds a loop by the paper's rule: which loop is shown is free.
@@ -21,22 +25,28 @@ fn count_on(n: usize, disks: &[usize], stripe: usize) -> usize {
     disks.iter().filter(|&&disk| lies_on(n, disk, stripe)).count()
 }
 
-/// The lowest-numbered disk that can be repaired, by its row if that is allowed, else by its column. A stripe is allowed
-/// if no other disk on it is still erased.
-fn next_repair(n: usize, erased: &[usize]) -> Option<Record> {
-    let allowed = |&stripe: &usize| count_on(n, erased, stripe) == 1;
-    erased.iter().find_map(|&disk| stripes_through(n, disk).into_iter().find(allowed).map(|stripe| (disk, stripe)))
+/// The repairs that are allowed while these disks are erased, disk by disk, by its row and then by its column. A stripe is
+/// allowed if no other disk on it is still erased.
+pub fn allowed(n: usize, erased: &[usize]) -> impl Iterator<Item = Record> + '_ {
+    let mut on = [0; STRIPES];
+    erased.iter().flat_map(|&disk| stripes_through(n, disk)).for_each(|stripe| on[stripe] += 1);
+    let repairs = erased.iter().flat_map(move |&disk| stripes_through(n, disk).map(|stripe| (disk, stripe)));
+    repairs.filter(move |&(_, stripe)| on[stripe] == 1)
 }
 
-/// Plan's order, step by step: the repairs, and the disks that remain. The erased disks are given in rising order.
+/// Plan's order, step by step: the repairs, and the disks that remain. The erased disks are given in rising order, so that
+/// the first repair that is allowed is that of the lowest-numbered disk, by its row if that is allowed.
 pub fn plans_order(n: usize, erased: &[usize]) -> (Vec<Record>, Vec<usize>) {
     let mut left = erased.to_vec();
     let mut repairs = Vec::new();
-    while let Some((disk, stripe)) = next_repair(n, &left) {
+    loop {
+        let next = allowed(n, &left).next();
+        let Some((disk, stripe)) = next else {
+            return (repairs, left);
+        };
         repairs.push((disk, stripe));
         left.retain(|&other| other != disk);
     }
-    (repairs, left)
 }
 
 /// A repair sheet: records 1, 2, 3 in chain order and zeros elsewhere.
@@ -50,6 +60,44 @@ pub fn of_repairs(repairs: &[Record]) -> Vec<u8> {
         sheet[3 + 3 * i] = stripe as u8;
     }
     sheet
+}
+
+/// Where a record begins, by its number.
+pub fn place_of(record: usize) -> usize {
+    2 + 3 * (record - 1)
+}
+
+/// The records that the chain of a repair sheet visits, in its order. None where the kind is not 1, a first or next
+/// number exceeds 32, or a record is reached twice.
+pub fn chain(sheet: &[u8]) -> Option<Vec<Record>> {
+    if sheet[0] != REPAIRS {
+        return None;
+    }
+    let mut reached = HashSet::new();
+    let mut records = Vec::new();
+    let mut number = sheet[1] as usize;
+    while number != 0 {
+        if number > RECORDS || !reached.insert(number) {
+            return None;
+        }
+        let at = place_of(number);
+        records.push((sheet[at] as usize, sheet[at + 1] as usize));
+        number = sheet[at + 2] as usize;
+    }
+    Some(records)
+}
+
+/// Whether every step is an allowed repair at its turn, and no disk remains erased at the end. A repair is allowed if its
+/// disk is still erased, its stripe goes through the disk, and no other disk on the stripe is still erased.
+pub fn clears(n: usize, erased: &[usize], steps: &[Record]) -> bool {
+    let mut left = erased.to_vec();
+    for &(disk, stripe) in steps {
+        if !left.contains(&disk) || !lies_on(n, disk, stripe) || count_on(n, &left, stripe) != 1 {
+            return false;
+        }
+        left.retain(|&other| other != disk);
+    }
+    left.is_empty()
 }
 
 /// The records 1, 2, 3 of a chain, with zeros behind them.

@@ -1,0 +1,76 @@
+//! Follow: the repairs of a sheet from elsewhere are made, or the sheet is refused before any block is changed.
+
+use crate::inputs::{sealed_array, Size};
+use crate::model::{BROKEN, FATAL, NOT_ALLOWED};
+use crate::outcome::Outcome;
+use crate::sheet::SHEET;
+use crate::tally::{show, Tally};
+use crate::{arguments, ffi, losses, model, sheets, Run};
+
+fn words(n: usize, block: usize, array: &[u8], map: &[u8], sheet: &[u8]) -> String {
+    let (array, map, sheet) = (show(array), show(map), show(sheet));
+    format!("follow, n {n}, block {block}, map {map}, sheet {sheet}, array {array}")
+}
+
+pub fn compare(tally: &mut Tally, n: usize, block: usize, array: &[u8], map: &[u8], sheet: &[u8]) {
+    let expected = model::follow(n, block, array, map, sheet);
+    let call = || ffi::follow(n, block, array, map, sheet);
+    tally.compare(|| words(n, block, array, map, sheet), &expected, call);
+}
+
+/// What follow must do if it is to leave the array as rebuild does: the model finds that without any sheet. A sheet for a
+/// fatal loss gets the status given.
+fn as_rebuild(rebuilt: &Outcome, fatal: usize) -> Outcome {
+    let array = rebuilt.written[0].clone();
+    if rebuilt.answer == FATAL {
+        return Outcome::writing(fatal, array);
+    }
+    Outcome { answer: rebuilt.answer, out: rebuilt.out, written: vec![array] }
+}
+
+/// Plan's own sheet, whose loop for a fatal loss is no list of repairs; then any allowed order with its records anywhere,
+/// judged by its steps too; then the same with something wrong.
+fn several_sheets(run: &mut Run, size: Size, array: &[u8], map: &[u8]) {
+    let (n, block) = (size.n, size.block);
+    let rebuilt = model::rebuild(n, block, array, map, &[0; SHEET]);
+    let input = || words(n, block, array, map, b"plan's");
+    run.tally.compare(input, &as_rebuild(&rebuilt, BROKEN), || {
+        let planned = ffi::plan(n, map, &[0; SHEET])?.written.remove(0);
+        ffi::follow(n, block, array, map, &planned)
+    });
+    let steps = sheets::any_order(&mut run.random, n, map);
+    let sheet = sheets::scattered(&mut run.random, &steps);
+    let input = || words(n, block, array, map, &sheet);
+    run.tally.compare(input, &as_rebuild(&rebuilt, NOT_ALLOWED), || ffi::follow(n, block, array, map, &sheet));
+    compare(&mut run.tally, n, block, array, map, &sheet);
+    let damaged = sheets::damaged(&mut run.random, n, &sheet);
+    compare(&mut run.tally, n, block, array, map, &damaged);
+}
+
+/// A sealed array that has lost the disks of the map, then the same with damages.
+pub fn sealed_and_damaged(run: &mut Run, size: Size, sealed: &[u8], map: &[u8]) {
+    let mut array = sealed.to_vec();
+    losses::forget(&mut run.random, size, &mut array, map);
+    several_sheets(run, size, &array, map);
+    losses::damage(&mut run.random, size, &mut array);
+    several_sheets(run, size, &array, map);
+}
+
+pub fn contents(run: &mut Run, size: Size) {
+    let sealed = sealed_array(&mut run.random, size);
+    for kind in 0..losses::KINDS {
+        let map = losses::map(&mut run.random, size.n, kind);
+        sealed_and_damaged(run, size, &sealed, &map);
+    }
+}
+
+/// Arguments good and bad. Most of the arrays that fit are sealed first, so that each answer is met.
+pub fn refusals(run: &mut Run) {
+    let mut drawn = arguments::array(&mut run.random);
+    if !run.random.one_in(4) {
+        drawn.bytes = model::seal(drawn.n, drawn.block, &drawn.bytes).written.remove(0);
+    }
+    let map = arguments::map(&mut run.random, drawn.made_for.n);
+    let sheet = arguments::repairs(&mut run.random, drawn.made_for.n, &map);
+    compare(&mut run.tally, drawn.n, drawn.block, &drawn.bytes, &map, &sheet);
+}
