@@ -1,6 +1,7 @@
 /*
- * What plan and rebuild make of a loss, and the bytes they leave: the order's
- * cases with their exact bytes, and losses of known shapes at every size.
+ * What plan and rebuild make of a loss, and follow of plan's sheet, and the
+ * bytes they leave: the order's cases with their exact bytes, and losses of
+ * known shapes at every size.
  */
 #include <string.h>
 
@@ -104,12 +105,11 @@ static size_t expect_repairs(struct call *c)
     return count;
 }
 
-/* With 7 the erased blocks and the whole sheet are zero. */
-static void expect_zeros(struct call *c)
+/* With 7 the erased blocks are zero. */
+static void expect_zero_blocks(struct call *c)
 {
     size_t disk;
 
-    memset(c->sheet.expected, 0, c->sheet.len);
     for (disk = 0; disk < c->map.len; disk++)
         if (c->map.bytes[disk])
             memset(c->array.expected + disk * c->block, 0, c->block);
@@ -128,32 +128,53 @@ static void expect_plan(const struct call *c, size_t status, size_t count,
     end_call(&plan);
 }
 
-/* Plan and rebuild make these repairs, and the array is as expected. */
+/* Follow on the sheet expected of the call answers this, with the array
+   expected of the call, and the sheet keeps its bytes. */
+static void expect_follow(const struct call *c, size_t status, size_t count,
+                          const char *what)
+{
+    struct call follow = fitting_call(FOLLOW, c->n, c->block);
+
+    memcpy(follow.array.bytes, c->array.bytes, follow.array.len);
+    memcpy(follow.map.bytes, c->map.bytes, follow.map.len);
+    memcpy(follow.sheet.bytes, c->sheet.expected, follow.sheet.len);
+    expect_as_now(&follow);
+    memcpy(follow.array.expected, c->array.expected, follow.array.len);
+    expect_run(&follow, status, count, what);
+    end_call(&follow);
+}
+
+/* Plan, rebuild and follow make these repairs, and the array is as expected. */
 static void expect_restored(struct call *c, size_t repairs, const char *what)
 {
     size_t count = expect_repairs(c);
 
     expect(count == repairs, "%s: %zu repairs for %zu", what, count, repairs);
     expect_plan(c, 0, repairs, what);
+    expect_follow(c, 0, repairs, what);
     expect_run(c, 0, repairs, what);
 }
 
 /* Plan and rebuild call the loss fatal with the sheet expected of the call,
-   and the array keeps its bytes. */
+   which is no list of repairs to follow. The array keeps its bytes. */
 static void expect_fatal(struct call *c, size_t lost, const char *what)
 {
     memcpy(c->array.expected, c->array.bytes, c->array.len);
     expect_plan(c, 6, lost, what);
+    expect_follow(c, 10, OUT_BEFORE, what);
     expect_run(c, 6, lost, what);
 }
 
-/* Rebuild finds that the survivors belong to no sealed array. */
+/* Rebuild and follow find that the survivors belong to no sealed array. With
+   7 of rebuild the whole sheet is zero too. */
 static void expect_contradiction(struct call *c, const char *what)
 {
     size_t repairs = expect_repairs(c);
 
     expect_plan(c, 0, repairs, what);
-    expect_zeros(c);
+    expect_zero_blocks(c);
+    expect_follow(c, 7, OUT_BEFORE, what);
+    memset(c->sheet.expected, 0, c->sheet.len);
     expect_run(c, 7, OUT_BEFORE, what);
 }
 
@@ -419,7 +440,11 @@ static void run_case(const struct paper_case *paper)
     if (paper->status == 0)
         memcpy(c.array.expected, sealed, 9);
     if (paper->status == 7)
-        expect_zeros(&c);
+        expect_zero_blocks(&c);
+    expect_follow(&c, paper->status == 6 ? 10 : paper->status,
+                  paper->status == 0 ? paper->count : OUT_BEFORE, paper->what);
+    if (paper->status == 7)
+        memset(c.sheet.expected, 0, c.sheet.len);
     expect_run(&c, paper->status,
                paper->status == 7 ? OUT_BEFORE : paper->count, paper->what);
     end_call(&c);
@@ -443,7 +468,9 @@ static void cases_10_and_11(void)
     } sizes[] = {
         { PLAN, 1, 1, 1 }, { PLAN, 16, 1, 1 }, { REBUILD, 1, 1, 1 },
         { REBUILD, 16, 1, 1 }, { REBUILD, 2, 0, 2 }, { REBUILD, 2, 4097, 2 },
-        { PLAN, 2, 1, 4 }, { REBUILD, 2, 1, 4 }
+        { FOLLOW, 1, 1, 1 }, { FOLLOW, 16, 1, 1 }, { FOLLOW, 2, 0, 2 },
+        { FOLLOW, 2, 4097, 2 },
+        { PLAN, 2, 1, 4 }, { REBUILD, 2, 1, 4 }, { FOLLOW, 2, 1, 4 }
     };
     size_t i;
 

@@ -22,10 +22,11 @@
 enum argument {
     SIDE, BLOCK, ARRAY_LENGTH,
     PARITY_DISK, DATA_LENGTH,              /* write only */
-    MAP_LENGTH, MAP_BYTE,                  /* look, plan and rebuild */
+    MAP_LENGTH, MAP_BYTE,                  /* from look on */
     NO_DISK, ERASED,                       /* look only */
-    SHEET_LENGTH, LOSS,                    /* plan and rebuild */
-    DAMAGE,                                /* rebuild only */
+    SHEET_LENGTH, LOSS,                    /* plan, rebuild and follow */
+    CHAIN, STEP,                           /* follow only */
+    DAMAGE,                                /* rebuild and follow */
     ARGUMENTS
 };
 
@@ -43,8 +44,8 @@ struct values {
 
 /* The tests of a call in the order's sequence, and what it returns where one
    fails. Accepted is what it returns where none fails: arbitrary bytes are
-   not sealed, and rebuild gets an array that is. For look that is the block's
-   length. */
+   not sealed, and rebuild and follow get an array that is. For look that is
+   the block's length. */
 struct tests {
     enum function function;
     size_t accepted;
@@ -52,7 +53,7 @@ struct tests {
     struct {
         enum argument argument;
         size_t status;
-    } test[8];
+    } test[10];
 };
 
 static const struct tests tests[] = {
@@ -67,8 +68,34 @@ static const struct tests tests[] = {
                     { SHEET_LENGTH, 5 }, { LOSS, 6 } } },
     { REBUILD, 0, 8, { { SIDE, 1 }, { BLOCK, 2 }, { ARRAY_LENGTH, 3 },
                        { MAP_LENGTH, 4 }, { MAP_BYTE, 4 },
-                       { SHEET_LENGTH, 5 }, { LOSS, 6 }, { DAMAGE, 7 } } }
+                       { SHEET_LENGTH, 5 }, { LOSS, 6 }, { DAMAGE, 7 } } },
+    { FOLLOW, 0, 10, { { SIDE, 1 }, { BLOCK, 2 }, { ARRAY_LENGTH, 3 },
+                       { MAP_LENGTH, 4 }, { MAP_BYTE, 4 },
+                       { SHEET_LENGTH, 5 }, { CHAIN, 10 }, { STEP, 11 },
+                       { LOSS, 11 }, { DAMAGE, 7 } } }
 };
+
+/* Follow's sheet has one record, number 32: disk 1 by row 0. These are bytes
+   that make it wrong. In its chain: another kind, a number that no record
+   has, a record that leads to itself. */
+struct sheet_byte {
+    size_t place;
+    uint8_t byte;
+};
+
+static const struct sheet_byte wrong_chain[] = {
+    { 0, 0 }, { 0, 2 }, { 0, 3 }, { 0, 255 }, { 1, 33 }, { 1, 255 },
+    { 97, 32 }, { 97, 33 }, { 97, 255 }
+};
+
+/* In its step: a present disk, one outside of the grid but for n = 15, and
+   stripes that do not go through disk 1. */
+static const struct sheet_byte wrong_step[] = {
+    { 95, 0 }, { 95, 255 }, { 96, 1 }, { 96, 16 }, { 96, 32 }, { 96, 255 }
+};
+
+#define WRONG_CHAINS (sizeof wrong_chain / sizeof wrong_chain[0])
+#define WRONG_STEPS (sizeof wrong_step / sizeof wrong_step[0])
 
 static void add(struct values *v, size_t value)
 {
@@ -153,6 +180,16 @@ static struct values map_bytes(size_t map_len)
     return v;
 }
 
+/* 0 for what is right, then the numbers of so many things that are wrong. */
+static struct values numbered(size_t wrong)
+{
+    struct values v = { 0, { 0 } };
+
+    while (v.count <= wrong)
+        add(&v, v.count);
+    return v;
+}
+
 /* The length that fits n and block, as numbers that wrap give it; where so
    much can't be lent, the one that fits the size the call started from. */
 static size_t fitting(const struct arguments *a, size_t block, size_t base)
@@ -166,9 +203,6 @@ static size_t fitting(const struct arguments *a, size_t block, size_t base)
 static struct values values_of(enum argument argument,
                                const struct arguments *a)
 {
-    const struct values right_or_wrong = { 2, { 0, 1 } };
-    const struct values damages = { 4, { 0, 1, 2, 3 } };
-
     switch (argument) {
     case SIDE:
         return sides(a->n);
@@ -188,10 +222,14 @@ static struct values values_of(enum argument argument,
         return no_disks(a->n);
     case SHEET_LENGTH:
         return lengths(RAID2D_SHEET_BYTES);
+    case CHAIN:
+        return numbered(WRONG_CHAINS);
+    case STEP:
+        return numbered(WRONG_STEPS);
     case DAMAGE:
-        return damages;
+        return numbered(3);
     default:
-        return right_or_wrong;
+        return numbered(1);
     }
 }
 
@@ -217,8 +255,8 @@ static void damage(struct call *c, const struct arguments *a)
         *cell(c->array.bytes, a->n, a->block, a->n, 1, place) ^= 64;
 }
 
-/* What plan and rebuild are tried on: a sealed array that has lost disk 1, or
-   the four corners of the grid, which is fatal. */
+/* What plan, rebuild and follow are tried on: a sealed array that has lost
+   disk 1, or the four corners of the grid, which is fatal. */
 static void prepare_loss(struct call *c, const struct arguments *a)
 {
     size_t last_row = a->n * (a->n + 1);
@@ -238,8 +276,32 @@ static void prepare_loss(struct call *c, const struct arguments *a)
         damage(c, a);
 }
 
-/* With 6 the sheet lists the corners; with 7 the sheet and the erased disk 1
-   are zero. Returns what the out-parameter is expected to be. */
+/* Sets a byte of the sheet, where it has it. */
+static void put(struct call *c, struct sheet_byte b)
+{
+    if (b.place < c->sheet.len)
+        c->sheet.bytes[b.place] = b.byte;
+}
+
+/* Follow's sheet, which says arbitrary things off its chain. */
+static void prepare_sheet(struct call *c, const struct arguments *a)
+{
+    static const struct sheet_byte right[] = {
+        { 0, 1 }, { 1, 32 }, { 95, 1 }, { 96, 0 }, { 97, 0 }
+    };
+    size_t i;
+
+    for (i = 0; i < sizeof right / sizeof right[0]; i++)
+        put(c, right[i]);
+    if (a->of[STEP])
+        put(c, wrong_step[a->of[STEP] - 1]);
+    if (a->of[CHAIN])
+        put(c, wrong_chain[a->of[CHAIN] - 1]);
+}
+
+/* With 6 the sheet lists the corners; with 7 the erased disk 1 is zero, and
+   the sheet but for follow. Returns what the out-parameter is expected to
+   be. */
 static size_t expect_refusal(struct call *c, const struct arguments *a,
                              size_t status)
 {
@@ -252,7 +314,7 @@ static size_t expect_refusal(struct call *c, const struct arguments *a,
         last_row, 16, 0
     };
 
-    if (status == 6 || status == 7)
+    if ((status == 6 || status == 7) && c->function != FOLLOW)
         memset(c->sheet.expected, 0, c->sheet.len);
     if (status == 6)
         memcpy(c->sheet.expected, corners, sizeof corners);
@@ -270,8 +332,10 @@ static struct call call_with(enum function function, const struct arguments *a)
     c.disk = function == WRITE ? a->of[PARITY_DISK] : a->of[NO_DISK];
     if (a->of[ERASED] && c.disk < c.map.len)
         c.map.bytes[c.disk] = 1;
-    if (function == PLAN || function == REBUILD)
+    if (function == PLAN || function == REBUILD || function == FOLLOW)
         prepare_loss(&c, a);
+    if (function == FOLLOW)
+        prepare_sheet(&c, a);
     if (a->of[MAP_BYTE])
         c.map.bytes[a->of[MAP_BYTE] / 256] = (uint8_t)(a->of[MAP_BYTE] % 256);
     expect_as_now(&c);
@@ -332,11 +396,11 @@ static void all_refuse(size_t n, size_t block, size_t array_len,
                        size_t status, const char *what)
 {
     const enum function functions[] = {
-        SEAL, CHECK, WRITE, LOOK, REBUILD, PLAN
+        SEAL, CHECK, WRITE, LOOK, REBUILD, FOLLOW, PLAN
     };
     size_t i;
 
-    for (i = 0; i < (status == 1 ? 6 : 5); i++) {
+    for (i = 0; i < (status == 1 ? 7 : 6); i++) {
         struct call c = new_call(functions[i], n, block, array_len, 9, 1,
                                  RAID2D_SHEET_BYTES);
 
@@ -375,7 +439,7 @@ static void empty_buffers(void)
         size_t result;
     } calls[] = {
         { SEAL, 3 }, { CHECK, 3 }, { WRITE, 3 }, { LOOK, 0 }, { PLAN, 4 },
-        { REBUILD, 3 }
+        { REBUILD, 3 }, { FOLLOW, 3 }
     };
     size_t i, null;
 

@@ -199,17 +199,21 @@ size_t run(struct call *c)
     case PLAN:
         return raid2d_plan(c->n, c->map.bytes, c->map.len, c->sheet.bytes,
                            c->sheet.len, &c->out[1]);
-    default:
+    case REBUILD:
         return raid2d_rebuild(c->n, c->block, c->array.bytes, c->array.len,
                               c->map.bytes, c->map.len, c->sheet.bytes,
                               c->sheet.len, &c->out[1]);
+    default:
+        return raid2d_follow(c->n, c->block, c->array.bytes, c->array.len,
+                             c->map.bytes, c->map.len, c->sheet.bytes,
+                             c->sheet.len, &c->out[1]);
     }
 }
 
 void expect_run(struct call *c, size_t result, size_t out, const char *what)
 {
     static const char *const names[] = {
-        "seal", "check", "write", "look", "plan", "rebuild"
+        "seal", "check", "write", "look", "plan", "rebuild", "follow"
     };
     size_t actual = run(c);
     int bytes = lent_is_as_expected(&c->array) && lent_is_as_expected(&c->map)
@@ -242,6 +246,7 @@ int main(void)
     test_refusals();
     test_answers();
     test_losses();
+    test_sheets();
     printf("%lu passed, %lu failed\n", passed, failed);
     return failed == 0 ? 0 : 1;
 }

@@ -22,7 +22,7 @@ struct lent {
     uint8_t *memory, *expected_memory;
 };
 
-enum function { SEAL, CHECK, WRITE, LOOK, PLAN, REBUILD };
+enum function { SEAL, CHECK, WRITE, LOOK, PLAN, REBUILD, FOLLOW };
 
 /* A call: its numbers, what it is lent, and its out-parameter with a guard
    on either side. Calls pass over what they have no parameter for. */
@@ -80,5 +80,6 @@ void test_header(void);
 void test_refusals(void);
 void test_answers(void);
 void test_losses(void);
+void test_sheets(void);
 
 #endif

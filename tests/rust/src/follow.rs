@@ -7,18 +7,18 @@ use crate::sheet::SHEET;
 use crate::tally::{show, Tally};
 use crate::{arguments, ffi, losses, model, sheets, Run};
 
-fn words(n: usize, block: usize, array: &[u8], map: &[u8], sheet: &[u8]) -> String {
-    let (array, map, sheet) = (show(array), show(map), show(sheet));
+fn words(n: usize, block: usize, array: &[u8], map: &[u8], sheet: &str) -> String {
+    let (array, map) = (show(array), show(map));
     format!("follow, n {n}, block {block}, map {map}, sheet {sheet}, array {array}")
 }
 
 pub fn compare(tally: &mut Tally, n: usize, block: usize, array: &[u8], map: &[u8], sheet: &[u8]) {
     let expected = model::follow(n, block, array, map, sheet);
-    let call = || ffi::follow(n, block, array, map, sheet);
-    tally.compare(|| words(n, block, array, map, sheet), &expected, call);
+    let input = || words(n, block, array, map, &show(sheet));
+    tally.compare(input, &expected, || ffi::follow(n, block, array, map, sheet));
 }
 
-/// What follow must do if it is to leave the array as rebuild does: the model finds that without any sheet. A sheet for a
+/// What follow must do if it is to leave the array as rebuild does, which the model finds without any sheet. A sheet for a
 /// fatal loss gets the status given.
 fn as_rebuild(rebuilt: &Outcome, fatal: usize) -> Outcome {
     let array = rebuilt.written[0].clone();
@@ -29,20 +29,22 @@ fn as_rebuild(rebuilt: &Outcome, fatal: usize) -> Outcome {
 }
 
 /// Plan's own sheet, whose loop for a fatal loss is no list of repairs; then any allowed order with its records anywhere,
-/// judged by its steps too; then the same with something wrong.
+/// and the same with something wrong.
 fn several_sheets(run: &mut Run, size: Size, array: &[u8], map: &[u8]) {
     let (n, block) = (size.n, size.block);
     let rebuilt = model::rebuild(n, block, array, map, &[0; SHEET]);
-    let input = || words(n, block, array, map, b"plan's");
+    let input = || words(n, block, array, map, "of plan");
     run.tally.compare(input, &as_rebuild(&rebuilt, BROKEN), || {
         let planned = ffi::plan(n, map, &[0; SHEET])?.written.remove(0);
         ffi::follow(n, block, array, map, &planned)
     });
     let steps = sheets::any_order(&mut run.random, n, map);
     let sheet = sheets::scattered(&mut run.random, &steps);
-    let input = || words(n, block, array, map, &sheet);
-    run.tally.compare(input, &as_rebuild(&rebuilt, NOT_ALLOWED), || ffi::follow(n, block, array, map, &sheet));
-    compare(&mut run.tally, n, block, array, map, &sheet);
+    let input = || words(n, block, array, map, &show(&sheet));
+    let expected = model::follow(n, block, array, map, &sheet);
+    // The paper says so. A model that contradicts itself would be nothing to compare with.
+    assert!(expected == as_rebuild(&rebuilt, NOT_ALLOWED), "repairs and elimination differ, {}", input());
+    run.tally.compare(input, &expected, || ffi::follow(n, block, array, map, &sheet));
     let damaged = sheets::damaged(&mut run.random, n, &sheet);
     compare(&mut run.tally, n, block, array, map, &damaged);
 }

@@ -1,0 +1,125 @@
+/*
+ * What follow makes of sheets from elsewhere, with their exact bytes: n = 2,
+ * block = 1, and the sealed array A of paper 01.
+ */
+#include <string.h>
+
+#include "raid2d.h"
+#include "suite.h"
+
+static const uint8_t sealed[9] = { 1, 2, 3, 4, 8, 12, 5, 10, 15 };
+
+/* What off the chain and on the erased disks counts for nothing. */
+#define NOTHING 201
+
+/* A sheet for a map: its first records, and the last one, number 32. */
+struct example {
+    const char *what;
+    size_t status, count;
+    uint8_t erased[9];
+    uint8_t begins[2 + 3 * 4];
+    uint8_t record_32[3];
+};
+
+/* Disks 0, 2 and 6 are erased, as in case 3, or none, or others. */
+#define CASE_3 { 1, 0, 1, 0, 0, 0, 1, 0, 0 }
+#define NO_DISK { 0, 0, 0, 0, 0, 0, 0, 0, 0 }
+
+static const struct example examples[] = {
+    { "case 3's sheet", 0, 3, CASE_3,
+      { 1, 1, 2, 18, 2, 0, 0, 3, 6, 2, 0 }, { 0, 0, 0 } },
+    { "in another order", 0, 3, CASE_3,
+      { 1, 1, 6, 2, 2, 0, 16, 3, 2, 0, 0 }, { 0, 0, 0 } },
+    { "records in other places", 0, 3, CASE_3,
+      { 1, 3, 6, 2, 0, 9, 9, 9, 2, 18, 4, 0, 0, 1 }, { 77, 77, 77 } },
+    { "number 32 in use", 0, 3, CASE_3,
+      { 1, 32, 6, 2, 0, 0, 0, 1 }, { 2, 18, 2 } },
+    { "no repair for no disk", 0, 0, NO_DISK,
+      { 1, 0, 9, 9, 9 }, { 9, 9, 9 } },
+    { "kind 0", 10, 0, CASE_3,
+      { 0, 1, 2, 18, 2, 0, 0, 3, 6, 2, 0 }, { 0, 0, 0 } },
+    { "kind 2", 10, 0, CASE_3,
+      { 2, 1, 2, 18, 2, 0, 0, 3, 6, 2, 0 }, { 0, 0, 0 } },
+    { "kind 2 for no disk", 10, 0, NO_DISK, { 2, 0 }, { 0, 0, 0 } },
+    { "first number 33", 10, 0, CASE_3,
+      { 1, 33, 2, 18, 2, 0, 0, 3, 6, 2, 0 }, { 0, 0, 0 } },
+    { "last number 33", 10, 0, CASE_3,
+      { 1, 1, 2, 18, 2, 0, 0, 3, 6, 2, 33 }, { 0, 0, 0 } },
+    { "number 255", 10, 0, CASE_3,
+      { 1, 1, 2, 18, 255, 0, 0, 3, 6, 2, 0 }, { 0, 0, 0 } },
+    { "a ring of three", 10, 0, CASE_3,
+      { 1, 1, 2, 18, 2, 0, 0, 3, 6, 2, 1 }, { 0, 0, 0 } },
+    { "a ring behind the first", 10, 0, CASE_3,
+      { 1, 1, 2, 18, 2, 0, 0, 3, 6, 2, 2 }, { 0, 0, 0 } },
+    { "a ring of one", 10, 0, CASE_3,
+      { 1, 32, 2, 18, 2, 0, 0, 3, 6, 2, 0 }, { 2, 18, 32 } },
+    { "a ring behind a step that is not allowed", 10, 0, CASE_3,
+      { 1, 1, 4, 1, 2, 0, 0, 1 }, { 0, 0, 0 } },
+    { "another erased disk on the stripe", 11, 0, CASE_3,
+      { 1, 1, 0, 0, 2, 2, 18, 3, 6, 2, 0 }, { 0, 0, 0 } },
+    { "a stripe that is not the disk's", 11, 0, CASE_3,
+      { 1, 1, 2, 17, 2, 0, 0, 3, 6, 2, 0 }, { 0, 0, 0 } },
+    { "a number that no stripe has", 11, 0, CASE_3,
+      { 1, 1, 2, 3, 2, 0, 0, 3, 6, 2, 0 }, { 0, 0, 0 } },
+    { "a present disk", 11, 0, CASE_3,
+      { 1, 1, 2, 18, 2, 0, 0, 3, 6, 2, 4, 4, 1, 0 }, { 0, 0, 0 } },
+    { "a disk twice", 11, 0, CASE_3,
+      { 1, 1, 2, 18, 2, 0, 0, 3, 6, 2, 4, 6, 2, 0 }, { 0, 0, 0 } },
+    { "a disk outside of the grid", 11, 0, CASE_3,
+      { 1, 1, 9, 3, 2, 0, 0, 3, 6, 2, 0 }, { 0, 0, 0 } },
+    { "a disk left over", 11, 0, CASE_3,
+      { 1, 1, 2, 18, 2, 0, 0, 0, 6, 2, 0 }, { 0, 0, 0 } },
+    { "no repair for three disks", 11, 0, CASE_3, { 1, 0 }, { 0, 0, 0 } },
+    { "a fatal loss", 11, 0, { 1, 0, 1, 0, 0, 0, 1, 0, 1 },
+      { 1, 1, 2, 18, 2, 0, 0, 3, 6, 2, 4, 8, 2, 0 }, { 0, 0, 0 } }
+};
+
+static struct call call_of(const struct example *e)
+{
+    struct call c = fitting_call(FOLLOW, 2, 1);
+    size_t disk;
+
+    memcpy(c.map.bytes, e->erased, 9);
+    for (disk = 0; disk < 9; disk++)
+        c.array.bytes[disk] = e->erased[disk] ? NOTHING : sealed[disk];
+    memset(c.sheet.bytes, NOTHING, c.sheet.len);
+    memcpy(c.sheet.bytes, e->begins, sizeof e->begins);
+    memcpy(c.sheet.bytes + 95, e->record_32, sizeof e->record_32);
+    expect_as_now(&c);
+    return c;
+}
+
+static void run_example(const struct example *e)
+{
+    struct call c = call_of(e);
+
+    if (e->status == 0)
+        memcpy(c.array.expected, sealed, 9);
+    expect_run(&c, e->status, e->status == 0 ? e->count : OUT_BEFORE, e->what);
+    end_call(&c);
+}
+
+/* A sheet that can be followed, on survivors that contradict each other. */
+static void run_contradiction(const struct example *e)
+{
+    struct call c = call_of(e);
+    size_t disk;
+
+    c.array.bytes[4] = c.array.expected[4] = 9;
+    for (disk = 0; disk < 9; disk++)
+        if (e->erased[disk])
+            c.array.expected[disk] = 0;
+    expect_run(&c, 7, OUT_BEFORE, e->what);
+    end_call(&c);
+}
+
+void test_sheets(void)
+{
+    size_t i;
+
+    for (i = 0; i < sizeof examples / sizeof examples[0]; i++) {
+        run_example(&examples[i]);
+        if (examples[i].status == 0)
+            run_contradiction(&examples[i]);
+    }
+}
