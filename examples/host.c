@@ -2,9 +2,10 @@
  * An example host for raid2d: nine doors of a building, one name to a disk.
  *
  * It seals an array, finds a damaged byte, writes a block and looks at disks,
- * loses three disks and restores them, then loses five and learns why they
- * cannot be restored. Build and run it with `make example`;
- * examples/host.expected has what it prints.
+ * loses three disks and restores them, loses them again and follows a list of
+ * repairs that came from elsewhere, then loses five and learns why they cannot
+ * be restored. Build and run it with `make example`; examples/host.expected
+ * has what it prints.
  */
 #include <stdio.h>
 #include <string.h>
@@ -131,22 +132,22 @@ static void lose(size_t disk)
     memset(block_of(disk), '?', BLOCK);
 }
 
-/* The records of the sheet, from the first to the last: repairs, or the disks
+/* The records of a sheet, from the first to the last: repairs, or the disks
    of a cycle. */
-static void print_sheet(void)
+static void print_sheet(const uint8_t *records)
 {
-    int cycle = raid2d_sheet_kind(sheet) == RAID2D_SHEET_CYCLE;
+    int cycle = raid2d_sheet_kind(records) == RAID2D_SHEET_CYCLE;
     size_t k;
 
-    for (k = raid2d_sheet_first(sheet); k != 0;
-         k = raid2d_sheet_next(sheet, k)) {
-        printf("  disk %zu %s ", raid2d_sheet_disk(sheet, k),
+    for (k = raid2d_sheet_first(records); k != 0;
+         k = raid2d_sheet_next(records, k)) {
+        printf("  disk %zu %s ", raid2d_sheet_disk(records, k),
                cycle ? "along" : "by");
-        print_stripe(raid2d_sheet_stripe(sheet, k));
+        print_stripe(raid2d_sheet_stripe(records, k));
     }
 }
 
-/* The outcome of plan or rebuild. */
+/* The outcome of plan, rebuild or follow. */
 static void print_outcome(const char *call, uint32_t status, size_t count)
 {
     if (status == RAID2D_OK)
@@ -165,7 +166,7 @@ static void plan_repairs(void)
 
     print_outcome("plan", status, count);
     if (status == RAID2D_OK || status == RAID2D_FATAL)
-        print_sheet();
+        print_sheet(sheet);
 }
 
 /* Rebuild plans by itself; a host that does not want to see the plan first
@@ -181,19 +182,64 @@ static void rebuild_array(void)
         memset(map, 0, sizeof map);
 }
 
+/* A list of repairs that the host did not get from plan: the chain visits
+   records 4, 1 and 3. Record 2 is off the chain and may hold anything. */
+static const uint8_t notes[RAID2D_SHEET_BYTES] = {
+    RAID2D_SHEET_REPAIRS, 4,
+    2, 18, 3,
+    99, 99, 99,
+    3, 0, 0,
+    14, 3, 1
+};
+
+/* Follow judges a sheet before it changes the array. The records are printed
+   after a success only, since a wrong chain may never end. */
+static void follow_notes(void)
+{
+    size_t count = 0;
+    uint32_t status = raid2d_follow(SIDE, BLOCK, array, sizeof array, map,
+                                    sizeof map, notes, sizeof notes, &count);
+
+    print_outcome("follow", status, count);
+    if (status == RAID2D_OK) {
+        print_sheet(notes);
+        memset(map, 0, sizeof map);
+    }
+}
+
 /* A data disk with both its parities: it comes back by way of the superparity
    (disk 15). */
-static void lose_three(void)
+static void lose_data_and_parities(void)
 {
     lose(2);
     lose(3);
     lose(14);
+}
+
+static void lose_three(void)
+{
+    lose_data_and_parities();
     look_at(2);
     look_at(4);
     print_array();
     plan_repairs();
     rebuild_array();
     print_array();
+    check_array();
+    look_at(2);
+}
+
+/* The same disks once more, and for a while one of which the notes know
+   nothing: refused, the array keeps its bytes. */
+static void lose_three_again(void)
+{
+    lose_data_and_parities();
+    printf("disk 5 is pulled out\n");
+    map[5] = 1;
+    follow_notes();
+    printf("disk 5 is back\n");
+    map[5] = 0;
+    follow_notes();
     check_array();
     look_at(2);
 }
@@ -236,6 +282,9 @@ int main(void)
     printf("\n");
     look_at(2);
     lose_three();
+
+    printf("\n");
+    lose_three_again();
 
     printf("\n");
     lose_five();
