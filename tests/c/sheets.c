@@ -28,8 +28,8 @@ struct example {
 static const struct example examples[] = {
     { "case 3's sheet", 0, 3, CASE_3,
       { 1, 1, 2, 18, 2, 0, 0, 3, 6, 2, 0 }, { 0, 0, 0 } },
-    { "in another order", 0, 3, CASE_3,
-      { 1, 1, 6, 2, 2, 0, 16, 3, 2, 0, 0 }, { 0, 0, 0 } },
+    { "in another order, the last by column or row", 0, 3, CASE_3,
+      { 1, 1, 6, 2, 2, 0, 16, 3, 2, 18, 0 }, { 0, 0, 0 } },
     { "records in other places", 0, 3, CASE_3,
       { 1, 3, 6, 2, 0, 9, 9, 9, 2, 18, 4, 0, 0, 1 }, { 77, 77, 77 } },
     { "number 32 in use", 0, 3, CASE_3,
