@@ -12,12 +12,6 @@
 #include "model.h"
 #include "raid2d.h"
 
-uint32_t raid2d_follow(size_t n, size_t block,
-                       uint8_t *array, size_t array_len,
-                       const uint8_t *map, size_t map_len,
-                       const uint8_t *sheet, size_t sheet_len,
-                       size_t *count);
-
 int LLVMFuzzerTestOneInput(const uint8_t *data, size_t size);
 
 /* What is lent; the same memory in every call. */

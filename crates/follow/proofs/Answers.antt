@@ -22,7 +22,7 @@ use Rattle.model.proofs.Refusal.{no-tests, fails, passes, refused-first, array-
 use Rattle.model.proofs.Clears.{clears-peels}
 use Rattle.model.proofs.Chain.{chain-few}
 use Rattle.model.proofs.Sheets.{sheet-length}
-use Rattle.model.proofs.Follow.{Gives, given, follow-first, follow-order, follow-ten, follow-eleven}
+use Rattle.model.proofs.Follow.{Gives, follow-given, follow-first, follow-order, follow-ten, follow-eleven}
 use Rattle.sheet.specs.Record.{records}
 use Rattle.sheet.specs.Found.{chainRead}
 use Rattle.sheet.specs.declared.chain.Chain.{Chain}
@@ -135,12 +135,12 @@ module _ {s own : List ℕ} {count : ℕ} (listed : Listed s own count) where
         unfolding fits restored followedArray
         agreed fit =
             let c : fits z B a (chainEntries s) ≡ true = ap (fits z B a) (sym own-records) ∙ fit in
-            let g = as-given z B a m s (given z B a m s 0 (follow-order z B a m s ok ∙ rw (listed .chain, usable, c))) in
+            let g = as-given z B a m s (follow-given z B a m s 0 (follow-order z B a m s ok ∙ rw (listed .chain, usable, c))) in
             (ap Repairs (listed .counted) ∙ g .0, array-is ∙ ap (restored z B a m) own-records ∙ (rw c) ∙ g .1)
 
         pub contradicted : fits z B a (records own count) ≡ false → Followed z B a m s (Refused 7) b
         unfolding fits restored followedArray
         contradicted unfit =
             let c : fits z B a (chainEntries s) ≡ false = ap (fits z B a) (sym own-records) ∙ unfit in
-            let g = as-given z B a m s (given z B a m s 7 (follow-order z B a m s ok ∙ rw (listed .chain, usable, c))) in
+            let g = as-given z B a m s (follow-given z B a m s 7 (follow-order z B a m s ok ∙ rw (listed .chain, usable, c))) in
             (g .0, array-is ∙ ap (restored z B a m) own-records ∙ (rw c) ∙ g .1)

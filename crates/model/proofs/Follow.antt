@@ -65,11 +65,11 @@ module _ (z : Size) (B : ℕ) (a m s : List ℕ) where
       array-passed z B (length a) array _ ∙ passes 4 (mapFits z m) _ map ∙ passes 5 (eqb (length s) 98) ts long
 
   -- What follow gives where it refuses by k, or where k is 0.
-  pub given : (k : ℕ) → followRefusal z B a m s ≡ k
+  pub follow-given : (k : ℕ) → followRefusal z B a m s ≡ k
       → Gives z B a m s (cond (eqb k 0) (Repairs (length (chainEntries s))) (Refused k))
       (cond (eqb k 0) (followedArray z B a s) (cond (eqb k 7) (zeroed (whole B) a (erasures m)) a))
   unfolding followOutcome followArray
-  given k e = (rw e, rw e)
+  follow-given k e = (rw e, rw e)
 
   status-is : outcomeStatus (followOutcome z B a m s) ≡ followRefusal z B a m s
   unfolding followOutcome outcomeStatus
@@ -99,7 +99,7 @@ module _ (z : Size) (B : ℕ) (a m s : List ℕ) where
       let k = rebuildRefusal z B a m s in
       let few : k ≤ 5 = first-five z B a m s in
       rw (ne-eqb k 0 refused, ne-eqb k 7 (λ e. omega arith)) at
-      (given z B a m s k (refused-first (rebuildTests z B (length a) m (length s)) _ refused))
+      (follow-given z B a m s k (refused-first (rebuildTests z B (length a) m (length s)) _ refused))
 
   -- Otherwise 10 exactly if the chain does not fit; else 11 exactly if a step is not an allowed repair or a disk stays erased; else 7
   -- exactly if a stripe's sum is not zero after the repairs.
@@ -121,11 +121,11 @@ module _ (z : Size) (B : ℕ) (a m s : List ℕ) where
   module _ (ok : rebuildRefusal z B a m s ≡ 0) where
     -- 10, and nothing changes.
     pub follow-ten : chainFits s ≡ false → Gives z B a m s (Refused 10) a
-    follow-ten unfit = given z B a m s 10 (follow-order ok ∙ (rw unfit))
+    follow-ten unfit = follow-given z B a m s 10 (follow-order ok ∙ (rw unfit))
 
     -- 11, and nothing changes.
     pub follow-eleven : chainFits s ≡ true → clears (gridOf z) (erasures m) (chainEntries s) ≡ false → Gives z B a m s (Refused 11) a
-    follow-eleven chain unclear = given z B a m s 11 (follow-order ok ∙ (rw (chain, unclear)))
+    follow-eleven chain unclear = follow-given z B a m s 11 (follow-order ok ∙ (rw (chain, unclear)))
 
     -- The repairs of a usable sheet leave all sums zero exactly if the survivors belong to a sealed array.
     pub follow-judged : Usable z m s → Bytes a
@@ -146,7 +146,7 @@ module _ (z : Size) (B : ℕ) (a m s : List ℕ) where
         (chainEntries s) clear b word agree in
         let sealed : consistent (gridOf z) (whole B) (followedArray z B a s) ≡ true =
         ap (consistent (gridOf z) (whole B)) is ∙ consistent-iff (gridOf z) (whole B) b .1 (word .sums) in
-        let (answer, left) = given z B a m s 0 (follow-order ok ∙ (rw (chain, clear, sealed))) in
+        let (answer, left) = follow-given z B a m s 0 (follow-order ok ∙ (rw (chain, clear, sealed))) in
         (answer ∙ (rw (clears-length (gridOf z) (erasures m) (chainEntries s) clear, grid-disks z)), left ∙ is)
 
     -- If they belong to none, follow refuses by 7, with zeros in the erased blocks;
@@ -156,7 +156,7 @@ module _ (z : Size) (B : ℕ) (a m s : List ℕ) where
         let unsealed : consistent (gridOf z) (whole B) (followedArray z B a s) ≡ false =
         by-cases (λ (t : Bool). t ≡ false) (consistent (gridOf z) (whole B) (followedArray z B a s))
         (λ e. absurd (none (follow-judged usable small .0 e))) (λ e. refl) in
-        given z B a m s 7 (follow-order ok ∙ (rw (usable .0, usable .1, unsealed)))
+        follow-given z B a m s 7 (follow-order ok ∙ (rw (usable .0, usable .1, unsealed)))
 
     -- and it does so just then.
     pub follow-contradicted : Bytes a
@@ -171,7 +171,7 @@ module _ (z : Size) (B : ℕ) (a m s : List ℕ) where
 
   -- For 7 the erased blocks are zero.
   pub follow-zeros : outcomeStatus (followOutcome z B a m s) ≡ 7 → followArray z B a m s ≡ zeroed (whole B) a (erasures m)
-  follow-zeros e = given z B a m s 7 (sym (status-is z B a m s) ∙ e) .1
+  follow-zeros e = follow-given z B a m s 7 (sym (status-is z B a m s) ∙ e) .1
 
   -- On a map whose loss is fatal follow changes nothing, whatever the sheet, and refuses by 10 or 11 where it has not refused before.
   pub follow-fatal : fatal (gridOf z) (erasures m) ≡ true
@@ -224,12 +224,12 @@ follow-any z B a m s t long small (chain, clear) =
         rw e (answer ∙ ap Refused same, left)
     go true e true j =
         let ok = same ∙ eqb-true (rebuildRefusal z B a m t) 0 e in
-        let (answer, left) = given z B a m s 0 (follow-order z B a m s ok ∙ (rw (chain, clear, alike ok .0, j))) in
+        let (answer, left) = follow-given z B a m s 0 (follow-order z B a m s ok ∙ (rw (chain, clear, alike ok .0, j))) in
         let count-is = clears-length (gridOf z) (erasures m) (chainEntries s) clear ∙ sym (repairs-count (gridOf z) (erasures m) fine) in
         rw (e, fine, j) (answer ∙ ap Repairs count-is, left ∙ alike ok .1 j)
     go true e false j =
         let ok = same ∙ eqb-true (rebuildRefusal z B a m t) 0 e in
-        rw (e, fine, j) (given z B a m s 7 (follow-order z B a m s ok ∙ (rw (chain, clear, alike ok .0, j))))
+        rw (e, fine, j) (follow-given z B a m s 7 (follow-order z B a m s ok ∙ (rw (chain, clear, alike ok .0, j))))
 
 module _ (z : Size) (B : ℕ) (a m s₁ t : List ℕ) (planOk : refusal (planTests z m (length s₁)) ≡ 0) (long : length t ≡ 98) where
   -- It is so for the sheet that plan leaves,
