@@ -8,6 +8,8 @@
 #   make test-fuzz  a bounded run of the fuzzer, and that it finds faults
 #   make fuzz       a longer run, of FUZZ_TIME seconds
 #   make bench      the benchmark
+#   make install    installs the library and the listing program; PREFIX, DESTDIR
+#   make uninstall  removes what install has put there; the same PREFIX, DESTDIR
 #   make clean      removes build/
 #
 # All that is made here goes to build/. `rt ci` removes target/, so the
@@ -17,6 +19,9 @@ CC = cc
 CXX = c++
 CFLAGS = -std=c99 -O2 -Wall -Wextra -Wpedantic
 BUILD = build
+
+# The header, raid2d.pc and the manual pages say the same: tests/install.
+VERSION = 0.4.0
 
 # The archive that C programs are linked with. `make test-c LIB=other.a` tests
 # another one.
@@ -30,7 +35,8 @@ STRICT = -Wall -Wextra -Wpedantic -Werror -Iinclude -fsyntax-only
 # How long `make fuzz` runs, in seconds.
 FUZZ_TIME = 600
 
-.PHONY: all lib example check test-c test-rust test-fuzz fuzz bench clean
+.PHONY: all lib example check test-c test-rust test-fuzz fuzz bench \
+    install uninstall clean
 
 all: lib
 
@@ -77,6 +83,60 @@ fuzz: $(LIB)
 
 bench: $(LIB)
 	$(MAKE) -C bench LIB=$(abspath $(LIB)) BUILD=$(abspath $(BUILD)/bench)
+
+# The listing program is installed too. `make install LIB=other.a` installs
+# another archive, and likewise with LISTING.
+LISTING = $(BUILD)/list_repairs
+
+$(BUILD)/list_repairs: $(PROVED_SOURCES)
+	rt check list_repairs
+	mkdir -p $(BUILD)
+	cp target/bin/list_repairs $@
+
+PREFIX = /usr/local
+prefix = $(PREFIX)
+exec_prefix = $(prefix)
+bindir = $(exec_prefix)/bin
+includedir = $(prefix)/include
+libdir = $(exec_prefix)/lib
+datarootdir = $(prefix)/share
+mandir = $(datarootdir)/man
+pkgconfigdir = $(libdir)/pkgconfig
+INSTALL = install
+INSTALL_PROGRAM = $(INSTALL)
+INSTALL_DATA = $(INSTALL) -m 644
+
+# How raid2d.pc names a folder: by its prefix, and the prefix by the file's own
+# folder. What lies outside the prefix it names as it is.
+in_prefix = $(patsubst $(prefix)/%,$${prefix}/%,$(1))
+up = $(shell echo $(patsubst $(prefix)/%,%,$(pkgconfigdir)) | sed 's|[^/][^/]*|..|g')
+pc_prefix = $(if $(filter $(prefix)/%,$(pkgconfigdir)),$${pcfiledir}/$(up),$(prefix))
+
+# Folders that install makes are noted in build/folders, and uninstall removes
+# those of them that are then empty.
+install: $(LIB) $(LISTING)
+	@mkdir -p $(BUILD)
+	@made() { [ -d "$$1" ] || { made "$$(dirname "$$1")" && mkdir "$$1" && \
+	    echo "$$1" >>$(BUILD)/folders; }; }; \
+	for folder in "$(bindir)" "$(includedir)" "$(libdir)" "$(pkgconfigdir)" \
+	    "$(mandir)/man1" "$(mandir)/man3"; do made "$(DESTDIR)$$folder" || exit; done
+	sed -e 's|@prefix@|$(pc_prefix)|' -e 's|@VERSION@|$(VERSION)|' \
+	    -e 's|@libdir@|$(call in_prefix,$(libdir))|' \
+	    -e 's|@includedir@|$(call in_prefix,$(includedir))|' raid2d.pc.in >$(BUILD)/raid2d.pc
+	$(INSTALL_DATA) $(LIB) "$(DESTDIR)$(libdir)/libraid2d.a"
+	$(INSTALL_DATA) $(HEADER) "$(DESTDIR)$(includedir)/raid2d.h"
+	$(INSTALL_DATA) $(BUILD)/raid2d.pc "$(DESTDIR)$(pkgconfigdir)/raid2d.pc"
+	$(INSTALL_PROGRAM) $(LISTING) "$(DESTDIR)$(bindir)/list_repairs"
+	$(INSTALL_DATA) man/list_repairs.1 "$(DESTDIR)$(mandir)/man1/list_repairs.1"
+	$(INSTALL_DATA) man/raid2d.3 "$(DESTDIR)$(mandir)/man3/raid2d.3"
+
+uninstall:
+	rm -f "$(DESTDIR)$(libdir)/libraid2d.a" "$(DESTDIR)$(includedir)/raid2d.h" \
+	    "$(DESTDIR)$(pkgconfigdir)/raid2d.pc" "$(DESTDIR)$(bindir)/list_repairs" \
+	    "$(DESTDIR)$(mandir)/man1/list_repairs.1" "$(DESTDIR)$(mandir)/man3/raid2d.3"
+	@[ ! -f $(BUILD)/folders ] || sort -ru $(BUILD)/folders | \
+	    while IFS= read -r folder; do rmdir "$$folder" 2>/dev/null || :; done
+	@rm -f $(BUILD)/folders
 
 clean:
 	rm -rf $(BUILD)
