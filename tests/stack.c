@@ -1,0 +1,241 @@
+/*
+ * How much stack each call takes, at the largest size and on its longest ways.
+ * A call runs on a stack of its own that was filled with a pattern before; the
+ * lowest byte that it has changed tells how deep it went. tests/archive builds
+ * and runs this.
+ *
+ * usage: stack LIMIT. Prints a line for each run, with FAILED where it takes
+ * LIMIT bytes or more, or answers something else than it should.
+ */
+#define _XOPEN_SOURCE 600
+#include <stdio.h>
+#include <stdlib.h>
+#include <string.h>
+#include <ucontext.h>
+
+#include "raid2d.h"
+
+enum { SIDE = RAID2D_SIDE_MAX, BLOCK = RAID2D_BLOCK_MAX, ACROSS = SIDE + 1 };
+enum { STACK_BYTES = 1 << 16 };
+
+/* All that is lent, and where the answer is expected. */
+static uint8_t array[RAID2D_ARRAY_BYTES(SIDE, BLOCK)];
+static uint8_t map[RAID2D_DISKS(SIDE)];
+static uint8_t sheet[RAID2D_SHEET_BYTES];
+static uint8_t data[BLOCK];
+static size_t out;
+static size_t result;
+
+static uint8_t stack[STACK_BYTES];
+static ucontext_t outside, inside;
+
+static void nothing(void)
+{
+    result = 0;
+}
+
+static void seal(void)
+{
+    result = raid2d_seal(SIDE, BLOCK, array, sizeof array);
+}
+
+static void check(void)
+{
+    result = raid2d_check(SIDE, BLOCK, array, sizeof array, &out);
+}
+
+static void write(void)
+{
+    result = raid2d_write(SIDE, BLOCK, array, sizeof array, 0, data, BLOCK);
+}
+
+static void look(void)
+{
+    result = raid2d_look(SIDE, BLOCK, array, sizeof array, map, sizeof map,
+                         RAID2D_DISKS(SIDE) - 1, &out);
+}
+
+static void plan(void)
+{
+    result = raid2d_plan(SIDE, map, sizeof map, sheet, sizeof sheet, &out);
+}
+
+static void rebuild(void)
+{
+    result = raid2d_rebuild(SIDE, BLOCK, array, sizeof array, map, sizeof map,
+                            sheet, sizeof sheet, &out);
+}
+
+static void follow(void)
+{
+    result = raid2d_follow(SIDE, BLOCK, array, sizeof array, map, sizeof map,
+                           sheet, sizeof sheet, &out);
+}
+
+/* What a run starts from: arbitrary data, sealed, and no disk erased. */
+static void prepare(void)
+{
+    uint32_t x = 1;
+    size_t i;
+
+    for (i = 0; i < sizeof array; i++) {
+        x = x * 1664525u + 1013904223u;
+        array[i] = (uint8_t)(x >> 24);
+    }
+    memcpy(data, array + 7, sizeof data);
+    memset(map, 0, sizeof map);
+    memset(sheet, 0, sizeof sheet);
+    raid2d_seal(SIDE, BLOCK, array, sizeof array);
+}
+
+static void sealed(void)
+{
+}
+
+/* Two equal changes in the last row cancel there, so that all stripes up to a
+   column are summed. */
+static void damaged(void)
+{
+    array[sizeof array - 1] ^= 1;
+    array[sizeof array - 1 - BLOCK] ^= 1;
+}
+
+static void lose(size_t row, size_t column)
+{
+    map[row * ACROSS + column] = 1;
+}
+
+/* Row 0 and column 0: 31 disks, the most that come back. */
+static void cross(void)
+{
+    size_t i;
+
+    for (i = 0; i < ACROSS; i++) {
+        lose(0, i);
+        lose(i, 0);
+    }
+}
+
+/* The sheet for the same loss, as from elsewhere. */
+static void cross_and_sheet(void)
+{
+    cross();
+    raid2d_plan(SIDE, map, sizeof map, sheet, sizeof sheet, &out);
+}
+
+/* One disk, and survivors that contradict each other; the sheet for it. */
+static void contradicted(void)
+{
+    damaged();
+    lose(0, 0);
+    raid2d_plan(SIDE, map, sizeof map, sheet, sizeof sheet, &out);
+}
+
+/* A sheet of 32 records that leads back to its first. */
+static void ring(void)
+{
+    size_t k;
+
+    cross_and_sheet();
+    for (k = 0; k < RAID2D_SHEET_RECORDS; k++)
+        sheet[4 + 3 * k] = (uint8_t)((k + 1) % RAID2D_SHEET_RECORDS + 1);
+}
+
+/* The longest cycle: 32 disks, two in each stripe. */
+static void stairs(void)
+{
+    size_t i;
+
+    for (i = 0; i < ACROSS; i++) {
+        lose(i, i);
+        lose(i, (i + 1) % ACROSS);
+    }
+}
+
+static void all_lost(void)
+{
+    memset(map, 1, sizeof map);
+}
+
+struct run {
+    const char *name;
+    void (*call)(void);
+    const char *on;
+    void (*input)(void);
+    size_t expected;
+};
+
+static const struct run runs[] = {
+    { "seal", seal, "arbitrary data", sealed, RAID2D_OK },
+    { "check", check, "a sealed array", sealed, RAID2D_OK },
+    { "check", check, "a damaged column", damaged, RAID2D_NOT_SEALED },
+    { "write", write, "a data disk", sealed, RAID2D_OK },
+    { "look", look, "the last disk", sealed, BLOCK },
+    { "plan", plan, "31 erased disks", cross, RAID2D_OK },
+    { "plan", plan, "a cycle of 32 disks", stairs, RAID2D_FATAL },
+    { "plan", plan, "all disks erased", all_lost, RAID2D_FATAL },
+    { "rebuild", rebuild, "31 erased disks", cross, RAID2D_OK },
+    { "rebuild", rebuild, "a cycle of 32 disks", stairs, RAID2D_FATAL },
+    { "rebuild", rebuild, "survivors that disagree", contradicted,
+      RAID2D_ERR_SURVIVORS },
+    { "follow", follow, "31 records", cross_and_sheet, RAID2D_OK },
+    { "follow", follow, "a ring of 32 records", ring, RAID2D_ERR_CHAIN },
+    { "follow", follow, "survivors that disagree", contradicted,
+      RAID2D_ERR_SURVIVORS }
+};
+
+/* How deep a function goes on a stack filled with the byte. */
+static size_t depth_over(void (*function)(void), uint8_t byte)
+{
+    size_t low = 0;
+
+    memset(stack, byte, sizeof stack);
+    getcontext(&inside);
+    inside.uc_stack.ss_sp = stack;
+    inside.uc_stack.ss_size = sizeof stack;
+    inside.uc_link = &outside;
+    makecontext(&inside, function, 0);
+    swapcontext(&outside, &inside);
+    while (low < sizeof stack && stack[low] == byte)
+        low++;
+    return sizeof stack - low;
+}
+
+/* The same over two patterns, since a byte that is written can be the same as
+   the pattern's. */
+static size_t depth_of(const struct run *run)
+{
+    size_t depth = 0;
+    int pattern;
+
+    for (pattern = 0; pattern < 2; pattern++) {
+        size_t d;
+
+        prepare();
+        run->input();
+        d = depth_over(run->call, pattern == 0 ? 0x5a : 0xa5);
+        if (d > depth)
+            depth = d;
+    }
+    return depth;
+}
+
+int main(int argc, char **argv)
+{
+    size_t limit = argc == 2 ? strtoul(argv[1], NULL, 10) : 0;
+    size_t empty = depth_over(nothing, 0x5a);
+    int failed = 0;
+    size_t i;
+
+    for (i = 0; i < sizeof runs / sizeof runs[0]; i++) {
+        const struct run *run = &runs[i];
+        size_t depth = depth_of(run) - empty;
+        int good = depth < limit && result == run->expected;
+
+        printf("%-8s %-24s %4zu bytes of stack%s\n", run->name, run->on, depth,
+               good ? "" : "  FAILED");
+        if (!good)
+            failed = 1;
+    }
+    return failed;
+}
