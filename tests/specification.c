@@ -1,0 +1,226 @@
+/*
+ * Runs worked examples on the archive. They come on standard input as
+ * docs/SPECIFICATION.md has them, without their indent and with an empty line
+ * behind each:
+ *
+ *     CALL     n N, block B, disk D
+ *     array    bytes that are lent; likewise map, data and sheet
+ *     returns  R, count C
+ *     array    bytes afterwards; what is not named here keeps its bytes
+ *
+ * Numbers that a call does not have are left out. The out-parameter is called
+ * count, stripe or offset, and keeps its value where it is not named. `..`
+ * repeats the byte before it up to the buffer's right length. A sheet that is
+ * not given is lent with arbitrary bytes. The last line counts the examples.
+ */
+#include <stdio.h>
+#include <stdlib.h>
+#include <string.h>
+
+#include "raid2d.h"
+
+enum { LINE_MAX_BYTES = 4096, BYTES_MAX = 1024, ARBITRARY = 0xaa };
+
+/* What an out-parameter holds before each call. */
+#define OUT_BEFORE 123456789u
+
+enum { ARRAY, MAP, DATA, SHEET, BUFFERS };
+
+static const char *const buffer_names[BUFFERS] = {
+    "array", "map", "data", "sheet"
+};
+
+struct buffer {
+    uint8_t bytes[BYTES_MAX], expected[BYTES_MAX];
+    size_t len;
+};
+
+struct example {
+    char call[16];
+    size_t n, block, disk;
+    struct buffer buffers[BUFFERS];
+    int returned; /* whether the line `returns` has been read */
+    size_t result, out;
+};
+
+static void stop(const char *why, const char *line)
+{
+    printf("FAILED: %s: %s\n0 passed, 1 failed\n", why, line);
+    exit(1);
+}
+
+/* The length that a buffer should have. */
+static size_t right_length(const struct example *e, int buffer)
+{
+    switch (buffer) {
+    case ARRAY:
+        return RAID2D_ARRAY_BYTES(e->n, e->block);
+    case MAP:
+        return RAID2D_DISKS(e->n);
+    case DATA:
+        return e->block;
+    default:
+        return RAID2D_SHEET_BYTES;
+    }
+}
+
+/* The number behind a name such as `n` in a line, or a default. */
+static size_t number(const char *line, const char *name, size_t otherwise)
+{
+    const char *at = line;
+    size_t length = strlen(name);
+
+    while ((at = strstr(at, name)) != NULL) {
+        if ((at == line || at[-1] == ' ') && at[length] == ' ')
+            return strtoul(at + length, NULL, 10);
+        at++;
+    }
+    return otherwise;
+}
+
+/* Bytes in decimal, and `..` for more of the last. Returns how many. */
+static size_t read_bytes(const char *line, uint8_t *bytes, size_t right)
+{
+    size_t len = 0;
+    const char *at = line + strcspn(line, " ");
+
+    for (at += strspn(at, " "); *at != '\0'; at += strspn(at, " ")) {
+        char *end;
+        unsigned long byte = strtoul(at, &end, 10);
+
+        if (strcmp(at, "..") == 0 && len > 0 && right <= BYTES_MAX) {
+            for (; len < right; len++)
+                bytes[len] = bytes[len - 1];
+            return len;
+        }
+        if (end == at || byte > 255 || len == BYTES_MAX)
+            stop("not a list of bytes", line);
+        bytes[len++] = (uint8_t)byte;
+        at = end;
+    }
+    return len;
+}
+
+static void read_buffer(struct example *e, int which, const char *line)
+{
+    struct buffer *b = &e->buffers[which];
+
+    if (!e->returned) {
+        b->len = read_bytes(line, b->bytes, right_length(e, which));
+        memcpy(b->expected, b->bytes, b->len);
+    } else if (read_bytes(line, b->expected, b->len) != b->len)
+        stop("another length than before", line);
+}
+
+/* One line of an example. The first has the call. */
+static void read_line(struct example *e, const char *line)
+{
+    int i;
+
+    if (e->call[0] == '\0') {
+        sscanf(line, "%15s", e->call);
+        e->n = number(line, "n", 0);
+        e->block = number(line, "block", 0);
+        e->disk = number(line, "disk", 0);
+        e->buffers[SHEET].len = RAID2D_SHEET_BYTES;
+        memset(e->buffers[SHEET].bytes, ARBITRARY, RAID2D_SHEET_BYTES);
+        memset(e->buffers[SHEET].expected, ARBITRARY, RAID2D_SHEET_BYTES);
+        return;
+    }
+    if (strncmp(line, "returns ", 8) == 0) {
+        e->returned = 1;
+        e->result = number(line, "returns", 0);
+        e->out = number(line, "count", number(line, "stripe",
+                        number(line, "offset", OUT_BEFORE)));
+        return;
+    }
+    for (i = 0; i < BUFFERS; i++) {
+        size_t length = strlen(buffer_names[i]);
+
+        if (strncmp(line, buffer_names[i], length) == 0 && line[length] == ' ') {
+            read_buffer(e, i, line);
+            return;
+        }
+    }
+    stop("not a line of an example", line);
+}
+
+static size_t run(struct example *e, size_t *out)
+{
+    uint8_t *array = e->buffers[ARRAY].bytes, *map = e->buffers[MAP].bytes;
+    uint8_t *data = e->buffers[DATA].bytes, *sheet = e->buffers[SHEET].bytes;
+    size_t array_len = e->buffers[ARRAY].len, map_len = e->buffers[MAP].len;
+    size_t data_len = e->buffers[DATA].len, sheet_len = e->buffers[SHEET].len;
+
+    if (strcmp(e->call, "seal") == 0)
+        return raid2d_seal(e->n, e->block, array, array_len);
+    if (strcmp(e->call, "check") == 0)
+        return raid2d_check(e->n, e->block, array, array_len, out);
+    if (strcmp(e->call, "write") == 0)
+        return raid2d_write(e->n, e->block, array, array_len, e->disk, data,
+                            data_len);
+    if (strcmp(e->call, "look") == 0)
+        return raid2d_look(e->n, e->block, array, array_len, map, map_len,
+                           e->disk, out);
+    if (strcmp(e->call, "plan") == 0)
+        return raid2d_plan(e->n, map, map_len, sheet, sheet_len, out);
+    if (strcmp(e->call, "rebuild") == 0)
+        return raid2d_rebuild(e->n, e->block, array, array_len, map, map_len,
+                              sheet, sheet_len, out);
+    if (strcmp(e->call, "follow") == 0)
+        return raid2d_follow(e->n, e->block, array, array_len, map, map_len,
+                             sheet, sheet_len, out);
+    stop("not a call", e->call);
+    return 0;
+}
+
+/* Whether the call answers and leaves what the example says. */
+static int holds(struct example *e, unsigned number)
+{
+    size_t out = OUT_BEFORE, i;
+    size_t result = run(e, &out);
+    int good = e->returned && result == e->result && out == e->out;
+
+    if (!good)
+        printf("FAILED: example %u, %s: returns %zu, out-parameter %zu\n",
+               number, e->call, result, out);
+    for (i = 0; i < BUFFERS; i++) {
+        struct buffer *b = &e->buffers[i];
+        size_t k;
+
+        if (memcmp(b->bytes, b->expected, b->len) == 0)
+            continue;
+        good = 0;
+        printf("FAILED: example %u, %s: %s", number, e->call, buffer_names[i]);
+        for (k = 0; k < b->len; k++)
+            printf(" %u", (unsigned)b->bytes[k]);
+        printf("\n");
+    }
+    return good;
+}
+
+int main(void)
+{
+    static struct example example;
+    static char line[LINE_MAX_BYTES];
+    unsigned passed = 0, failed = 0;
+
+    while (fgets(line, sizeof line, stdin) != NULL) {
+        size_t length = strcspn(line, "\n");
+
+        while (length > 0 && line[length - 1] == ' ')
+            length--;
+        line[length] = '\0';
+        if (length > 0)
+            read_line(&example, line);
+        else if (example.call[0] != '\0') {
+            if (holds(&example, passed + failed + 1))
+                passed++;
+            else
+                failed++;
+            memset(&example, 0, sizeof example);
+        }
+    }
+    printf("%u passed, %u failed\n", passed, failed);
+    return failed != 0 || passed == 0;
+}
