@@ -133,6 +133,20 @@
 extern "C" {
 #endif
 
+/* The version of this header, as three numbers, as one, and as a string. */
+#define RAID2D_VERSION_MAJOR   0
+#define RAID2D_VERSION_MINOR   4
+#define RAID2D_VERSION_PATCH   0
+#define RAID2D_VERSION_NUMBER  400
+#define RAID2D_VERSION_STRING  "0.4.0"
+
+/*
+ * The version of the archive, as one number: 10000 times the major version,
+ * 100 times the minor version and the patch. A host that was built with this
+ * header and linked with that archive finds RAID2D_VERSION_NUMBER here.
+ */
+uint32_t raid2d_version_number(void);
+
 /* Data disks along a side: the range of n. */
 #define RAID2D_SIDE_MIN  2
 #define RAID2D_SIDE_MAX  15

@@ -33,6 +33,15 @@ static void limits_and_sizes(void)
     expect(RAID2D_SHEET_REPAIRS == 1 && RAID2D_SHEET_CYCLE == 2, "kinds");
 }
 
+static void version(void)
+{
+    expect(RAID2D_VERSION_NUMBER == 10000 * RAID2D_VERSION_MAJOR
+               + 100 * RAID2D_VERSION_MINOR + RAID2D_VERSION_PATCH,
+           "version as one number");
+    expect(raid2d_version_number() == RAID2D_VERSION_NUMBER,
+           "version of the archive");
+}
+
 static void numbers_of_statuses(void)
 {
     expect(RAID2D_OK == 0, "number of success");
@@ -123,6 +132,7 @@ static void readers_of_sheets(void)
 void test_header(void)
 {
     limits_and_sizes();
+    version();
     numbers_of_statuses();
     words_of_statuses();
     readers_of_places();

@@ -11,6 +11,14 @@ use model::Checked;
 use model::Outcome;
 use model::Size;
 
+// The version of the library: 10000 times the major number, 100 times the minor number, and the patch.
+#[no_mangle]
+pub extern "C" fn raid2d_version_number() -> u32
+    ensures { λ r. ⌜ r ≡ 400 ⌝ }
+{
+    400
+}
+
 #[no_mangle]
 pub extern "C" fn raid2d_seal(n: usize, block: usize, array: &mut [u8]) -> u32
     ensures status { λ r. ⌜ r ≡ sealStatus (square n) block (now (array .entry)) ⌝ }
