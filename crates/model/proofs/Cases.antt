@@ -1,7 +1,9 @@
--- The worked cases of paper 01 hold: for each, what the definitions give is what the paper says.
+-- The worked cases of paper 01, n = 2 and B = 1, as one list: what the definitions give, and what the paper says. They agree.
 -- Assumes nothing.
 use mathlib.Core.Path.{_≡_, refl}
-use mathlib.Core.List.{map}
+use mathlib.Core.List.{List, [], _∷_, _++_, map}
+use Prim.Native.Nat.{ℕ}
+use lib.ListN.{replicate}
 use Rattle.model.specs.Fold.{_⊕_, xsum, gate, every, bit, count, lowest, tabulate}
 use Rattle.model.specs.Stripes.{among, on, whole, byte, sumOver, stripeSum, sumsToZero}
 use Rattle.model.specs.Grid.{grid, gridOf, square, rows, columns, across, disks, diskAt, isData, arrayBytes, arrayOf, sizeFits, blockFits, mapFits}
@@ -11,10 +13,138 @@ use Rattle.model.specs.Array.{encodedByte, encoded, sealStatus, sealArra
 use Rattle.model.specs.Repair.{erasures, without, alone, allowed, firstAllowed, someAllowed, nextDisk, repairOf, peel, repairs, after, residual, lost, fatal, changed, sumOfOthers, repaired, rebuilt, zeroed, consistent}
 use Rattle.model.specs.Cycle.{below, closing, core, partner, firstOf, otherThan, trace, lowestOf, cycleOf, shownCycle}
 use Rattle.model.specs.Sheet.{chain, sheetOf, blankSheet}
+use Rattle.model.specs.Chain.{entryAt, nextNumber, visited, chainNumbers, within, different, chainFits, entriesAt, chainEntries}
 use Rattle.model.specs.Rebuild.{sheetTests, planTests, mapOutcome, mapSheet, planOutcome, planSheet, outcomeStatus, outcomeCount, rebuildTests, rebuildRefusal, repairedArray, choose, rebuildOutcome, rebuildArray, rebuildSheet}
+use Rattle.model.specs.Follow.{allAllowed, clears, followedArray, followTests, followRefusal, followOutcome, followArray}
 use Rattle.model.specs.Listing.{digit, decimal, repairWord, fatalWord, refusedWord, entryLines, listed, listing}
-use Rattle.model.specs.Cases.{Case, cases}
+use Rattle.model.specs.declared.Size.{Size}
+
+-- A case by its number in the paper: numbers and bytes in one list.
+pub record Case : Type 0 where
+  pub number : ℕ
+  pub computed : List ℕ
+  pub expected : List ℕ
+
+two : Size
+two = record { side = 2 }
+
+-- The paper's sealed array A.
+A : List ℕ
+A = 1 ∷ 2 ∷ 3 ∷ 4 ∷ 8 ∷ 12 ∷ 5 ∷ 10 ∷ 15 ∷ []
+
+-- Whatever stands in the sheet beforehand.
+before : List ℕ
+before = replicate 98 7
+
+-- What plan gives for a map: the number, the count, the sheet.
+planned : List ℕ → List ℕ
+unfolding two before
+planned m = outcomeStatus (planOutcome two m before) ∷ outcomeCount (planOutcome two m before) 99 ∷ planSheet two m before
+
+-- What rebuild gives for an array and a map: the number, the count, the array, the sheet.
+restored : List ℕ → List ℕ → List ℕ
+unfolding two before
+restored a m =
+    outcomeStatus (rebuildOutcome two 1 a m before) ∷ outcomeCount (rebuildOutcome two 1 a m before) 99
+    ∷ rebuildArray two 1 a m before ++ rebuildSheet two 1 a m before
+
+-- What follow gives for an array, a map and a sheet: the number, the count, the array.
+followed : (a m sheet : List ℕ) → List ℕ
+unfolding two
+followed a m sheet =
+    outcomeStatus (followOutcome two 1 a m sheet) ∷ outcomeCount (followOutcome two 1 a m sheet) 99 ∷ followArray two 1 a m sheet
+
+unfoldable pub cases : List Case
+unfolding two A planned restored followed
+cases =
+    -- Data 1 2 / 4 8 seals to A, whatever stands in the parities' place.
+    record {
+      number = 1;
+      computed =
+          sealStatus two 1 (1 ∷ 2 ∷ 99 ∷ 4 ∷ 8 ∷ 7 ∷ 6 ∷ 5 ∷ 4 ∷ []) ∷ sealArray two 1 (1 ∷ 2 ∷ 99 ∷ 4 ∷ 8 ∷ 7 ∷ 6 ∷ 5 ∷ 4 ∷ []);
+      expected = 0 ∷ A;
+    }
+    -- No disk erased: restored, no repairs; byte 0 of the sheet is 1, the rest zero.
+    ∷ record {
+      number = 2;
+      computed = restored A (0 ∷ 0 ∷ 0 ∷ 0 ∷ 0 ∷ 0 ∷ 0 ∷ 0 ∷ 0 ∷ []);
+      expected = 0 ∷ 0 ∷ A ++ 1 ∷ replicate 97 0;
+    }
+    -- Disks 0, 2, 6 erased: the sheet, and A is restored whatever stands on them; the listing has the lines `repair 3`, `2 18`,
+    -- `0 0` and `6 2`.
+    ∷ record {
+      number = 3;
+      computed =
+          restored (7 ∷ 2 ∷ 7 ∷ 4 ∷ 8 ∷ 12 ∷ 7 ∷ 10 ∷ 15 ∷ []) (1 ∷ 0 ∷ 1 ∷ 0 ∷ 0 ∷ 0 ∷ 1 ∷ 0 ∷ 0 ∷ [])
+          ++ listing (2 ∷ 1 ∷ 0 ∷ 1 ∷ 0 ∷ 0 ∷ 0 ∷ 1 ∷ 0 ∷ 0 ∷ []);
+      expected =
+          0 ∷ 3 ∷ A ++ 1 ∷ 1 ∷ 2 ∷ 18 ∷ 2 ∷ 0 ∷ 0 ∷ 3 ∷ 6 ∷ 2 ∷ 0 ∷ replicate 87 0
+          ++ 114 ∷ 101 ∷ 112 ∷ 97 ∷ 105 ∷ 114 ∷ 32 ∷ 51 ∷ 10 ∷ 50 ∷ 32 ∷ 49 ∷ 56 ∷ 10 ∷ 48 ∷ 32 ∷ 48 ∷ 10 ∷ 54 ∷ 32 ∷ 50 ∷ 10 ∷ [];
+    }
+    -- Disks 0, 2, 6, 8 erased: fatal, 4 lost; loop 0, 2, 8, 6 on stripes 0, 18, 2, 16. Nothing else changes. The listing begins
+    -- with `fatal 4`.
+    ∷ record {
+      number = 4;
+      computed =
+          planned (1 ∷ 0 ∷ 1 ∷ 0 ∷ 0 ∷ 0 ∷ 1 ∷ 0 ∷ 1 ∷ []) ++ restored A (1 ∷ 0 ∷ 1 ∷ 0 ∷ 0 ∷ 0 ∷ 1 ∷ 0 ∷ 1 ∷ [])
+          ++ listing (2 ∷ 1 ∷ 0 ∷ 1 ∷ 0 ∷ 0 ∷ 0 ∷ 1 ∷ 0 ∷ 1 ∷ []);
+      expected =
+          6 ∷ 4 ∷ 2 ∷ 1 ∷ 0 ∷ 0 ∷ 2 ∷ 2 ∷ 18 ∷ 3 ∷ 8 ∷ 2 ∷ 4 ∷ 6 ∷ 16 ∷ 0 ∷ replicate 84 0
+          ++ 6 ∷ 4 ∷ A ++ 2 ∷ 1 ∷ 0 ∷ 0 ∷ 2 ∷ 2 ∷ 18 ∷ 3 ∷ 8 ∷ 2 ∷ 4 ∷ 6 ∷ 16 ∷ 0 ∷ replicate 84 0
+          ++ 102 ∷ 97 ∷ 116 ∷ 97 ∷ 108 ∷ 32 ∷ 52 ∷ 10 ∷ 48 ∷ 32 ∷ 48 ∷ 10 ∷ 50 ∷ 32 ∷ 49 ∷ 56 ∷ 10 ∷ 56 ∷ 32 ∷ 50 ∷ 10 ∷ 54 ∷ 32 ∷ 49 ∷ 54 ∷ 10 ∷ [];
+    }
+    -- Disks 0, 1, 3, 4 erased: fatal.
+    ∷ record {
+      number = 5;
+      computed = planned (1 ∷ 1 ∷ 0 ∷ 1 ∷ 1 ∷ 0 ∷ 0 ∷ 0 ∷ 0 ∷ []);
+      expected = 6 ∷ 4 ∷ 2 ∷ 1 ∷ 0 ∷ 0 ∷ 2 ∷ 1 ∷ 17 ∷ 3 ∷ 4 ∷ 1 ∷ 4 ∷ 3 ∷ 16 ∷ 0 ∷ replicate 84 0;
+    }
+    -- Disks 0, 4, 8 erased: repairs 0, 4, 8, on stripes 0, 1, 2.
+    ∷ record {
+      number = 6;
+      computed = restored (7 ∷ 2 ∷ 3 ∷ 4 ∷ 7 ∷ 12 ∷ 5 ∷ 10 ∷ 7 ∷ []) (1 ∷ 0 ∷ 0 ∷ 0 ∷ 1 ∷ 0 ∷ 0 ∷ 0 ∷ 1 ∷ []);
+      expected = 0 ∷ 3 ∷ A ++ 1 ∷ 1 ∷ 0 ∷ 0 ∷ 2 ∷ 4 ∷ 1 ∷ 3 ∷ 8 ∷ 2 ∷ 0 ∷ replicate 87 0;
+    }
+    -- Disks 0, 1, 2, 3, 6 erased: restored, the full five.
+    ∷ record {
+      number = 7;
+      computed = restored (7 ∷ 7 ∷ 7 ∷ 7 ∷ 8 ∷ 12 ∷ 7 ∷ 10 ∷ 15 ∷ []) (1 ∷ 1 ∷ 1 ∷ 1 ∷ 0 ∷ 0 ∷ 1 ∷ 0 ∷ 0 ∷ []);
+      expected = 0 ∷ 5 ∷ A ++ 1 ∷ 1 ∷ 1 ∷ 17 ∷ 2 ∷ 2 ∷ 18 ∷ 3 ∷ 0 ∷ 0 ∷ 4 ∷ 3 ∷ 1 ∷ 5 ∷ 6 ∷ 2 ∷ 0 ∷ replicate 81 0;
+    }
+    -- A with disk 8 holding 14, disk 0 erased: refusal 7, disk 0 becomes 0, and the sheet is zero.
+    ∷ record {
+      number = 8;
+      computed = restored (1 ∷ 2 ∷ 3 ∷ 4 ∷ 8 ∷ 12 ∷ 5 ∷ 10 ∷ 14 ∷ []) (1 ∷ 0 ∷ 0 ∷ 0 ∷ 0 ∷ 0 ∷ 0 ∷ 0 ∷ 0 ∷ []);
+      expected = 7 ∷ 99 ∷ 0 ∷ 2 ∷ 3 ∷ 4 ∷ 8 ∷ 12 ∷ 5 ∷ 10 ∷ 14 ∷ replicate 98 0;
+    }
+    -- Write 9 to disk 0 of A: disks 0, 2, 6, 8 become 9, 11, 13, 7.
+    ∷ record {
+      number = 9;
+      computed = writeStatus two 1 A 0 (9 ∷ []) ∷ writeArray two 1 A 0 (9 ∷ []);
+      expected = 0 ∷ 9 ∷ 2 ∷ 11 ∷ 4 ∷ 8 ∷ 12 ∷ 13 ∷ 10 ∷ 7 ∷ [];
+    }
+    -- The listing for empty input and for a size without a map: `refused 1`, `refused 4`. These have no number in the paper.
+    ∷ record {
+      number = 0;
+      computed = listing [] ++ listing (2 ∷ []);
+      expected = 114 ∷ 101 ∷ 102 ∷ 117 ∷ 115 ∷ 101 ∷ 100 ∷ 32 ∷ 49 ∷ 10 ∷ 114 ∷ 101 ∷ 102 ∷ 117 ∷ 115 ∷ 101 ∷ 100 ∷ 32 ∷ 52 ∷ 10 ∷ [];
+    }
+    -- Case 3's repairs from a sheet whose chain visits records 3, 1 and 2, with other bytes behind them; the same with a ring; the
+    -- same with a disk left over.
+    ∷ record {
+      number = 0;
+      computed =
+          followed (7 ∷ 2 ∷ 7 ∷ 4 ∷ 8 ∷ 12 ∷ 7 ∷ 10 ∷ 15 ∷ []) (1 ∷ 0 ∷ 1 ∷ 0 ∷ 0 ∷ 0 ∷ 1 ∷ 0 ∷ 0 ∷ [])
+          (1 ∷ 3 ∷ 0 ∷ 0 ∷ 2 ∷ 6 ∷ 2 ∷ 0 ∷ 2 ∷ 18 ∷ 1 ∷ replicate 87 99)
+          ++ followed (7 ∷ 2 ∷ 7 ∷ 4 ∷ 8 ∷ 12 ∷ 7 ∷ 10 ∷ 15 ∷ []) (1 ∷ 0 ∷ 1 ∷ 0 ∷ 0 ∷ 0 ∷ 1 ∷ 0 ∷ 0 ∷ [])
+          (1 ∷ 3 ∷ 0 ∷ 0 ∷ 2 ∷ 6 ∷ 2 ∷ 3 ∷ 2 ∷ 18 ∷ 1 ∷ replicate 87 0)
+          ++ followed (7 ∷ 2 ∷ 7 ∷ 4 ∷ 8 ∷ 12 ∷ 7 ∷ 10 ∷ 15 ∷ []) (1 ∷ 0 ∷ 1 ∷ 0 ∷ 0 ∷ 0 ∷ 1 ∷ 0 ∷ 0 ∷ [])
+          (1 ∷ 3 ∷ 0 ∷ 0 ∷ 0 ∷ 6 ∷ 2 ∷ 0 ∷ 2 ∷ 18 ∷ 1 ∷ replicate 87 0);
+      expected =
+          0 ∷ 3 ∷ A ++ 10 ∷ 99 ∷ 7 ∷ 2 ∷ 7 ∷ 4 ∷ 8 ∷ 12 ∷ 7 ∷ 10 ∷ 15 ∷ 11 ∷ 99 ∷ 7 ∷ 2 ∷ 7 ∷ 4 ∷ 8 ∷ 12 ∷ 7 ∷ 10 ∷ 15 ∷ [];
+    }
+    ∷ []
 
 pub cases-hold : map (λ (c : Case). c .computed) cases ≡ map (λ (c : Case). c .expected) cases
-unfolding cases sealStatus sealArray encoded encodedByte writeStatus writeArray writeTests written writtenByte isParityOf refusal arrayTests sizeFits blockFits arrayBytes arrayOf disks across rows columns diskAt isData rowData columnData cell byte whole xsum _⊕_ tabulate gate every bit count lowest among on sumOver stripeSum sumsToZero grid gridOf mapFits erasures without alone allowed firstAllowed someAllowed nextDisk repairOf peel repairs after residual lost fatal changed sumOfOthers repaired rebuilt zeroed consistent below closing core partner firstOf otherThan trace lowestOf cycleOf shownCycle chain sheetOf blankSheet sheetTests planTests mapOutcome mapSheet planOutcome planSheet outcomeStatus outcomeCount rebuildTests rebuildRefusal repairedArray choose rebuildOutcome rebuildArray rebuildSheet square digit decimal repairWord fatalWord refusedWord entryLines listed listing
+unfolding cases sealStatus sealArray encoded encodedByte writeStatus writeArray writeTests written writtenByte isParityOf refusal arrayTests sizeFits blockFits arrayBytes arrayOf disks across rows columns diskAt isData rowData columnData cell byte whole xsum _⊕_ tabulate gate every bit count lowest among on sumOver stripeSum sumsToZero grid gridOf mapFits erasures without alone allowed firstAllowed someAllowed nextDisk repairOf peel repairs after residual lost fatal changed sumOfOthers repaired rebuilt zeroed consistent below closing core partner firstOf otherThan trace lowestOf cycleOf shownCycle chain sheetOf blankSheet sheetTests planTests mapOutcome mapSheet planOutcome planSheet outcomeStatus outcomeCount rebuildTests rebuildRefusal repairedArray choose rebuildOutcome rebuildArray rebuildSheet entryAt nextNumber visited chainNumbers within different chainFits entriesAt chainEntries allAllowed clears followedArray followTests followRefusal followOutcome followArray square digit decimal repairWord fatalWord refusedWord entryLines listed listing
 cases-hold = refl

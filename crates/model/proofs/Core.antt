@@ -13,11 +13,11 @@ use lib.Dec.{ltb}
 use lib.ListN.{length, getD}
 use Rattle.model.specs.Fold.{_⊕_, xsum, gate, bit, count, tabulate}
 use Rattle.model.specs.Stripes.{Layout, TwoStripes, on, Stretch, byte, sumOver, stripeSum, Codeword}
-use Rattle.model.specs.Repair.{without, Stuck, repairs, fatal, Ambiguous}
+use Rattle.model.specs.Repair.{without, repairs, fatal, Ambiguous}
 use Rattle.model.specs.Cycle.{below, closing, core, Paired}
 use Rattle.model.proofs.Xor.{zero-⊕, ⊕-zero, ⊕-self}
 use Rattle.model.proofs.Fold.{and-left, and-right, and-both, by-cases, lt-or-le, xsum-ext, bit-le, count-some, count-found, count-without, Lowest, lowest-is, length-tabulate, getD-tabulate}
-use Rattle.model.proofs.Peel.{Within, without-at, without-other, without-sub, stuck-other, repairs-peels, residual-stuck, residual-sub, is-fatal, fatal-of-stuck, fatal-mono, repairs-count}
+use Rattle.model.proofs.Peel.{Within, Stuck, without-at, without-other, without-sub, stuck-other, repairs-peels, residual-stuck, residual-sub, is-fatal, fatal-of-stuck, fatal-mono, repairs-count}
 use Rattle.model.proofs.Degree.{total, total-times, total-squeeze, count-total, count-two, Other, count-other, degree, touched, touches, on-low, on-bound, degrees, touching, touched-mono, peels-fewer}
 
 -- ---- paired disks

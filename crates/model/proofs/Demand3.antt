@@ -12,17 +12,17 @@ use Rattle.model.specs.Fold.{count}
 use Rattle.model.specs.Stripes.{Layout, TwoStripes, whole, Codeword, Bytes}
 use Rattle.model.specs.Grid.{square, rows, columns, gridOf, sizeFits}
 use Rattle.model.specs.Refusal.{refusal, arrayTests}
-use Rattle.model.specs.Repair.{erasures, Entry, Peels, Stuck, repairs, after, residual, fatal, rebuilt, consistent, Agree, Belongs, Ambiguous}
+use Rattle.model.specs.Repair.{erasures, Entry, Peels, repairs, after, residual, fatal, rebuilt, consistent, Agree, Belongs, Ambiguous}
 use Rattle.model.specs.Cycle.{Cycle, Loop}
 use Rattle.model.specs.Sheet.{sheetOf, SheetBytes}
 use Rattle.model.specs.Rebuild.{planTests, mapOutcome, mapSheet, planOutcome, planSheet, rebuildTests, rebuildRefusal, repairedArray, choose, rebuildOutcome, rebuildArray, rebuildSheet}
-use Rattle.model.specs.Demand3.{Demand3, resultsOf}
+use Rattle.model.specs.Demand3.{Results, Demand3}
 use Rattle.model.specs.declared.Size.{Size}
 use Rattle.model.specs.declared.Outcome.the-variants.{Refused}
 use Rattle.model.proofs.Fold.{by-cases}
 use Rattle.model.proofs.Grid.{gridOf-two}
 use Rattle.model.proofs.Refusal.{given-refused, ArrayFits, array-tests}
-use Rattle.model.proofs.Peel.{residual-stuck, order-free-all, repairs-count}
+use Rattle.model.proofs.Peel.{Stuck, residual-stuck, order-free-all, repairs-count}
 use Rattle.model.proofs.Degree.{grid-repairs}
 use Rattle.model.proofs.Core.{ambiguous}
 use Rattle.model.proofs.Trace.{cycle-fatal, shown}
@@ -130,6 +130,17 @@ pub contents-free : (z : Size) (B : ℕ) (a b m sheet : List ℕ)
     × (fatal (gridOf z) (erasures m) ≡ false → rebuildArray z B b m sheet ≡ rebuildArray z B a m sheet)
 contents-free z B a b m sheet ok long same =
     (same-outcome z B a b m sheet ok long same, same-sheet z B a b m sheet ok long same, same-array z B a b m sheet ok long same)
+
+-- What plan and rebuild are defined to give.
+unfoldable pub resultsOf : Size → ℕ → (a m planSheet sheet : List ℕ) → Results
+resultsOf z B a m s₁ s₂ =
+    record {
+      planned = planOutcome z m s₁;
+      planSheet = planSheet z m s₁;
+      rebuilt = rebuildOutcome z B a m s₂;
+      array = rebuildArray z B a m s₂;
+      sheet = rebuildSheet z B a m s₂;
+    }
 
 -- Demand 3 holds of what plan and rebuild are defined to give, for every input that the refusals before 6 let through.
 pub demand3 : (z : Size) (B : ℕ) (a m s₁ s₂ : List ℕ) → Bytes a

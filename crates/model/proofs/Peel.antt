@@ -15,7 +15,7 @@ use lib.ListN.{length, take, getD}
 use lib.Seq.{take-length, take-suc}
 use Rattle.model.specs.Fold.{bit, count}
 use Rattle.model.specs.Stripes.{Layout, TwoStripes, among, on}
-use Rattle.model.specs.Repair.{without, Entry, alone, allowed, firstAllowed, someAllowed, Peels, Stuck, nextDisk, repairOf, peel, repairs, after, residual, lost, fatal}
+use Rattle.model.specs.Repair.{without, Entry, alone, allowed, firstAllowed, someAllowed, Peels, nextDisk, repairOf, peel, repairs, after, residual, lost, fatal}
 use Rattle.model.specs.Cycle.{diskOf, stripeOf}
 use Rattle.model.specs.Demand3.{InOrder}
 use Rattle.model.proofs.Fold.{and-left, and-right, and-both, or-left, or-right, same-test, by-cases, lt-or-le, every-at, every-fails, count-le, count-none, count-zero-none, count-some, count-found, count-first, count-without, lowest-is}
@@ -55,6 +55,10 @@ without-bit e d i h = go (eqb d i) refl
     go false q = let same = ap bit (without-other e d i (λ k. eqb-false d i q (sym k))) in omega arith
 
 -- ---- repairs that are allowed
+
+-- No repair is allowed.
+abbrev pub Stuck : Layout → (ℕ → Bool) → Type 0
+Stuck L e = (d s : ℕ) → allowed L e d s ≡ false
 
 -- What the test of a repair says.
 pub record Allowed (L : Layout) (e : ℕ → Bool) (d s : ℕ) : Type 0 where

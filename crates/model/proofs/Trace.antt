@@ -12,10 +12,10 @@ use lib.Dec.{eqb, ltb}
 use lib.ListN.{length, getD}
 use Rattle.model.specs.Fold.{count, lowest}
 use Rattle.model.specs.Stripes.{Layout, TwoStripes, on}
-use Rattle.model.specs.Repair.{Entry, Stuck, fatal}
+use Rattle.model.specs.Repair.{Entry, fatal}
 use Rattle.model.specs.Cycle.{diskOf, stripeOf, following, Cycle, Paired, firstOf, trace, lowestOf, cycleOf, core, shownCycle}
 use Rattle.model.proofs.Fold.{count-ext, count-some, count-found, Lowest, lowest-is}
-use Rattle.model.proofs.Peel.{Within, other-stuck, fatal-of-stuck}
+use Rattle.model.proofs.Peel.{Within, Stuck, other-stuck, fatal-of-stuck}
 use Rattle.model.proofs.Degree.{count-other, on-low, on-which}
 use Rattle.model.proofs.Core.{core-sub, core-some, core-paired}
 use Rattle.model.proofs.Counts.{count-pair}

@@ -14,7 +14,7 @@ use Rattle.model.specs.Grid.{gridOf, disks, rows, columns}
 use Rattle.model.specs.Repair.{erasures, Entry, allowed, after, lost, zeroed, Agree, Belongs, Ambiguous}
 use Rattle.model.specs.Cycle.{diskOf, stripeOf, Loop}
 use Rattle.model.specs.Sheet.{sheetOf, blankSheet}
-use Rattle.model.specs.Rebuild.{planOutcome, planSheet, outcomeStatus, rebuildOutcome, rebuildArray, rebuildSheet}
+use Rattle.model.specs.Rebuild.{outcomeStatus}
 use Rattle.model.specs.declared.Size.{Size}
 use Rattle.model.specs.declared.Outcome.{Outcome}
 use Rattle.model.specs.declared.Outcome.the-variants.{Repairs, Fatal}
@@ -43,17 +43,6 @@ pub record Results : Type 0 where
   pub rebuilt : Outcome
   pub array : List ℕ
   pub sheet : List ℕ
-
--- What they are defined to give.
-unfoldable pub resultsOf : Size → ℕ → (a m planSheet sheet : List ℕ) → Results
-resultsOf z B a m s₁ s₂ =
-    record {
-      planned = planOutcome z m s₁;
-      planSheet = planSheet z m s₁;
-      rebuilt = rebuildOutcome z B a m s₂;
-      array = rebuildArray z B a m s₂;
-      sheet = rebuildSheet z B a m s₂;
-    }
 
 pub record Demand3 (z : Size) (B : ℕ) (a m : List ℕ) (r : Results) : Type 0 where
   -- Plan and rebuild each call the loss fatal, by 6, exactly if two different sealed arrays of that size and block length agree

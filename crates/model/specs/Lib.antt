@@ -12,4 +12,3 @@ pub mod Rebuild
 pub mod Follow
 pub mod Listing
 pub mod Demand3
-pub mod Cases

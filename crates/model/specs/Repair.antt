@@ -48,10 +48,6 @@ abbrev pub Peels : Layout → (ℕ → Bool) → List Entry → Type 0
 Peels L e [] = Unit {0}
 Peels L e (r ∷ rs) = (allowed L e (r .disk) (r .stripe) ≡ true) × Peels L (without e (r .disk)) rs
 
--- No repair is allowed.
-abbrev pub Stuck : Layout → (ℕ → Bool) → Type 0
-Stuck L e = (d s : ℕ) → allowed L e d s ≡ false
-
 -- ---- Plan's order
 
 -- The lowest-numbered disk that can be repaired, or the number of disks where there is none.

@@ -3,8 +3,8 @@
 use mathlib.Core.Path.{sym, subst}
 use native.Mathlib.Omega.{arith}
 use borrow.Author.Needs.{needs}
-use Rattle.model.specs.Demand3.{Demand3, resultsOf}
-use Rattle.model.proofs.Demand3.{demand3}
+use Rattle.model.specs.Demand3.{Demand3}
+use Rattle.model.proofs.Demand3.{resultsOf, demand3}
 use Rattle.demands.proofs.plan_and_rebuild.Statement.{statement}
 use Rattle.demands.proofs.plan_and_rebuild.Tie as tie
 
