@@ -1,10 +1,16 @@
-// Demand 3 of paper 01 about the calls themselves: both are made on one input, and what they answer and leave behind is what
-// the demand says.
+// What is proved of the definitions, said of the calls themselves: demand 3 of paper 01 of plan and rebuild, which are made on one
+// input, and of follow that it does as rebuild.
 ghost use mathlib.Core.Path.{_≡_};
+ghost use mathlib.Core.Bool.{true};
+ghost use mathlib.Core.Logic.{_↔_};
 ghost use lib.ListN.{length};
+ghost use Rattle.model.specs.Stripes.{whole};
+ghost use Rattle.model.specs.Grid.{gridOf};
 ghost use Rattle.model.specs.Refusal.{refusal};
+ghost use Rattle.model.specs.Repair.{erasures, fatal, Belongs};
 ghost use Rattle.model.specs.Rebuild.{planTests, planOutcome, planSheet};
-ghost use Rattle.model.specs.Rebuild.{rebuildTests, rebuildOutcome, rebuildArray, rebuildSheet};
+ghost use Rattle.model.specs.Rebuild.{rebuildTests, rebuildRefusal, rebuildOutcome, rebuildArray, rebuildSheet, outcomeStatus};
+ghost use Rattle.model.specs.Follow.{Usable};
 ghost use Rattle.model.specs.Demand3.{Demand3};
 use model::Outcome;
 use model::Size;
@@ -55,4 +61,24 @@ pub fn plan_and_rebuild(
         planned: planned,
         rebuilt: rebuilt,
     }
+}
+
+// Follows a sheet from elsewhere. With a usable sheet it answers and leaves what rebuild would, whatever the order of the repairs;
+// it refuses by 7 exactly if such a sheet meets survivors that belong to no sealed array; and where the loss is fatal, no sheet
+// makes it change anything.
+pub fn follow_sheet(size: Size, block: usize, array: &mut [u8], map: &[u8], sheet: &[u8]) -> Outcome
+    ensures rebuilt { λ r. ⌜
+        (Usable size (now (map .entry)) (now (sheet .entry))
+        → (r ≡ rebuildOutcome size block (now (array .entry)) (now (map .entry)) (now (sheet .entry)))
+        × (now (array .exit) ≡ rebuildArray size block (now (array .entry)) (now (map .entry)) (now (sheet .entry))))
+        ⌝ }
+    ensures contradicted { λ r. ⌜
+        (rebuildRefusal size block (now (array .entry)) (now (map .entry)) (now (sheet .entry)) ≡ 0
+        → ((outcomeStatus r ≡ 7)
+        ↔ (Usable size (now (map .entry)) (now (sheet .entry))
+        × (Belongs (gridOf size) (whole block) (erasures (now (map .entry))) (now (array .entry)) → ⊥))))
+        ⌝ }
+    ensures kept { λ r. ⌜ (fatal (gridOf size) (erasures (now (map .entry))) ≡ true → now (array .exit) ≡ now (array .entry)) ⌝ }
+{
+    follow::follow(size, block, array, map, sheet)
 }

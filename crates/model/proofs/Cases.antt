@@ -12,7 +12,7 @@ use Rattle.model.specs.Refusal.{refusal, arrayTests}
 use Rattle.model.specs.Array.{encodedByte, encoded, sealStatus, sealArray, writeTests, isParityOf, writtenByte, written, writeStatus, writeArray}
 use Rattle.model.specs.Repair.{erasures, without, alone, allowed, firstAllowed, someAllowed, nextDisk, repairOf, peel, repairs, after, residual, lost, fatal, changed, sumOfOthers, repaired, rebuilt, zeroed, consistent}
 use Rattle.model.specs.Cycle.{below, closing, core, partner, firstOf, otherThan, trace, lowestOf, cycleOf, shownCycle}
-use Rattle.model.specs.Sheet.{chain, sheetOf, blankSheet}
+use Rattle.model.specs.Sheet.{chainBytes, sheetOf, blankSheet}
 use Rattle.model.specs.Chain.{entryAt, nextNumber, visited, chainNumbers, within, different, chainFits, entriesAt, chainEntries}
 use Rattle.model.specs.Rebuild.{sheetTests, planTests, mapOutcome, mapSheet, planOutcome, planSheet, outcomeStatus, outcomeCount, rebuildTests, rebuildRefusal, repairedArray, choose, rebuildOutcome, rebuildArray, rebuildSheet}
 use Rattle.model.specs.Follow.{allAllowed, clears, followedArray, followTests, followRefusal, followOutcome, followArray}
@@ -146,5 +146,5 @@ cases =
     ∷ []
 
 pub cases-hold : map (λ (c : Case). c .computed) cases ≡ map (λ (c : Case). c .expected) cases
-unfolding cases sealStatus sealArray encoded encodedByte writeStatus writeArray writeTests written writtenByte isParityOf refusal arrayTests sizeFits blockFits arrayBytes arrayOf disks across rows columns diskAt isData rowData columnData cell byte whole xsum _⊕_ tabulate gate every bit count lowest among on sumOver stripeSum sumsToZero grid gridOf mapFits erasures without alone allowed firstAllowed someAllowed nextDisk repairOf peel repairs after residual lost fatal changed sumOfOthers repaired rebuilt zeroed consistent below closing core partner firstOf otherThan trace lowestOf cycleOf shownCycle chain sheetOf blankSheet sheetTests planTests mapOutcome mapSheet planOutcome planSheet outcomeStatus outcomeCount rebuildTests rebuildRefusal repairedArray choose rebuildOutcome rebuildArray rebuildSheet entryAt nextNumber visited chainNumbers within different chainFits entriesAt chainEntries allAllowed clears followedArray followTests followRefusal followOutcome followArray square digit decimal repairWord fatalWord refusedWord entryLines listed listing
+unfolding cases sealStatus sealArray encoded encodedByte writeStatus writeArray writeTests written writtenByte isParityOf refusal arrayTests sizeFits blockFits arrayBytes arrayOf disks across rows columns diskAt isData rowData columnData cell byte whole xsum _⊕_ tabulate gate every bit count lowest among on sumOver stripeSum sumsToZero grid gridOf mapFits erasures without alone allowed firstAllowed someAllowed nextDisk repairOf peel repairs after residual lost fatal changed sumOfOthers repaired rebuilt zeroed consistent below closing core partner firstOf otherThan trace lowestOf cycleOf shownCycle chainBytes sheetOf blankSheet sheetTests planTests mapOutcome mapSheet planOutcome planSheet outcomeStatus outcomeCount rebuildTests rebuildRefusal repairedArray choose rebuildOutcome rebuildArray rebuildSheet entryAt nextNumber visited chainNumbers within different chainFits entriesAt chainEntries allAllowed clears followedArray followTests followRefusal followOutcome followArray square digit decimal repairWord fatalWord refusedWord entryLines listed listing
 cases-hold = refl

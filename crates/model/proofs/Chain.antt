@@ -2,7 +2,7 @@
 -- Assumes nothing.
 use mathlib.Core.Path.{_≡_, refl, sym, _∙_, ap, ap₂}
 use mathlib.Core.Bool.{Bool, true, false, cond, not, _&&_, _||_, and-assoc, or-true, true≢false, false≢true}
-use mathlib.Core.Logic.{_⊎_, inl, inr, ⊎-elim}
+use mathlib.Core.Logic.{_↔_, _⊎_, inl, inr, ⊎-elim}
 use mathlib.Core.List.{List, [], _∷_, _++_, append-nil}
 use Prim.Native.Nat.{ℕ, zero, suc, _+_, _*_, _-_, _≤_, _<_, zero-le}
 use native.Mathlib.Nat.{le-refl, le-of-suc-le-suc, not-suc-le-zero, pos-of-ne-zero}
@@ -323,6 +323,18 @@ module _ (s : List ℕ) where
   pub fits-linked : chainFits s ≡ true → Linked s (getD s 1 0) (chainNumbers s) (chainEntries s)
   unfolding chainNumbers chainEntries
   fits-linked e = let most = fits-few s e in visited-linked 33 (getD s 1 0) (omega arith)
+
+  -- What refusal 10 tests, in one sentence: the kind is 1, and from the first number on the chain visits records up to 32 and ends.
+  pub chain-exact : (chainFits s ≡ true)
+      ↔ ((getD s 0 0 ≡ 1) × ((ks : List ℕ) × (w : List Entry) × Linked s (getD s 1 0) ks w × (within 32 ks ≡ true)))
+  unfolding chainFits
+  chain-exact = (
+    λ e. (
+      eqb-true (getD s 0 0) 1 (and-left (eqb (getD s 0 0) 1) _ e),
+      (chainNumbers s, chainEntries s, fits-linked e, fits-numbers s e .0),
+    ),
+    λ (kind, (ks, w, linked, inside)). linked-fits ks w kind linked inside .0,
+  )
 
   pub chain-few : chainFits s ≡ true → length (chainEntries s) ≤ 32
   unfolding chainEntries

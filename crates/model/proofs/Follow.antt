@@ -1,4 +1,5 @@
--- Follow: what comes of a sheet from elsewhere, in the words of paper 01, for every size, block, map, array and sheet.
+-- Follow: what comes of a sheet from elsewhere, in the words of paper 01, for every size, block, map, sheet and array. Where a
+-- theorem asks for `Bytes a`, the array's numbers are bytes, as those of a lent buffer are.
 -- Assumes nothing.
 use mathlib.Core.Path.{_≡_, refl, sym, _∙_, ap}
 use mathlib.Core.Bool.{Bool, true, false, cond, true≢false}
@@ -19,7 +20,7 @@ use Rattle.model.specs.Cycle.{shownCycle}
 use Rattle.model.specs.Sheet.{sheetOf}
 use Rattle.model.specs.Chain.{entryAt, nextNumber, chainNumbers, within, chainFits, chainEntries}
 use Rattle.model.specs.Rebuild.{sheetTests, planTests, mapOutcome, mapSheet, planSheet, outcomeStatus, rebuildTests, rebuildRefusal, repairedArray, choose, rebuildOutcome, rebuildArray}
-use Rattle.model.specs.Follow.{clears, followedArray, followTests, followRefusal, followOutcome, followArray}
+use Rattle.model.specs.Follow.{clears, Usable, followedArray, followTests, followRefusal, followOutcome, followArray}
 use Rattle.model.specs.declared.Size.{Size}
 use Rattle.model.specs.declared.Outcome.{Outcome}
 use Rattle.model.specs.declared.Outcome.the-variants.{Repairs, Refused}
@@ -29,18 +30,15 @@ use Rattle.model.proofs.Refusal.{passes, by-test, refused-first, passed
 use Rattle.model.proofs.Peel.{repairs-peels, repairs-count}
 use Rattle.model.proofs.Degree.{grid-repairs-bound}
 use Rattle.model.proofs.Restore.{consistent-iff, grid-bounded, grid-sized}
-use Rattle.model.proofs.Clears.{clears-length, clears-fine, repairs-clear, clears-restored, clears-judged, clears-alike}
+use Rattle.model.proofs.Clears.{clears-peels, clears-length, clears-fine, repairs-clear, clears-restored, clears-judged, clears-alike}
 use Rattle.model.proofs.Accept.{sheet-small}
 use Rattle.model.proofs.Sheets.{sheet-length}
 use Rattle.model.proofs.Chain.{written-chain, loop-sheet-unfit, Linked, linked-fits, off-chain}
+use Rattle.model.proofs.Demand3.{contents-free}
 
 -- Follow answers o and leaves the array as b.
 abbrev pub Gives : Size → ℕ → (a m s : List ℕ) → Outcome → (b : List ℕ) → Type 0
 Gives z B a m s o b = (followOutcome z B a m s ≡ o) × (followArray z B a m s ≡ b)
-
--- The chain of the sheet fits, and it lists allowed repairs that leave no disk erased.
-abbrev pub Usable : Size → (m s : List ℕ) → Type 0
-Usable z m s = (chainFits s ≡ true) × (clears (gridOf z) (erasures m) (chainEntries s) ≡ true)
 
 -- ---- what follow gives, by its number
 module _ (z : Size) (B : ℕ) (a m s : List ℕ) where
@@ -262,10 +260,49 @@ pub follow-off-chain : (z : Size) (B : ℕ) (a m s t : List ℕ) → length s �
 unfolding followOutcome followArray followRefusal followTests followedArray
 follow-off-chain z B a m s t long kind first same = let (fit, lists) = off-chain s t kind first same in rw (long, fit, lists) (refl, refl)
 
--- Its chain may visit records in any order: every chain of records up to 32 that lists plan's repairs gives what rebuild gives.
-pub follow-any-order : (z : Size) (B : ℕ) (a m s t : List ℕ) → length s ≡ length t → Bytes a → fatal (gridOf z) (erasures m) ≡ false
-    → getD s 0 0 ≡ 1 → (ks : List ℕ) → within 32 ks ≡ true → Linked s (getD s 1 0) ks (repairs (gridOf z) (erasures m))
-    → AsRebuild z B a m s t
-follow-any-order z B a m s t long small fine kind ks inside linked =
-    let (chain, lists, numbers) = linked-fits s ks (repairs (gridOf z) (erasures m)) kind linked inside in
-    follow-any z B a m s t long small (chain, rw lists (repairs-clear (gridOf z) (erasures m) fine))
+-- Its chain may visit records in any order: every chain of records up to 32 that lists allowed repairs and leaves nothing erased
+-- gives what rebuild gives.
+pub follow-any-order : (z : Size) (B : ℕ) (a m s t : List ℕ) → length s ≡ length t → Bytes a
+    → (w : List Entry) → clears (gridOf z) (erasures m) w ≡ true
+    → getD s 0 0 ≡ 1 → (ks : List ℕ) → within 32 ks ≡ true → Linked s (getD s 1 0) ks w → AsRebuild z B a m s t
+follow-any-order z B a m s t long small w clear kind ks inside linked =
+    let (chain, lists, numbers) = linked-fits s ks w kind linked inside in
+    follow-any z B a m s t long small (chain, rw lists clear)
+
+-- So does every such list that the library writes into a sheet, and each has room there.
+pub follow-list : (z : Size) → sizeFits z ≡ true → (B : ℕ) (a m t : List ℕ) → length t ≡ 98 → Bytes a
+    → (w : List Entry) → clears (gridOf z) (erasures m) w ≡ true → AsRebuild z B a m (sheetOf 1 w) t
+follow-list z size B a m t long small w clear =
+    let few = le-of-lt (grid-repairs-bound z size (erasures m) w (clears-peels (gridOf z) (erasures m) w clear)) in
+    let (chain, lists) = written-chain w few in
+    follow-any z B a m (sheetOf 1 w) t (sheet-length 1 w ∙ sym long) small (chain, rw lists clear)
+
+-- The contents of an erased block count for nothing: two arrays with the same survivors get the same answer and, from a usable
+-- sheet, the same array.
+pub follow-contents-free : (z : Size) (B : ℕ) (a b m s : List ℕ) → rebuildRefusal z B a m s ≡ 0 → Bytes a → Bytes b
+    → length b ≡ length a → Agree (gridOf z) (whole B) (erasures m) a b
+    → (followOutcome z B b m s ≡ followOutcome z B a m s) × (Usable z m s → followArray z B b m s ≡ followArray z B a m s)
+unfolding rebuildRefusal
+follow-contents-free z B a b m s ok small small₂ long same =
+    go (chainFits s) refl (clears (gridOf z) (erasures m) (chainEntries s)) refl
+  where
+    ok₂ : rebuildRefusal z B b m s ≡ 0
+    ok₂ = (rw long) ∙ ok
+
+    go : (p : Bool) → chainFits s ≡ p → (q : Bool) → clears (gridOf z) (erasures m) (chainEntries s) ≡ q
+        → (followOutcome z B b m s ≡ followOutcome z B a m s) × (Usable z m s → followArray z B b m s ≡ followArray z B a m s)
+    go false unfit q clear = (
+      follow-ten z B b m s ok₂ unfit .0 ∙ sym (follow-ten z B a m s ok unfit .0),
+      λ usable. absurd (true≢false (sym (usable .0) ∙ unfit)),
+    )
+    go true chain false unclear = (
+      follow-eleven z B b m s ok₂ chain unclear .0 ∙ sym (follow-eleven z B a m s ok chain unclear .0),
+      λ usable. absurd (true≢false (sym (usable .1) ∙ unclear)),
+    )
+    go true chain true clear =
+        let (answer, left) = follow-any z B a m s s refl small (chain, clear) in
+        let (answer₂, left₂) = follow-any z B b m s s refl small₂ (chain, clear) in
+        let (outcome, sheet, array) = contents-free z B a b m s ok long same in (
+          answer₂ ∙ outcome ∙ sym answer,
+          λ usable. left₂ ∙ array (clears-fine (gridOf z) (erasures m) (chainEntries s) clear) ∙ sym left,
+        )

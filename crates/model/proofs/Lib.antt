@@ -18,6 +18,7 @@ pub mod Clears
 pub mod Contents
 pub mod Accept
 pub mod Demand2
+pub mod Look
 pub mod Sheets
 pub mod Chain
 pub mod Outcomes

@@ -10,7 +10,7 @@ use lib.ListN.{length, getD}
 use lib.Seq.{ext-getD}
 use Rattle.model.specs.Repair.{Entry}
 use Rattle.model.specs.Cycle.{diskOf, stripeOf}
-use Rattle.model.specs.Sheet.{chain, sheetOf, recordAt, SheetBytes}
+use Rattle.model.specs.Sheet.{chainBytes, sheetOf, recordAt, SheetBytes}
 use Rattle.model.proofs.Fold.{lt-or-le, length-tabulate, getD-tabulate}
 
 -- ---- the chain of records
@@ -21,24 +21,24 @@ entryFrom l i = record { disk = getD l i 0; stripe = getD l (suc i) 0 }
 
 -- What stands in it for record k + 1: disk and stripe, and before them its number. The number of the first is n.
 chain-at : (n : ℕ) (w : List Entry) (k : ℕ) → k < length w
-    → entryFrom (chain n w) (3 * k + 1) ≡ getD w k (record { disk = 0; stripe = 0 })
-unfolding chain
+    → entryFrom (chainBytes n w) (3 * k + 1) ≡ getD w k (record { disk = 0; stripe = 0 })
+unfolding chainBytes
 chain-at n [] k h = absurd (not-suc-le-zero h)
 chain-at n (r ∷ rs) zero h = refl
 chain-at n (r ∷ rs) (suc k) h =
     let past : 3 * suc k + 1 ≡ suc (suc (suc (3 * k + 1))) = omega arith in
-    ap (entryFrom (chain n (r ∷ rs))) past ∙ chain-at (suc n) rs k (le-of-suc-le-suc h)
+    ap (entryFrom (chainBytes n (r ∷ rs))) past ∙ chain-at (suc n) rs k (le-of-suc-le-suc h)
 
-chain-number : (n : ℕ) (w : List Entry) (k : ℕ) → k < length w → getD (chain n w) (3 * k) 0 ≡ n + k
-unfolding chain
+chain-number : (n : ℕ) (w : List Entry) (k : ℕ) → k < length w → getD (chainBytes n w) (3 * k) 0 ≡ n + k
+unfolding chainBytes
 chain-number n [] k h = absurd (not-suc-le-zero h)
 chain-number n (r ∷ rs) zero h = sym (add-zero n)
 chain-number n (r ∷ rs) (suc k) h =
     let past : 3 * suc k ≡ suc (suc (suc (3 * k))) = omega arith in
-    ap (λ (i : ℕ). getD (chain n (r ∷ rs)) i 0) past ∙ chain-number (suc n) rs k (le-of-suc-le-suc h) ∙ omega arith
+    ap (λ (i : ℕ). getD (chainBytes n (r ∷ rs)) i 0) past ∙ chain-number (suc n) rs k (le-of-suc-le-suc h) ∙ omega arith
 
-chain-end : (n : ℕ) (w : List Entry) (i : ℕ) → 3 * length w ≤ i → getD (chain n w) i 0 ≡ 0
-unfolding chain
+chain-end : (n : ℕ) (w : List Entry) (i : ℕ) → 3 * length w ≤ i → getD (chainBytes n w) i 0 ≡ 0
+unfolding chainBytes
 chain-end n [] zero h = refl
 chain-end n [] (suc i) h = refl
 chain-end n (r ∷ rs) zero h = absurd (omega arith)
@@ -57,9 +57,9 @@ module _ (kind : ℕ) (w : List Entry) where
   sheet-kind = getD-tabulate 98 _ 0 (omega arith)
 
   -- From byte 1 on it holds the chain.
-  sheet-chain : (i j : ℕ) → i ≡ suc j → i < 98 → getD (sheetOf kind w) i 0 ≡ getD (chain 1 w) j 0
+  sheet-chain : (i j : ℕ) → i ≡ suc j → i < 98 → getD (sheetOf kind w) i 0 ≡ getD (chainBytes 1 w) j 0
   unfolding sheetOf
-  sheet-chain i j e b = getD-tabulate 98 (λ i. getD (kind ∷ chain 1 w) i 0) i b ∙ ap (λ (i : ℕ). getD (kind ∷ chain 1 w) i 0) e
+  sheet-chain i j e b = getD-tabulate 98 (λ i. getD (kind ∷ chainBytes 1 w) i 0) i b ∙ ap (λ (i : ℕ). getD (kind ∷ chainBytes 1 w) i 0) e
 
   -- Behind the chain stand zeros.
   pub sheet-zero : (i : ℕ) → 3 * length w < i → i < 98 → getD (sheetOf kind w) i 0 ≡ 0

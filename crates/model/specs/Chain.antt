@@ -21,7 +21,8 @@ unfoldable pub visited : List ℕ → (steps k : ℕ) → List ℕ
 visited s zero k = []
 visited s (suc steps) k = cond (eqb k 0) [] (k ∷ visited s steps (nextNumber s k))
 
--- The chain of a sheet, from its first number on. There are 32 records, so that 33 steps visit one of them twice or go to its end.
+-- The chain of a sheet, from its first number on. A number above 32 leads to no record: behind the sheet all bytes count as 0, so
+-- that the chain ends there. Of 33 records two are the same, so more steps would show nothing new.
 unfoldable pub chainNumbers : List ℕ → List ℕ
 chainNumbers s = visited s 33 (getD s 1 0)
 

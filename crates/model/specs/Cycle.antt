@@ -67,7 +67,7 @@ pub record Loop (z : Size) (e : ℕ → Bool) (w : List Entry) : Type 0 where
 unfoldable pub below : ℕ → (ℕ → Bool) → ℕ → Bool
 below k e d = ltb d k && e d
 
--- Losing the erased disks one by one, lowest first, this is the disk whose loss is fatal.
+-- Losing the erased disks one by one, lowest first, this is the first disk whose loss is fatal.
 unfoldable pub closing : Layout → (ℕ → Bool) → ℕ
 closing L e = lowest (L .disks) (λ d. fatal L (below (suc d) e))
 

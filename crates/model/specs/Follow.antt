@@ -1,5 +1,6 @@
 -- Follow: what it answers and what the array holds afterwards, for every input. The map and the sheet are only read.
 -- Assumes nothing.
+use mathlib.Core.Path.{_≡_}
 use mathlib.Core.Bool.{Bool, true, cond, _&&_}
 use mathlib.Core.List.{List, [], _∷_, _++_}
 use Prim.Native.Nat.{ℕ}
@@ -24,6 +25,10 @@ allAllowed L e (r ∷ rs) = allowed L e (r .disk) (r .stripe) && allAllowed L (w
 -- What refusal 11 tests: besides, no disk is left erased at the end.
 unfoldable pub clears : Layout → (ℕ → Bool) → List Entry → Bool
 clears L e w = allAllowed L e w && eqb (count (L .disks) (after e w)) 0
+
+-- The chain of the sheet fits, and it lists allowed repairs that leave no disk erased.
+abbrev pub Usable : Size → (m sheet : List ℕ) → Type 0
+Usable z m sheet = (chainFits sheet ≡ true) × (clears (gridOf z) (erasures m) (chainEntries sheet) ≡ true)
 
 -- The array after the repairs that the sheet lists.
 unfoldable pub followedArray : Size → ℕ → (a sheet : List ℕ) → List ℕ

@@ -9,13 +9,13 @@ use Rattle.model.specs.Repair.{Entry}
 use Rattle.model.specs.Cycle.{diskOf, stripeOf}
 
 -- The number of record k, its disk and its stripe, and so on: a record ends with the number of the next, and 0 ends the chain.
-unfoldable pub chain : ℕ → List Entry → List ℕ
-chain k [] = 0 ∷ []
-chain k (r ∷ rs) = k ∷ r .disk ∷ r .stripe ∷ chain (suc k) rs
+unfoldable pub chainBytes : ℕ → List Entry → List ℕ
+chainBytes k [] = 0 ∷ []
+chainBytes k (r ∷ rs) = k ∷ r .disk ∷ r .stripe ∷ chainBytes (suc k) rs
 
 -- The kind, then the chain from record 1 on, then zeros.
 unfoldable pub sheetOf : ℕ → List Entry → List ℕ
-sheetOf kind rs = tabulate 98 (λ i. getD (kind ∷ chain 1 rs) i 0)
+sheetOf kind rs = tabulate 98 (λ i. getD (kind ∷ chainBytes 1 rs) i 0)
 
 -- A sheet of zeros.
 unfoldable pub blankSheet : List ℕ

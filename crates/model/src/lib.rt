@@ -16,7 +16,7 @@ pub enum Checked {
     Refused(u32),
 }
 
-// What plan and rebuild answer.
+// What plan, rebuild and follow answer.
 pub enum Outcome {
     // The number of repairs.
     Repairs(usize),

@@ -13,7 +13,7 @@ use lib.Seq.{getD-set-same, getD-set-other, take-suc, take-length}
 use Rattle.model.specs.Fold.{tabulate}
 use Rattle.model.specs.Repair.{Entry}
 use Rattle.model.specs.Cycle.{diskOf, stripeOf}
-use Rattle.model.specs.Sheet.{chain, sheetOf}
+use Rattle.model.specs.Sheet.{chainBytes, sheetOf}
 use Rattle.model.proofs.Fold.{by-cases, length-tabulate, getD-tabulate, list-is, tabulate-ext}
 use Rattle.model.proofs.Sheets.{sheet-entry, sheet-disk, sheet-stripe}
 use Rattle.sheet.specs.Record.{appended, recordDisk, recordStripe, records}
@@ -75,24 +75,24 @@ unfolding front
 front-length k [] = refl
 front-length k (r ∷ rs) = let up = front-length (suc k) rs in omega arith
 
-chain-split : (k : ℕ) (v w : List Entry) → chain k (v ++ w) ≡ front k v ++ chain (length v + k) w
-unfolding front chain
-chain-split k [] w = ap (λ (n : ℕ). chain n w) (sym (zero-add k))
+chain-split : (k : ℕ) (v w : List Entry) → chainBytes k (v ++ w) ≡ front k v ++ chainBytes (length v + k) w
+unfolding front chainBytes
+chain-split k [] w = ap (λ (n : ℕ). chainBytes n w) (sym (zero-add k))
 chain-split k (r ∷ rs) w =
     ap (λ (l : List ℕ). k ∷ r .disk ∷ r .stripe ∷ l)
     (chain-split (suc k) rs w
-    ∙ ap (λ (n : ℕ). front (suc k) rs ++ chain n w) (add-suc (length rs) k ∙ sym (suc-add (length rs) k)))
+    ∙ ap (λ (n : ℕ). front (suc k) rs ++ chainBytes n w) (add-suc (length rs) k ∙ sym (suc-add (length rs) k)))
 
 pub append-record : (kind : ℕ) (w : List Entry) (d s : ℕ) → length w < 32
     → appended (sheetOf kind w) (length w) d s ≡ sheetOf kind (w ++ (record { disk = d; stripe = s } ∷ []))
-unfolding appended sheetOf chain padded
+unfolding appended sheetOf chainBytes padded
 append-record kind w d s h =
     let n : ℕ = 3 * length w in
     let p : List ℕ = kind ∷ front 1 w in
     let long : length (front 1 w) ≡ 3 * length w = front-length 1 w in
     let first : ℕ = length w + 1 in
     ap (λ (l : List ℕ). set (set (set (padded (kind ∷ l)) (n + 1) first) (n + 2) d) (n + 3) s)
-    (ap (chain 1) (sym (append-nil w)) ∙ chain-split 1 w [])
+    (ap (chainBytes 1) (sym (append-nil w)) ∙ chain-split 1 w [])
     ∙ ap (λ (l : List ℕ). set (set (set l (n + 1) first) (n + 2) d) (n + 3) s) (padded-more p)
     ∙ ap (λ (l : List ℕ). set (set l (n + 2) d) (n + 3) s)
     (padded-past p (0 ∷ 0 ∷ 0 ∷ 0 ∷ []) (n + 1) 0 first (omega arith) (omega arith) (omega arith))
@@ -103,7 +103,7 @@ append-record kind w d s h =
 
 -- A sheet without records.
 pub no-record : (kind : ℕ) → set (replicate 98 0) 0 kind ≡ sheetOf kind []
-unfolding sheetOf chain tabulate
+unfolding sheetOf chainBytes tabulate
 no-record kind = refl
 
 -- ---- the records of a sheet
