@@ -1,82 +1,115 @@
 /*
- * An example host for raid2d: nine doors of a building, one name to a disk.
+ * An example host for raid2d: the rooms of a building, one name to a disk.
  *
- * It seals an array, finds a damaged byte, writes a block and looks at disks,
- * loses three disks and restores them, loses them again and follows a list of
- * repairs that came from elsewhere, then loses five and learns why they cannot
- * be restored. Build and run it with `make example`; examples/host.expected
- * has what it prints.
+ * It fills an array while the superparity is not there yet, writes a block,
+ * loses disks and gets them back, follows a list of repairs that came from
+ * elsewhere, meets a survivor that was changed behind its back, and in the end
+ * a loss that nothing brings back. `make example` builds and runs it, and
+ * examples/host.expected has what it prints.
+ *
+ * It is C99 and C++. Whatever it gets back is compared with what was stored:
+ * the exit status is 0 only if all went as it should.
  */
 #include <stdio.h>
 #include <string.h>
 
 #include "raid2d.h"
 
-/* 3 x 3 data disks with blocks of 8 bytes; with parities, 4 x 4 disks. */
-enum { SIDE = 3, BLOCK = 8, ACROSS = SIDE + 1 };
+/* 3 x 3 data disks with blocks of 8 bytes; with the parities, 4 x 4 disks. */
+enum { SIDE = 3, BLOCK = 8, ACROSS = SIDE + 1, SUPERPARITY = 15 };
 
-/* All memory is the host's own: the library allocates nothing. A map of
-   zeros says that all disks are present. */
+/* All memory is the host's own: the library allocates nothing. A map of zeros
+   says that every disk is present. */
 static uint8_t array[RAID2D_ARRAY_BYTES(SIDE, BLOCK)];
 static uint8_t map[RAID2D_DISKS(SIDE)];
 static uint8_t sheet[RAID2D_SHEET_BYTES];
 
-/* Names of 8 letters, each with the zero that ends a string in C. */
-static const char names[SIDE][SIDE][BLOCK + 1] = {
+/* What the data disks are to hold. Each name has 8 letters, and behind them
+   the zero that ends a string in C. */
+static char names[SIDE][SIDE][BLOCK + 1] = {
     { "entrance", "mailroom", "workshop" },
     { "basement", "stairway", "corridor" },
     { "elevator", "darkroom", "showroom" }
 };
 
-/* Where a disk's block begins in the array. */
+/* How many things went otherwise than they should. */
+static int failures;
+
+static void expect(int right, const char *what)
+{
+    if (!right) {
+        printf("WRONG: %s\n", what);
+        failures++;
+    }
+}
+
+/* ---- The array and its disks. */
+
+/* Where a disk's block begins. */
 static uint8_t *block_of(size_t disk)
 {
     return array + disk * BLOCK;
 }
 
-static void store_names(void)
+/* A data disk by its name, a parity by the first of its bytes: a sum of
+   letters is not text. */
+static void print_disk(size_t disk)
 {
-    size_t row, column;
+    const uint8_t *b = block_of(disk);
 
-    for (row = 0; row < SIDE; row++)
-        for (column = 0; column < SIDE; column++)
-            memcpy(block_of(row * ACROSS + column), names[row][column], BLOCK);
-}
-
-/* Data as text, parities as hexadecimal digits: a sum of letters is not text. */
-static void print_disk(size_t row, size_t column)
-{
-    const uint8_t *block = block_of(row * ACROSS + column);
-    size_t i;
-
-    printf("  ");
-    if (row < SIDE && column < SIDE)
-        printf("%-*.*s", 2 * BLOCK, BLOCK, (const char *)block);
+    printf("  %2zu ", disk);
+    if (map[disk])
+        printf("(erased)");
+    else if (disk / ACROSS < SIDE && disk % ACROSS < SIDE)
+        printf("%-10.*s", BLOCK, (const char *)b);
     else
-        for (i = 0; i < BLOCK; i++)
-            printf("%02x", (unsigned)block[i]);
+        printf("%02x%02x%02x%02x..", b[0], b[1], b[2], b[3]);
 }
 
 static void print_array(void)
 {
-    size_t row, column;
+    size_t disk;
 
-    printf("\n          column 0          column 1          column 2"
-           "          column 3");
-    for (row = 0; row <= SIDE; row++) {
-        printf("\n  row %zu ", row);
-        for (column = 0; column <= SIDE; column++)
-            print_disk(row, column);
+    for (disk = 0; disk < RAID2D_DISKS(SIDE); disk++) {
+        print_disk(disk);
+        if (disk % ACROSS == SIDE)
+            printf("\n");
     }
-    printf("\n\n");
 }
 
-static void seal_array(void)
+/* Whether every room is on its disk and the array is sealed: the parities
+   then follow from the data, so that this is every byte of the array. */
+static int all_is_there(void)
 {
-    uint32_t status = raid2d_seal(SIDE, BLOCK, array, sizeof array);
+    size_t row, column, stripe;
 
-    printf("seal: %s\n", raid2d_strerror(status));
+    for (row = 0; row < SIDE; row++)
+        for (column = 0; column < SIDE; column++)
+            if (memcmp(block_of(row * ACROSS + column), names[row][column],
+                       BLOCK) != 0)
+                return 0;
+    return raid2d_check(SIDE, BLOCK, array, sizeof array, &stripe) == RAID2D_OK;
 }
+
+/* Disks fail. Nobody can rely on what a failed disk holds. */
+static void lose(const size_t *disks, size_t count)
+{
+    size_t i;
+
+    for (i = 0; i < count; i++) {
+        map[disks[i]] = 1;
+        memset(block_of(disks[i]), '?', BLOCK);
+    }
+}
+
+/* The library only reads the map: the host decides when the disks count as
+   present again. */
+static void all_present(void)
+{
+    memset(map, 0, sizeof map);
+}
+
+/* ---- The calls, each with its outcome in words. */
 
 /* Stripes below RAID2D_COLUMN_STRIPE are rows, the others are columns. */
 static void print_stripe(size_t stripe)
@@ -88,29 +121,49 @@ static void print_stripe(size_t stripe)
                stripe - RAID2D_COLUMN_STRIPE);
 }
 
-static void check_array(void)
+/* The records of a list of repairs, from the first to the last. */
+static void print_repairs(const uint8_t *list)
+{
+    size_t k;
+
+    for (k = raid2d_sheet_first(list); k != 0; k = raid2d_sheet_next(list, k)) {
+        printf("  disk %zu by ", raid2d_sheet_disk(list, k));
+        print_stripe(raid2d_sheet_stripe(list, k));
+    }
+}
+
+static void seal(void)
+{
+    uint32_t status = raid2d_seal(SIDE, BLOCK, array, sizeof array);
+
+    printf("seal: %s\n", raid2d_strerror(status));
+    expect(status == RAID2D_OK, "seal");
+}
+
+static uint32_t check(void)
 {
     size_t stripe = 0;
     uint32_t status = raid2d_check(SIDE, BLOCK, array, sizeof array, &stripe);
 
-    if (status == RAID2D_OK)
-        printf("check: the array is sealed\n");
-    else if (status != RAID2D_NOT_SEALED)
-        printf("check: refused, %s\n", raid2d_strerror(status));
-    else {
+    if (status == RAID2D_NOT_SEALED) {
         printf("check: not sealed, see ");
         print_stripe(stripe);
-    }
+    } else
+        printf("check: %s\n", status == RAID2D_OK ? "the array is sealed"
+                                                  : raid2d_strerror(status));
+    return status;
 }
 
-static void write_block(size_t disk, const char *name)
+static void write_name(size_t disk, const char *name)
 {
     uint32_t status = raid2d_write(SIDE, BLOCK, array, sizeof array, disk,
-                                   (const uint8_t *)name, strlen(name));
+                                   (const uint8_t *)name, BLOCK);
 
     printf("write %s to disk %zu: %s\n", name, disk, raid2d_strerror(status));
+    expect(status == RAID2D_OK, "write");
 }
 
+/* A block where it stands in the array, or nothing if its disk is erased. */
 static void look_at(size_t disk)
 {
     size_t offset = 0;
@@ -118,72 +171,103 @@ static void look_at(size_t disk)
                                 sizeof map, disk, &offset);
 
     if (length == 0)
-        printf("look at disk %zu: empty\n", disk);
+        printf("look at disk %zu: nothing there\n", disk);
     else
-        printf("look at disk %zu: %zu bytes at offset %zu, \"%.*s\"\n", disk,
-               length, offset, (int)length, (const char *)(array + offset));
+        printf("look at disk %zu: %.*s\n", disk, (int)length,
+               (const char *)(array + offset));
+    expect(map[disk] ? length == 0
+                     : length == BLOCK && offset == disk * BLOCK, "look");
 }
 
-/* Nobody can rely on what a failed disk holds. */
-static void lose(size_t disk)
-{
-    printf("disk %zu fails\n", disk);
-    map[disk] = 1;
-    memset(block_of(disk), '?', BLOCK);
-}
-
-/* The records of a sheet, from the first to the last: repairs, or the disks
-   of a cycle. */
-static void print_sheet(const uint8_t *records)
-{
-    int cycle = raid2d_sheet_kind(records) == RAID2D_SHEET_CYCLE;
-    size_t k;
-
-    for (k = raid2d_sheet_first(records); k != 0;
-         k = raid2d_sheet_next(records, k)) {
-        printf("  disk %zu %s ", raid2d_sheet_disk(records, k),
-               cycle ? "along" : "by");
-        print_stripe(raid2d_sheet_stripe(records, k));
-    }
-}
-
-/* The outcome of plan, rebuild or follow. */
-static void print_outcome(const char *call, uint32_t status, size_t count)
-{
-    if (status == RAID2D_OK)
-        printf("%s: %zu repairs\n", call, count);
-    else if (status == RAID2D_FATAL)
-        printf("%s: the loss is fatal, %zu disks are lost\n", call, count);
-    else
-        printf("%s: refused, %s\n", call, raid2d_strerror(status));
-}
-
-static void plan_repairs(void)
+/* Which repairs bring all disks back, in which order. */
+static void plan(void)
 {
     size_t count = 0;
     uint32_t status = raid2d_plan(SIDE, map, sizeof map, sheet, sizeof sheet,
                                   &count);
 
-    print_outcome("plan", status, count);
-    if (status == RAID2D_OK || status == RAID2D_FATAL)
-        print_sheet(sheet);
+    printf("plan: %s, %zu repairs\n", raid2d_strerror(status), count);
+    expect(status == RAID2D_OK, "plan");
+    if (status == RAID2D_OK)
+        print_repairs(sheet);
 }
 
-/* Rebuild plans by itself; a host that does not want to see the plan first
-   needs no other call. After a success it takes all disks as present. */
-static void rebuild_array(void)
+/* Rebuild makes its own plan: a host that does not want to see it first needs
+   no other call. */
+static void rebuild(void)
 {
     size_t count = 0;
     uint32_t status = raid2d_rebuild(SIDE, BLOCK, array, sizeof array, map,
                                      sizeof map, sheet, sizeof sheet, &count);
 
-    print_outcome("rebuild", status, count);
+    printf("rebuild: %s, %zu repairs\n", raid2d_strerror(status), count);
+    expect(status == RAID2D_OK, "rebuild");
+    expect(all_is_there(), "what rebuild has restored");
     if (status == RAID2D_OK)
-        memset(map, 0, sizeof map);
+        all_present();
 }
 
-/* A list of repairs that the host did not get from plan: the chain visits
-   records 4, 1 and 3. Record 2 is off the chain and may hold anything. */
+/* ---- The story, one chapter after another. */
+
+/* Without a superparity the array is a plain two-dimensional one. In the
+   library's words the superparity is erased. Seal computes its block too, but
+   no disk is there to keep it. */
+static void fill(void)
+{
+    static const size_t missing[] = { SUPERPARITY };
+    size_t row, column;
+
+    printf("1. The array is filled. The superparity, disk 15, is not there"
+           " yet.\n");
+    for (row = 0; row < SIDE; row++)
+        for (column = 0; column < SIDE; column++)
+            memcpy(block_of(row * ACROSS + column), names[row][column], BLOCK);
+    seal();
+    lose(missing, 1);
+    print_array();
+}
+
+/* Write changes the block of the superparity as well. While that is erased,
+   it counts for nothing. */
+static void rename_a_room(void)
+{
+    printf("\n2. A room is renamed. The parities of its disk change with"
+           " it.\n");
+    memcpy(names[0][2], "ballroom", BLOCK);
+    write_name(2, names[0][2]);
+    look_at(2);
+}
+
+/* The missing superparity and the failed disk are repaired in one go. */
+static void add_superparity(void)
+{
+    static const size_t failed[] = { 5 };
+
+    printf("\n3. The superparity is put in, still empty, and disk 5"
+           " fails.\n");
+    lose(failed, 1);
+    plan();
+    rebuild();
+    expect(check() == RAID2D_OK, "check after a rebuild");
+}
+
+/* Disk 2 shares a row with disk 3 and a column with disk 14: only the
+   superparity can bring the first of them back. */
+static const size_t disk_with_parities[] = { 2, 3, 14 };
+
+static void lose_disk_with_parities(void)
+{
+    printf("\n4. A data disk fails with both its parities: disks 2, 3 and"
+           " 14.\n");
+    lose(disk_with_parities, 3);
+    look_at(2);
+    plan();
+    rebuild();
+    look_at(2);
+}
+
+/* A list of repairs that is not plan's. Its chain visits records 4, 1 and 3;
+   record 2 is off the chain and may hold anything. */
 static const uint8_t notes[RAID2D_SHEET_BYTES] = {
     RAID2D_SHEET_REPAIRS, 4,
     2, 18, 3,
@@ -192,101 +276,191 @@ static const uint8_t notes[RAID2D_SHEET_BYTES] = {
     14, 3, 1
 };
 
-/* Follow judges a sheet before it changes the array. The records are printed
-   after a success only, since a wrong chain may never end. */
-static void follow_notes(void)
+/* Follow judges the whole list before it changes a block. The records are
+   printed after a success only: a wrong chain may never end. */
+static void follow(uint32_t expected)
 {
     size_t count = 0;
     uint32_t status = raid2d_follow(SIDE, BLOCK, array, sizeof array, map,
                                     sizeof map, notes, sizeof notes, &count);
 
-    print_outcome("follow", status, count);
-    if (status == RAID2D_OK) {
-        print_sheet(notes);
-        memset(map, 0, sizeof map);
+    printf("follow: %s\n", raid2d_strerror(status));
+    expect(status == expected, "follow");
+    if (status == RAID2D_OK)
+        print_repairs(notes);
+}
+
+/* For a while disk 5 is out as well, of which the list knows nothing. */
+static void follow_notes(void)
+{
+    printf("\n5. The same disks fail again. A list of repairs comes from"
+           " elsewhere.\n");
+    lose(disk_with_parities, 3);
+    printf("Disk 5 is pulled out by mistake.\n");
+    map[5] = 1;
+    follow(RAID2D_ERR_REPAIRS);
+    printf("Disk 5 is back, as it was.\n");
+    map[5] = 0;
+    follow(RAID2D_OK);
+    expect(all_is_there(), "what follow has restored");
+    all_present();
+}
+
+/* A sum over a wrong block gives a wrong block. So rebuild checks all stripes
+   after the repairs, and rather gives zeros than something made up. */
+static void meet_a_changed_survivor(void)
+{
+    static const size_t failed[] = { 0 };
+    size_t count = 0;
+    uint32_t status;
+
+    printf("\n6. A bit of disk 5 flips, and nobody says so. Then disk 0"
+           " fails.\n");
+    block_of(5)[0] ^= 1;
+    expect(check() == RAID2D_NOT_SEALED, "check of a changed block");
+    lose(failed, 1);
+    status = raid2d_rebuild(SIDE, BLOCK, array, sizeof array, map, sizeof map,
+                            sheet, sizeof sheet, &count);
+    printf("rebuild: %s\n", raid2d_strerror(status));
+    expect(status == RAID2D_ERR_SURVIVORS, "rebuild from a changed block");
+    expect(block_of(0)[0] == 0, "zeros in place of a block made up");
+    printf("Disk 5 is taken as failed too.\n");
+    map[5] = 1;
+    rebuild();
+}
+
+/* ---- A fatal loss, with a picture of its loop. */
+
+/* The disks that are on the loop, in the form of a map. */
+static uint8_t loop[RAID2D_DISKS(SIDE)];
+
+static void read_loop(void)
+{
+    size_t k, disk;
+
+    expect(raid2d_sheet_kind(sheet) == RAID2D_SHEET_CYCLE, "kind of sheet");
+    for (k = raid2d_sheet_first(sheet); k != 0;
+         k = raid2d_sheet_next(sheet, k)) {
+        disk = raid2d_sheet_disk(sheet, k);
+        expect(map[disk] == 1, "a disk of the loop is erased");
+        loop[disk] = 1;
     }
 }
 
-/* A data disk with both its parities: it comes back by way of the superparity
-   (disk 15). */
-static void lose_data_and_parities(void)
+/* Whether the loop runs on behind the first disks of a stripe: a stripe that
+   it touches holds two of its disks, and then just one of them is passed. */
+static int runs_on(size_t first, size_t step, size_t passed)
 {
-    lose(2);
-    lose(3);
-    lose(14);
+    int odd = 0;
+
+    for (; passed > 0; passed--, first += step)
+        odd ^= loop[first];
+    return odd;
 }
 
-static void lose_three(void)
+/* On the loop, erased but not on the loop, or present. */
+static void draw_disk(size_t disk)
 {
-    lose_data_and_parities();
-    look_at(2);
-    look_at(4);
-    print_array();
-    plan_repairs();
-    rebuild_array();
-    print_array();
-    check_array();
-    look_at(2);
+    if (loop[disk])
+        printf("[%2zu]", disk);
+    else if (map[disk])
+        printf("(%2zu)", disk);
+    else
+        printf(disk % ACROSS < SIDE ? " %2zu " : " %2zu", disk);
 }
 
-/* The same disks once more, and for a while one of which the notes know
-   nothing: refused, the array keeps its bytes. */
-static void lose_three_again(void)
+static void draw_row(size_t row)
 {
-    lose_data_and_parities();
-    printf("disk 5 is pulled out\n");
-    map[5] = 1;
-    follow_notes();
-    printf("disk 5 is back\n");
-    map[5] = 0;
-    follow_notes();
-    check_array();
-    look_at(2);
+    size_t column;
+
+    printf("    ");
+    for (column = 0; column < ACROSS; column++) {
+        if (column > 0)
+            printf(runs_on(row * ACROSS, 1, column) ? "----" : "    ");
+        draw_disk(row * ACROSS + column);
+    }
+    printf("\n");
 }
 
-/* Disks 0, 2, 8 and 10 are the corners of a rectangle: no stripe has only one
-   of them. Disk 15 alone could be repaired. */
-static void lose_five(void)
+static void draw_links_below(size_t row)
 {
-    lose(0);
-    lose(2);
-    lose(8);
-    lose(10);
-    lose(15);
-    plan_repairs();
-    rebuild_array();
-    look_at(2);
+    size_t column;
+    int width = 7;
+
+    for (column = 0; column < ACROSS; column++, width += 8)
+        if (runs_on(column, ACROSS, row + 1)) {
+            printf("%*c", width, '|');
+            width = 0;
+        }
+    printf("\n");
+}
+
+static void draw_loop(void)
+{
+    size_t row;
+
+    for (row = 0; row < ACROSS; row++) {
+        draw_row(row);
+        draw_links_below(row);
+    }
+}
+
+/* Each stripe holds two disks of the loop or none. So one bit changed on all
+   of them changes no sum. */
+static void change_along_loop(void)
+{
+    size_t disk;
+
+    for (disk = 0; disk < RAID2D_DISKS(SIDE); disk++)
+        block_of(disk)[0] ^= loop[disk];
+}
+
+/* A fatal loss leaves the array as it is. */
+static void fail_to_rebuild(void)
+{
+    static uint8_t kept[sizeof array];
+    size_t count = 0;
+    uint32_t status;
+
+    memcpy(kept, array, sizeof array);
+    status = raid2d_rebuild(SIDE, BLOCK, array, sizeof array, map, sizeof map,
+                            sheet, sizeof sheet, &count);
+    printf("rebuild: %s, %zu disks cannot be repaired\n\n",
+           raid2d_strerror(status), count);
+    expect(status == RAID2D_FATAL && count == 6, "rebuild of a fatal loss");
+    expect(memcmp(array, kept, sizeof array) == 0, "the array of a fatal loss");
+}
+
+/* Disk 15 alone could be repaired: no stripe has just one of the others. */
+static void meet_a_fatal_loss(void)
+{
+    static const size_t failed[] = { 0, 2, 5, 6, 8, 9, 15 };
+    static uint8_t before[sizeof array];
+
+    printf("\n7. Disks 0, 2, 5, 6, 8, 9 and 15 fail.\n");
+    memcpy(before, array, sizeof array);
+    lose(failed, 7);
+    fail_to_rebuild();
+    read_loop();
+    draw_loop();
+
+    printf("The array as it was, but with a bit changed on each disk of the"
+           " loop:\n");
+    memcpy(array, before, sizeof array);
+    change_along_loop();
+    expect(check() == RAID2D_OK, "another array with the same survivors");
+    printf("Two sealed arrays have the same survivors: nobody can tell which"
+           " was lost.\n");
 }
 
 int main(void)
 {
-    store_names();
-    seal_array();
-    print_array();
-    check_array();
-
-    printf("\ndamage: the first byte of disk 5 (stairway)\n");
-    block_of(5)[0] ^= 1;
-    check_array();
-    printf("undo\n");
-    block_of(5)[0] ^= 1;
-    check_array();
-
-    printf("\n");
-    write_block(2, "ballroom");
-    print_array();
-    check_array();
-    write_block(3, "ballroom"); /* disk 3 is a row parity */
-    write_block(2, "hall");     /* not 8 bytes */
-
-    printf("\n");
-    look_at(2);
-    lose_three();
-
-    printf("\n");
-    lose_three_again();
-
-    printf("\n");
-    lose_five();
-    return 0;
+    fill();
+    rename_a_room();
+    add_superparity();
+    lose_disk_with_parities();
+    follow_notes();
+    meet_a_changed_survivor();
+    meet_a_fatal_loss();
+    return failures == 0 ? 0 : 1;
 }
