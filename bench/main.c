@@ -1,6 +1,7 @@
 /* Compares, times and prints: one line for each call, size and peer. */
 #include "calls.h"
 #include "compare.h"
+#include "followed.h"
 #include "guards.h"
 #include "repairs.h"
 #include "timing.h"
@@ -61,6 +62,8 @@ int main(void)
     measure_all(&input, ratios);
     puts("");
     warnings = compare_places(&input);
+    puts("");
+    warnings += compare_follow(&input);
     input_close(&input);
     puts("");
     warnings += warn(ratios);

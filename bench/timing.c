@@ -72,3 +72,13 @@ void time_maps(const struct call *call, struct input *input, const size_t *kinds
     for (size_t k = 0; k < count; k++)
         medians[k] = median_of(samples[k]);
 }
+
+void time_calls(const struct call *const *list, size_t count, struct input *input, double *medians)
+{
+    size_t repeats = repeats_for(list[0], input);
+    for (size_t i = 0; i < SAMPLES; i++)
+        for (size_t k = 0; k < count; k++)
+            samples[k][i] = sample(list[k], &peers[LIBRARY], input, repeats);
+    for (size_t k = 0; k < count; k++)
+        medians[k] = median_of(samples[k]);
+}

@@ -1,4 +1,4 @@
-/* Times one call: of every peer in turn, or of the library on several maps in turn. */
+/* Times calls in turn: one of every peer, one of the library on several maps, or several of the library. */
 #ifndef TIMING_H
 #define TIMING_H
 
@@ -12,5 +12,8 @@ void time_peers(const struct call *call, struct input *input, double medians[PEE
 
 /* The median time of the library on each of at most PEERS maps, in one unit. The input has been prepared. */
 void time_maps(const struct call *call, struct input *input, const size_t *kinds, size_t count, double *medians);
+
+/* The median time of each of at most PEERS calls of the library, in one unit. The input has been prepared. */
+void time_calls(const struct call *const *list, size_t count, struct input *input, double *medians);
 
 #endif

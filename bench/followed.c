@@ -1,0 +1,50 @@
+#include "followed.h"
+#include "maps.h"
+#include "raid2d.h"
+#include "timing.h"
+
+#include <stdio.h>
+
+static const struct size sizes[] = {{2, 16, ROW_AND_COLUMN}, {15, 16, ROW_AND_COLUMN}, {15, 512, ROW_AND_COLUMN},
+                                    {15, 4096, ROW_AND_COLUMN}};
+
+/* Follow may take so many times the time of rebuild: it judges a list instead of making one, and repairs as rebuild does. */
+static const double MOST = 1.2;
+
+/* Follows the sheet in the input. Only the library has this call. */
+static void run_follow(const struct peer *peer, struct input *input)
+{
+    (void)peer;
+    input->status = raid2d_follow(input->size.n, input->size.block, input->array, input->bytes, input->map,
+                                  input->disks, input->sheet, SHEET_BYTES, &input->count);
+}
+
+/* The time of follow over that of rebuild, whose sheet it follows. */
+static double follow_over_rebuild(struct input *input)
+{
+    static const struct call follow = {.name = "follow", .run = run_follow};
+    const struct call *both[] = {&follow, &calls[REBUILD]};
+    double medians[2];
+    calls[REBUILD].prepare(input, 0);
+    calls[REBUILD].run(&peers[LIBRARY], input);
+    time_calls(both, 2, input, medians);
+    return medians[0] / medians[1];
+}
+
+int compare_follow(struct input *input)
+{
+    int warnings = 0;
+    puts("Follow: on plan's own sheet, over rebuild on the same array.");
+    for (size_t s = 0; s < sizeof sizes / sizeof *sizes; s++) {
+        double ratio;
+        char title[TITLE_MAX];
+        input_resize(input, sizes[s]);
+        ratio = follow_over_rebuild(input);
+        put_title(title, &calls[REBUILD], sizes[s]);
+        printf("%-27s  %-28s %6.2f\n", title, "follow / rebuild", ratio);
+        if (ratio > MOST)
+            printf("WARNING: %s: follow takes %.3f x rebuild; the limit is %.2f\n", title, ratio, MOST);
+        warnings += ratio > MOST;
+    }
+    return warnings;
+}
