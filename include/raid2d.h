@@ -22,29 +22,28 @@
  *
  * GLOSSARY
  *
- * The words of this header; in brackets those of the library's order, where
- * it has others.
+ * The words of this header.
  *
  *   sum            Exclusive or of blocks, at each byte place by itself.
  *   block          The bytes of one disk: as many for every disk.
- *   disk           [card] A place in the grid, with one block.
+ *   disk           A place in the grid, with one block.
  *   data disk      A disk in rows 0 to n-1 and columns 0 to n-1.
- *   row parity     [P] The disk in column n of a data row: the sum of the
- *                  row's data.
- *   column parity  [Q] The disk in row n of a data column: the sum of the
- *                  column's data.
- *   superparity    [S] The disk in row n and column n: the sum of all row
+ *   row parity     The disk in column n of a data row: the sum of the row's
+ *                  data.
+ *   column parity  The disk in row n of a data column: the sum of the column's
+ *                  data.
+ *   superparity    The disk in row n and column n: the sum of all row
  *                  parities, which is also that of all column parities.
- *   stripe         [line] All n+1 disks of a row or of a column, parity disks
- *                  and superparity included. Row r is stripe r, column c is
+ *   stripe         All n+1 disks of a row or of a column, parity disks and
+ *                  superparity included. Row r is stripe r, column c is
  *                  stripe 16 + c.
  *   sealed         Every stripe's sum is zero at every byte place: all
  *                  parities are as defined above.
  *   array          The blocks of all disks, in the order of disk numbers.
  *   map            One byte for each disk, in the same order: 0 present,
  *                  1 erased.
- *   erased         [marked, failed] Said of a disk whose block counts for
- *                  nothing. Calls without a map take every disk as present.
+ *   erased         Said of a disk whose block counts for nothing. Calls
+ *                  without a map take every disk as present.
  *   loss           All disks that a map says are erased.
  *   survivors      The blocks of all other disks. They belong to a sealed
  *                  array if one of the same size has the same bytes in each
@@ -55,21 +54,21 @@
  *                  as present.
  *   plan's order   At each step the lowest-numbered disk that can be repaired,
  *                  by its row if that is allowed, else by its column.
- *   residual       [lost cards] The disks that are still erased when no
- *                  repair is allowed any more.
+ *   residual       The disks that are still erased when no repair is allowed
+ *                  any more.
  *   fatal          Said of a loss with a residual. Then two different sealed
  *                  arrays have the same survivors, and nobody can tell which
  *                  of them was lost. No loss of up to three disks is fatal.
- *   cycle          [loop] Different erased disks, at least four: the first and
- *                  the second share a row, the second and the third a column,
- *                  and so on in turn, the last and the first a column; each
- *                  stripe touched holds exactly two of them. It begins with
- *                  its lowest-numbered disk. Each fatal loss has a cycle, and
- *                  no other loss has one.
+ *   cycle          Different erased disks, at least four: the first and the
+ *                  second share a row, the second and the third a column, and
+ *                  so on in turn, the last and the first a column; each stripe
+ *                  touched holds exactly two of them. It begins with its
+ *                  lowest-numbered disk. Each fatal loss has a cycle, and no
+ *                  other loss has one.
  *   sheet          A list of repairs or a cycle, in 98 bytes: see below.
  *   chain          The records of a sheet from the first on, each with the
  *                  number of the next.
- *   status         [refusal number] What a call returns.
+ *   status         What a call returns.
  *
  *
  * THE SHEET
@@ -444,7 +443,7 @@ uint32_t raid2d_plan(size_t n,
  * sealed array with these survivors. A survivor that was damaged shows only
  * where the other survivors contradict it; with 2n+1 disks erased none can.
  * The map is not cleared; the host does so when it takes the disks as present
- * again. While a cabinet is filled without superparity, its superparity disk
+ * again. While an array is filled without superparity, its superparity disk
  * is simply erased in the map.
  *
  *   n          data disks along a side, RAID2D_SIDE_MIN to RAID2D_SIDE_MAX
