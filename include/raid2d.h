@@ -154,11 +154,18 @@ uint32_t raid2d_version_number(void);
 #define RAID2D_BLOCK_MIN  1
 #define RAID2D_BLOCK_MAX  4096
 
-/* Disks of an array, parity disks included. A map has as many bytes. */
+/*
+ * Disks of an array, parity disks included: a map has as many bytes. And bytes
+ * of an array. With constants for n and b both can size a static array.
+ */
+#ifdef __cplusplus
+#define RAID2D_DISKS(n) \
+    ((static_cast<size_t>(n) + 1) * (static_cast<size_t>(n) + 1))
+#define RAID2D_ARRAY_BYTES(n, b)  (RAID2D_DISKS(n) * static_cast<size_t>(b))
+#else
 #define RAID2D_DISKS(n)  (((size_t)(n) + 1) * ((size_t)(n) + 1))
-
-/* Bytes of an array. With constants for n and b it can size a static array. */
 #define RAID2D_ARRAY_BYTES(n, b)  (RAID2D_DISKS(n) * (size_t)(b))
+#endif
 
 /* The stripe number of column 0. Row r is stripe r, column c this plus c. */
 #define RAID2D_COLUMN_STRIPE  16
@@ -333,7 +340,8 @@ uint32_t raid2d_check(size_t n, size_t block,
  *
  * Do not write to an erased disk: what stands in its block is taken for its
  * old contents, and a later raid2d_rebuild gives neither the old block nor the
- * new one. Rebuild first.
+ * new one. Rebuild first. Other disks may be erased, the parities too: the
+ * write is right, and what changes in their blocks counts for nothing.
  *
  *   n          data disks along a side, RAID2D_SIDE_MIN to RAID2D_SIDE_MAX
  *   block      bytes in a block, RAID2D_BLOCK_MIN to RAID2D_BLOCK_MAX
