@@ -112,6 +112,9 @@ in_prefix = $(patsubst $(prefix)/%,$${prefix}/%,$(1))
 up = $(shell echo $(patsubst $(prefix)/%,%,$(pkgconfigdir)) | sed 's|[^/][^/]*|..|g')
 pc_prefix = $(if $(filter $(prefix)/%,$(pkgconfigdir)),$${pcfiledir}/$(up),$(prefix))
 
+# The functions that raid2d(3) names, each with a page that leads there.
+FUNCTIONS = $(shell sed -n '/^\.SH NAME/,/^\\-/p' man/raid2d.3 | grep -o 'raid2d_[a-z_]*')
+
 # Folders that install makes are noted in build/folders, and uninstall removes
 # those of them that are then empty.
 install: $(LIB) $(LISTING)
@@ -129,11 +132,16 @@ install: $(LIB) $(LISTING)
 	$(INSTALL_PROGRAM) $(LISTING) "$(DESTDIR)$(bindir)/list_repairs"
 	$(INSTALL_DATA) man/list_repairs.1 "$(DESTDIR)$(mandir)/man1/list_repairs.1"
 	$(INSTALL_DATA) man/raid2d.3 "$(DESTDIR)$(mandir)/man3/raid2d.3"
+	echo '.so man3/raid2d.3' >$(BUILD)/function.3
+	for name in $(FUNCTIONS); do \
+	    $(INSTALL_DATA) $(BUILD)/function.3 "$(DESTDIR)$(mandir)/man3/$$name.3" || exit; \
+	done
 
 uninstall:
 	rm -f "$(DESTDIR)$(libdir)/libraid2d.a" "$(DESTDIR)$(includedir)/raid2d.h" \
 	    "$(DESTDIR)$(pkgconfigdir)/raid2d.pc" "$(DESTDIR)$(bindir)/list_repairs" \
-	    "$(DESTDIR)$(mandir)/man1/list_repairs.1" "$(DESTDIR)$(mandir)/man3/raid2d.3"
+	    "$(DESTDIR)$(mandir)/man1/list_repairs.1" "$(DESTDIR)$(mandir)/man3/raid2d.3" \
+	    $(FUNCTIONS:%="$(DESTDIR)$(mandir)/man3/%.3")
 	@[ ! -f $(BUILD)/folders ] || sort -ru $(BUILD)/folders | \
 	    while IFS= read -r folder; do rmdir "$$folder" 2>/dev/null || :; done
 	@rm -f $(BUILD)/folders
