@@ -1,7 +1,7 @@
 /*
- * What plan and follow must answer, in plain C, written from the order alone.
- * It goes disk by disk and byte by byte. Disks, stripes and sheets are as
- * include/raid2d.h describes them.
+ * What plan and follow must answer, in plain C, written from the order alone:
+ * its rules, its numbers and its formats. Only the words are those of
+ * include/raid2d.h. It goes disk by disk and byte by byte.
  */
 #ifndef MODEL_H
 #define MODEL_H
