@@ -29,7 +29,6 @@ LIB = $(BUILD)/libraid2d.a
 
 HEADER = include/raid2d.h
 PROVED_SOURCES = crates.txt $(shell find crates -type f -not -path '*/must-fail/*')
-C_TESTS = $(wildcard tests/c/*.c)
 STRICT = -Wall -Wextra -Wpedantic -Werror -Iinclude -fsyntax-only
 
 # How long `make fuzz` runs, in seconds.
@@ -51,24 +50,20 @@ $(BUILD)/host: examples/host.c $(HEADER) $(LIB)
 	mkdir -p $(BUILD)
 	$(CC) $(CFLAGS) -Iinclude -o $@ examples/host.c $(LIB)
 
-$(BUILD)/tests-c: $(C_TESTS) tests/c/suite.h $(HEADER) $(LIB)
-	mkdir -p $(BUILD)
-	$(CC) $(CFLAGS) -Iinclude -o $@ $(C_TESTS) $(LIB)
-
 example: $(BUILD)/host
 	$(BUILD)/host
 
 check:
 	bash .ci/run
 
-# tests/c/header.c uses everything the header defines. The program with the
-# count comes last.
-test-c: $(BUILD)/host $(BUILD)/tests-c
+# tests/c/header.c uses everything the header defines. What prints the count
+# comes last.
+test-c: $(BUILD)/host
 	$(CC) -std=c99 $(STRICT) tests/c/header.c
 	$(CXX) -x c++ -std=c++98 $(STRICT) tests/c/header.c
 	$(CXX) -x c++ -std=c++17 $(STRICT) tests/c/header.c
 	$(BUILD)/host | diff examples/host.expected -
-	$(BUILD)/tests-c
+	CC="$(CC)" sh tests/c/run $(LIB) guards before behind clang sanitized
 
 test-rust: $(LIB)
 	RAID2D_LIB_DIR=$(abspath $(dir $(LIB))) cargo run --release --offline \

@@ -448,10 +448,10 @@ static void empty_buffers(void)
             struct call c = new_call(calls[i].function, 2, 1, 0, 0, 0, 0);
 
             if (!null) {
-                c.array.bytes = c.array.memory + 1;
-                c.map.bytes = c.map.memory + 1;
-                c.data.bytes = c.data.memory + 1;
-                c.sheet.bytes = c.sheet.memory + 1;
+                c.array.bytes = c.array.place;
+                c.map.bytes = c.map.place;
+                c.data.bytes = c.data.place;
+                c.sheet.bytes = c.sheet.place;
             }
             expect_run(&c, calls[i].result, OUT_BEFORE, "empty");
             end_call(&c);

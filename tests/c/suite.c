@@ -1,8 +1,11 @@
 /*
  * The tests of all calls through C: counting, lent memory, main.
  *
- * Prints the checks that fail, then one line that counts all of them. The
- * exit status is 0 where none failed.
+ * The program's argument says where lent bytes stand: between guards, which is
+ * also meant without an argument; right before or right behind a page without
+ * access, with a guard on the other side; or bare, in memory of just their
+ * length, for tools that watch its ends. Prints the checks that fail, then one
+ * line that counts all of them. The exit status is 0 where none failed.
  */
 #include <stdarg.h>
 #include <stdio.h>
@@ -12,8 +15,14 @@
 #include "raid2d.h"
 #include "suite.h"
 
-/* Bytes in a guard. An odd number, so that no buffer is aligned. */
+/* Bytes in a guard. An odd number, so that no buffer is aligned; the
+   out-parameter has to be. */
 #define GUARD 61
+#define OUT_GUARD 64
+
+enum placement { GUARDS, BEFORE, BEHIND, BARE };
+
+static enum placement placement;
 
 /* More failed checks than this are counted and not printed. */
 #define PRINTED 20
@@ -52,8 +61,12 @@ void fill(uint8_t *bytes, size_t len)
 {
     size_t i;
 
-    for (i = 0; i < len; i++)
-        bytes[i] = (uint8_t)(arbitrary() >> 56);
+    for (i = 0; i < len; i += sizeof(uint64_t)) {
+        uint64_t number = arbitrary();
+        size_t rest = len - i;
+
+        memcpy(bytes + i, &number, rest < sizeof number ? rest : sizeof number);
+    }
 }
 
 size_t below(size_t bound)
@@ -65,40 +78,74 @@ static uint8_t *allocate(size_t len)
 {
     uint8_t *memory = malloc(len);
 
-    if (memory == NULL) {
+    if (memory == NULL && len > 0) {
         printf("no memory for the tests\n");
         exit(1);
     }
     return memory;
 }
 
-static struct lent lend(size_t len)
+static int has_fence(void)
 {
+    return placement == BEFORE || placement == BEHIND;
+}
+
+static struct lent lend(size_t len, size_t guard)
+{
+    size_t before = placement == GUARDS || placement == BEFORE ? guard : 0;
+    size_t after = placement == GUARDS || placement == BEHIND ? guard : 0;
     struct lent l;
 
     l.len = len;
-    l.memory = allocate(len + 2 * GUARD);
-    l.expected_memory = allocate(len + 2 * GUARD);
-    l.bytes = len == 0 ? NULL : l.memory + GUARD;
-    l.expected = l.expected_memory + GUARD;
-    fill(l.memory, len + 2 * GUARD);
+    l.memory_len = before + len + after;
+    if (has_fence()) {
+        l.fenced = make_fenced(l.memory_len);
+        l.memory = l.fenced.pages;
+        if (placement == BEFORE)
+            l.memory += l.fenced.room - l.memory_len;
+    } else {
+        l.memory = allocate(l.memory_len);
+    }
+    l.expected_memory = allocate(l.memory_len);
+    l.place = l.memory + before;
+    l.bytes = len == 0 ? NULL : l.place;
+    l.expected = l.expected_memory + before;
+    fill(l.memory, l.memory_len);
     return l;
 }
 
 static void expect_lent_as_now(struct lent *l)
 {
-    memcpy(l->expected_memory, l->memory, l->len + 2 * GUARD);
+    if (l->memory_len > 0)
+        memcpy(l->expected_memory, l->memory, l->memory_len);
 }
 
 static int lent_is_as_expected(const struct lent *l)
 {
-    return memcmp(l->expected_memory, l->memory, l->len + 2 * GUARD) == 0;
+    return l->memory_len == 0
+           || memcmp(l->expected_memory, l->memory, l->memory_len) == 0;
 }
 
 static void end_lent(struct lent *l)
 {
-    free(l->memory);
+    if (has_fence())
+        end_fenced(&l->fenced);
+    else
+        free(l->memory);
     free(l->expected_memory);
+}
+
+/* All disks are present. The guards' nearest bytes are zero too, so that who
+   reads past the map finds a present disk there. */
+static void clear_map(struct lent *map)
+{
+    uint8_t *end = map->memory + map->memory_len;
+    uint8_t *low = map->place - (map->place > map->memory);
+    uint8_t *high = map->place + map->len;
+
+    high += high < end;
+    if (high > low)
+        memset(low, 0, (size_t)(high - low));
 }
 
 struct call new_call(enum function function, size_t n, size_t block,
@@ -111,13 +158,12 @@ struct call new_call(enum function function, size_t n, size_t block,
     c.n = n;
     c.block = block;
     c.disk = 0;
-    c.array = lend(array_len);
-    c.map = lend(map_len);
-    c.data = lend(data_len);
-    c.sheet = lend(sheet_len);
-    /* The guards' nearest bytes too, so that who reads past the map finds a
-       present disk there. */
-    memset(c.map.memory + GUARD - 1, 0, map_len + 2);
+    c.array = lend(array_len, GUARD);
+    c.map = lend(map_len, GUARD);
+    c.data = lend(data_len, GUARD);
+    c.sheet = lend(sheet_len, GUARD);
+    c.out = lend(sizeof(size_t), OUT_GUARD);
+    clear_map(&c.map);
     expect_as_now(&c);
     return c;
 }
@@ -143,34 +189,31 @@ uint8_t *cell(uint8_t *array, size_t n, size_t block,
     return &array[(r * (n + 1) + c) * block + place];
 }
 
-/* The superparity is the sum of all data. */
-static void define_parities_at(uint8_t *array, size_t n, size_t block,
-                               size_t place)
-{
-    uint8_t *superparity = cell(array, n, block, n, n, place);
-    size_t r, c;
-
-    *superparity = 0;
-    for (r = 0; r < n; r++) {
-        *cell(array, n, block, r, n, place) = 0;
-        *cell(array, n, block, n, r, place) = 0;
-    }
-    for (r = 0; r < n; r++)
-        for (c = 0; c < n; c++) {
-            uint8_t data = *cell(array, n, block, r, c, place);
-
-            *cell(array, n, block, r, n, place) ^= data;
-            *cell(array, n, block, n, c, place) ^= data;
-            *superparity ^= data;
-        }
-}
-
-void define_parities(uint8_t *array, size_t n, size_t block)
+static void add_block(uint8_t *sum, const uint8_t *bytes, size_t block)
 {
     size_t place;
 
     for (place = 0; place < block; place++)
-        define_parities_at(array, n, block, place);
+        sum[place] ^= bytes[place];
+}
+
+/* The superparity is the sum of all data. */
+void define_parities(uint8_t *array, size_t n, size_t block)
+{
+    size_t r, c;
+
+    for (r = 0; r <= n; r++) {
+        memset(cell(array, n, block, r, n, 0), 0, block);
+        memset(cell(array, n, block, n, r, 0), 0, block);
+    }
+    for (r = 0; r < n; r++)
+        for (c = 0; c < n; c++) {
+            const uint8_t *data = cell(array, n, block, r, c, 0);
+
+            add_block(cell(array, n, block, r, n, 0), data, block);
+            add_block(cell(array, n, block, n, c, 0), data, block);
+            add_block(cell(array, n, block, n, n, 0), data, block);
+        }
 }
 
 void expect_as_now(struct call *c)
@@ -179,35 +222,77 @@ void expect_as_now(struct call *c)
     expect_lent_as_now(&c->map);
     expect_lent_as_now(&c->data);
     expect_lent_as_now(&c->sheet);
+    expect_lent_as_now(&c->out);
 }
 
-size_t run(struct call *c)
+static size_t call_library(struct call *c, size_t *out)
 {
-    c->out[0] = c->out[1] = c->out[2] = OUT_BEFORE;
     switch (c->function) {
     case SEAL:
         return raid2d_seal(c->n, c->block, c->array.bytes, c->array.len);
     case CHECK:
         return raid2d_check(c->n, c->block, c->array.bytes, c->array.len,
-                            &c->out[1]);
+                            out);
     case WRITE:
         return raid2d_write(c->n, c->block, c->array.bytes, c->array.len,
                             c->disk, c->data.bytes, c->data.len);
     case LOOK:
         return raid2d_look(c->n, c->block, c->array.bytes, c->array.len,
-                           c->map.bytes, c->map.len, c->disk, &c->out[1]);
+                           c->map.bytes, c->map.len, c->disk, out);
     case PLAN:
         return raid2d_plan(c->n, c->map.bytes, c->map.len, c->sheet.bytes,
-                           c->sheet.len, &c->out[1]);
+                           c->sheet.len, out);
     case REBUILD:
         return raid2d_rebuild(c->n, c->block, c->array.bytes, c->array.len,
                               c->map.bytes, c->map.len, c->sheet.bytes,
-                              c->sheet.len, &c->out[1]);
+                              c->sheet.len, out);
     default:
         return raid2d_follow(c->n, c->block, c->array.bytes, c->array.len,
                              c->map.bytes, c->map.len, c->sheet.bytes,
-                             c->sheet.len, &c->out[1]);
+                             c->sheet.len, out);
     }
+}
+
+static void allow(const struct lent *l, int writes)
+{
+    if (writes)
+        allow_writes(&l->fenced);
+    else
+        forbid_writes(&l->fenced);
+}
+
+/* With a fence, what the function may not write is protected. */
+static void protect(const struct call *c)
+{
+    enum function f = c->function;
+
+    if (!has_fence())
+        return;
+    allow(&c->array, f == SEAL || f == WRITE || f == REBUILD || f == FOLLOW);
+    allow(&c->map, 0);
+    allow(&c->data, 0);
+    allow(&c->sheet, f == PLAN || f == REBUILD);
+}
+
+static void end_protection(const struct call *c)
+{
+    if (!has_fence())
+        return;
+    allow(&c->array, 1);
+    allow(&c->map, 1);
+    allow(&c->data, 1);
+    allow(&c->sheet, 1);
+}
+
+size_t run(struct call *c)
+{
+    size_t before = OUT_BEFORE, result;
+
+    memcpy(c->out.bytes, &before, sizeof before);
+    protect(c);
+    result = call_library(c, (size_t *)(void *)c->out.bytes);
+    end_protection(c);
+    return result;
 }
 
 void expect_run(struct call *c, size_t result, size_t out, const char *what)
@@ -215,18 +300,19 @@ void expect_run(struct call *c, size_t result, size_t out, const char *what)
     static const char *const names[] = {
         "seal", "check", "write", "look", "plan", "rebuild", "follow"
     };
-    size_t actual = run(c);
+    size_t actual = run(c), actual_out;
     int bytes = lent_is_as_expected(&c->array) && lent_is_as_expected(&c->map)
                 && lent_is_as_expected(&c->data)
-                && lent_is_as_expected(&c->sheet)
-                && c->out[0] == OUT_BEFORE && c->out[2] == OUT_BEFORE;
+                && lent_is_as_expected(&c->sheet);
 
-    expect(actual == result && c->out[1] == out && bytes,
+    memcpy(&actual_out, c->out.bytes, sizeof actual_out);
+    memcpy(c->out.expected, &out, sizeof out);
+    expect(actual == result && lent_is_as_expected(&c->out) && bytes,
            "%s: %s with n %zu, block %zu, disk %zu, lengths %zu (array), "
            "%zu (map), %zu (data), %zu (sheet): result %zu for %zu, "
            "out-parameter %zu for %zu, bytes %s",
            what, names[c->function], c->n, c->block, c->disk, c->array.len,
-           c->map.len, c->data.len, c->sheet.len, actual, result, c->out[1],
+           c->map.len, c->data.len, c->sheet.len, actual, result, actual_out,
            out, bytes ? "as expected" : "NOT as expected");
 }
 
@@ -236,10 +322,26 @@ void end_call(struct call *c)
     end_lent(&c->map);
     end_lent(&c->data);
     end_lent(&c->sheet);
+    end_lent(&c->out);
 }
 
-int main(void)
+/* Where lent bytes are to stand, by the argument. */
+static enum placement placement_of(const char *name)
 {
+    static const char *const names[] = { "guards", "before", "behind", "bare" };
+    int p;
+
+    for (p = GUARDS; p <= BARE; p++)
+        if (strcmp(name, names[p]) == 0)
+            return (enum placement)p;
+    printf("%s is none of: guards before behind bare\n", name);
+    exit(2);
+}
+
+int main(int argc, char **argv)
+{
+    if (argc > 1)
+        placement = placement_of(argv[1]);
     /* A library that crashes should not take the lines before it along. */
     setvbuf(stdout, NULL, _IOLBF, BUFSIZ);
     test_header();

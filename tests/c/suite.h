@@ -1,36 +1,38 @@
 /*
- * What the C tests share: counting, memory with guards around it, and a call
- * with all that it is lent.
+ * What the C tests share: counting, lent memory with guards and fences around
+ * it, and a call with all that it is lent.
  */
 #ifndef SUITE_H
 #define SUITE_H
 
-#include <stddef.h>
-#include <stdint.h>
+#include "../fence.h"
 
 /* Counts one check. Where it does not hold, the rest says what was checked. */
 void expect(int holds, const char *format, ...);
 
 /*
- * Memory lent to the library, with a guard before it and one after it. The
- * same with what is expected after the call stands in a second memory.
+ * Bytes lent to the library, in a memory with a guard before them and one
+ * after them, as far as the placement has them. The same with what is expected
+ * after the call stands in a second memory.
  */
 struct lent {
     uint8_t *bytes;    /* what is passed: NULL where len is 0 */
     uint8_t *expected; /* what bytes should hold after the call */
     size_t len;
+    uint8_t *place;    /* where the bytes stand, also where len is 0 */
     uint8_t *memory, *expected_memory;
+    size_t memory_len;
+    struct fenced fenced;
 };
 
 enum function { SEAL, CHECK, WRITE, LOOK, PLAN, REBUILD, FOLLOW };
 
-/* A call: its numbers, what it is lent, and its out-parameter with a guard
-   on either side. Calls pass over what they have no parameter for. */
+/* A call: its numbers, what it is lent, and its out-parameter, a size_t that
+   is lent too. Calls pass over what they have no parameter for. */
 struct call {
     enum function function;
     size_t n, block, disk;
-    struct lent array, map, data, sheet;
-    size_t out[3];
+    struct lent array, map, data, sheet, out;
 };
 
 /* What an out-parameter holds before each call: no stripe, no offset and no

@@ -6,12 +6,10 @@
 #ifndef LENT_H
 #define LENT_H
 
-#include <stddef.h>
-#include <stdint.h>
+#include "../fence.h"
 
 struct lent {
-    uint8_t *pages; /* the first byte with access */
-    size_t room;    /* how many there are, whole pages */
+    struct fenced memory;
     uint8_t *bytes; /* what is lent */
     size_t len;
 };
@@ -21,10 +19,6 @@ void make_room(struct lent *l, size_t most);
 
 /* Lends this many bytes: right behind the fence, or right before the other. */
 void lend(struct lent *l, size_t len, int behind);
-
-/* From now on a write ends the program, or does not. */
-void forbid_writes(struct lent *l);
-void allow_writes(struct lent *l);
 
 /* The guard bytes are as they were. */
 int guards_hold(const struct lent *l);

@@ -68,15 +68,15 @@ static uint32_t call_follow(const struct input *in)
 {
     uint32_t status;
 
-    forbid_writes(&map);
-    forbid_writes(&sheet);
+    forbid_writes(&map.memory);
+    forbid_writes(&sheet.memory);
     status = raid2d_follow(in->n, in->block,
                            passed(in, &array), in->array_len,
                            passed(in, &map), in->map_len,
                            passed(in, &sheet), in->sheet_len,
                            (size_t *)(void *)count.bytes);
-    allow_writes(&map);
-    allow_writes(&sheet);
+    allow_writes(&map.memory);
+    allow_writes(&sheet.memory);
     return status;
 }
 
@@ -106,11 +106,11 @@ static uint32_t call_plan(const struct input *in)
 {
     uint32_t status;
 
-    forbid_writes(&map);
+    forbid_writes(&map.memory);
     status = raid2d_plan(in->n, passed(in, &map), in->map_len,
                          passed(in, &sheet), in->sheet_len,
                          (size_t *)(void *)count.bytes);
-    allow_writes(&map);
+    allow_writes(&map.memory);
     return status;
 }
 
