@@ -2,9 +2,11 @@
 #
 #   make            the library: build/libraid2d.a
 #   make example    the library and the example host, which is run
-#   make check      all proofs and tests
+#   make check      the gate: all proofs, and the tests that take minutes
+#   make check-long the long tests, which take longer
 #   make test-c     the tests in C, the header as C99 and C++, the example
-#   make test-rust  the comparison with a program in Rust
+#   make test-rust  the comparison with a program in Rust; COMPARE=maps or
+#                   COMPARE=sets for its long parts
 #   make test-fuzz  a bounded run of the fuzzer, and that it finds faults
 #   make fuzz       a longer run, of FUZZ_TIME seconds
 #   make bench      the benchmark
@@ -31,10 +33,10 @@ HEADER = include/raid2d.h
 PROVED_SOURCES = crates.txt $(shell find crates -type f -not -path '*/must-fail/*')
 STRICT = -Wall -Wextra -Wpedantic -Werror -Iinclude -fsyntax-only
 
-# How long `make fuzz` runs, in seconds.
+# How long the fuzzer runs in `make fuzz` and `make check-long`, in seconds.
 FUZZ_TIME = 600
 
-.PHONY: all lib example check test-c test-rust test-fuzz fuzz bench \
+.PHONY: all lib example check check-long test-c test-rust test-fuzz fuzz bench \
     install uninstall clean
 
 all: lib
@@ -56,6 +58,9 @@ example: $(BUILD)/host
 check:
 	bash .ci/run
 
+check-long: $(LIB)
+	FUZZ_TIME=$(FUZZ_TIME) bash tests/long $(LIB)
+
 # tests/c/header.c uses everything the header defines. What prints the count
 # comes last.
 test-c: $(BUILD)/host
@@ -63,11 +68,11 @@ test-c: $(BUILD)/host
 	$(CXX) -x c++ -std=c++98 $(STRICT) tests/c/header.c
 	$(CXX) -x c++ -std=c++17 $(STRICT) tests/c/header.c
 	$(BUILD)/host | diff examples/host.expected -
-	CC="$(CC)" sh tests/c/run $(LIB) guards before behind clang sanitized
+	CC="$(CC)" sh tests/c/run $(LIB) guards before behind clang gcc-sanitizers
 
 test-rust: $(LIB)
 	RAID2D_LIB_DIR=$(abspath $(dir $(LIB))) cargo run --release --offline \
-	    --manifest-path tests/rust/Cargo.toml --target-dir $(BUILD)/rust
+	    --manifest-path tests/rust/Cargo.toml --target-dir $(BUILD)/rust -- $(COMPARE)
 
 test-fuzz: $(LIB)
 	sh tests/fuzz/wrong

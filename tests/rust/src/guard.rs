@@ -1,15 +1,17 @@
 //! Buffers lent to the library: each stands between guard bytes, and nothing beside it may change.
 
 use crate::random::Random;
-use std::sync::atomic::{AtomicUsize, Ordering};
+use std::cell::Cell;
 
 /// Guard bytes on each side, at the least.
 const GUARD: usize = 64;
 /// What an out-parameter holds before the call; no call answers it.
 const UNTOUCHED: usize = 0x5aa5_c33c_9669_0ff0;
 
-/// How many buffers have been lent: it decides the next one's place.
-static LENT: AtomicUsize = AtomicUsize::new(0);
+thread_local! {
+    /// How many buffers have been lent: it decides the next one's place.
+    static LENT: Cell<u64> = const { Cell::new(0) };
+}
 
 fn guard_byte(place: usize) -> u8 {
     (place as u8).wrapping_mul(37) ^ 0xc9
@@ -27,7 +29,7 @@ impl<'a> Lent<'a> {
     /// A copy of the bytes between guards. The copies start at any place modulo 16, and about half of the empty
     /// ones are lent as a null pointer, as the interface allows.
     pub fn new(name: &'static str, original: &'a [u8]) -> Lent<'a> {
-        let turn = Random::new(LENT.fetch_add(1, Ordering::Relaxed) as u64).next();
+        let turn = Random::new(LENT.replace(LENT.get() + 1)).next();
         let start = GUARD + (turn % 16) as usize;
         let mut bytes: Vec<u8> = (0..start).map(guard_byte).collect();
         bytes.extend_from_slice(original);

@@ -1,12 +1,15 @@
 //! Compares libraid2d.a with a model written from paper 01: every answer, every out-parameter and all bytes.
 //!
-//! RAID2D_SEED sets the seed, which is printed: the same seed gives the same run. RAID2D_LONG=1 does twenty times
-//! the work. RAID2D_TRACE=1 prints every input before its call, for a library that ends the program. The last line
-//! counts the comparisons; the exit status is 1 where one fails.
+//! Without an argument the comparison is that of the gate. The argument `maps` asks for all maps at n = 4 instead, and
+//! `sets` for all losses of three and of four disks at n = 15. RAID2D_SEED sets the seed, which is printed: the same
+//! seed gives the same run. RAID2D_LONG=1 does twenty times the random work. RAID2D_TRACE=1 prints every input before
+//! its call, for a library that ends the program. The last line counts the comparisons; the exit status is 1 where one
+//! fails.
 
 mod arguments;
 mod cases;
 mod check;
+mod cores;
 mod equations;
 mod exhaustive;
 mod faults;
@@ -23,6 +26,7 @@ mod plan;
 mod random;
 mod rebuild;
 mod seal;
+mod sets;
 mod sheet;
 mod sheets;
 mod steps;
@@ -97,14 +101,14 @@ const CALLS: [Call; 7] = [
 
 impl Run {
     fn compare(&mut self, call: &Call, rounds: usize) {
-        for _ in 0..rounds {
-            for size in inputs::sizes(&mut self.random) {
-                (call.contents)(self, size);
+        cores::share(self, call.name, rounds, |run, _| {
+            for size in inputs::sizes(&mut run.random) {
+                (call.contents)(run, size);
             }
             for _ in 0..call.draws {
-                (call.refusals)(self);
+                (call.refusals)(run);
             }
-        }
+        });
         self.tally.report(call.name, call.answers);
     }
 }
@@ -120,20 +124,29 @@ fn is_set(variable: &str) -> bool {
     std::env::var(variable).is_ok_and(|value| value == "1")
 }
 
+fn gate(run: &mut Run, rounds: usize) {
+    cases::run(run);
+    run.tally.report("paper's cases", &[0, 1, 2, 4, 6, 7, 8, 10]);
+    huge::run(run);
+    for call in &CALLS {
+        run.compare(call, rounds);
+    }
+    faults::run(run);
+    steps::run(run);
+    exhaustive::run(run, rounds);
+}
+
 fn main() -> ExitCode {
     let rounds = if is_set("RAID2D_LONG") { LONG_ROUNDS } else { 1 };
     let seed = seed();
     println!("seed {seed}, rounds {rounds}");
     let mut run = Run { random: Random::new(seed), tally: Tally::new(is_set("RAID2D_TRACE")) };
-    cases::run(&mut run);
-    run.tally.report("paper's cases", &[0, 1, 2, 4, 6, 7, 8, 10]);
-    huge::run(&mut run);
-    for call in &CALLS {
-        run.compare(call, rounds);
+    match std::env::args().nth(1).as_deref() {
+        None => gate(&mut run, rounds),
+        Some("maps") => exhaustive::maps_of_four(&mut run),
+        Some("sets") => sets::run(&mut run),
+        Some(other) => panic!("{other} is neither maps nor sets"),
     }
-    faults::run(&mut run);
-    steps::run(&mut run);
-    exhaustive::run(&mut run, rounds);
     if run.tally.finish() {
         ExitCode::SUCCESS
     } else {

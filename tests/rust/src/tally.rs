@@ -2,17 +2,20 @@
 
 use crate::outcome::Outcome;
 use std::collections::BTreeMap;
+use std::sync::atomic::{AtomicU64, Ordering};
 
 /// Failures printed in full; the rest are only counted.
 const PRINTED: u64 = 20;
+/// How many have failed in all tallies.
+static FAILED: AtomicU64 = AtomicU64::new(0);
 /// A buffer up to this length is printed whole.
 const WHOLE: usize = 256;
 
 #[derive(Default)]
 pub struct Tally {
     /// Print every input before the call, so that the last one shows where the library ended the program.
-    trace: bool,
-    passed: u64,
+    pub trace: bool,
+    pub passed: u64,
     failed: u64,
     /// How often the model gave each answer since the last report.
     answers: BTreeMap<usize, u64>,
@@ -23,6 +26,27 @@ impl Tally {
         Tally { trace, ..Tally::default() }
     }
 
+    /// Adds what another tally has counted.
+    pub fn add(&mut self, other: Tally) {
+        self.passed += other.passed;
+        self.failed += other.failed;
+        for (answer, count) in other.answers {
+            *self.answers.entry(answer).or_default() += count;
+        }
+    }
+
+    /// Counts one check. `input` gives it in words, `due` is the answer that a right library gives.
+    pub fn judge(&mut self, input: impl Fn() -> String, due: usize, check: impl FnOnce() -> Result<(), String>) {
+        if self.trace {
+            println!("{}", input());
+        }
+        *self.answers.entry(due).or_default() += 1;
+        match check() {
+            Ok(()) => self.passed += 1,
+            Err(complaint) => self.fail(&input(), &complaint),
+        }
+    }
+
     /// Makes one call and compares it with what is expected. `input` gives the call in words.
     pub fn compare(
         &mut self,
@@ -30,25 +54,29 @@ impl Tally {
         expected: &Outcome,
         call: impl FnOnce() -> Result<Outcome, String>,
     ) {
-        if self.trace {
-            println!("{}", input());
-        }
-        *self.answers.entry(expected.answer).or_default() += 1;
-        let complaint = match call() {
-            Ok(outcome) if outcome == *expected => None,
-            Ok(outcome) => Some(expected.difference(&outcome)),
-            Err(breach) => Some(breach),
-        };
-        match complaint {
-            None => self.passed += 1,
-            Some(complaint) => self.fail(&input(), &complaint),
-        }
+        self.judge(input, expected.answer, || {
+            let outcome = call()?;
+            if outcome == *expected {
+                return Ok(());
+            }
+            Err(expected.difference(&outcome))
+        });
     }
 
     fn fail(&mut self, input: &str, complaint: &str) {
         self.failed += 1;
-        if self.failed <= PRINTED {
+        if FAILED.fetch_add(1, Ordering::Relaxed) < PRINTED {
             println!("FAILED: {complaint}\n  input: {input}");
+        }
+    }
+
+    /// Compares a number of things found with the one that is known.
+    pub fn number(&mut self, what: &str, known: u64, found: u64) {
+        println!("{what}: {found}");
+        if found == known {
+            self.passed += 1;
+        } else {
+            self.fail(what, &format!("{found} instead of {known}"));
         }
     }
 
