@@ -18,11 +18,16 @@ uint32_t right_follow(size_t n, size_t block, uint8_t *array, size_t array_len,
                       const uint8_t *map, size_t map_len,
                       const uint8_t *sheet, size_t sheet_len, size_t *count);
 
+/* Asked so often that the environment is looked at only once. */
 static int wrong(const char *name)
 {
-    const char *wanted = getenv("WRONG");
+    static const char *wanted;
 
-    return wanted != NULL && strcmp(wanted, name) == 0;
+    if (wanted == NULL)
+        wanted = getenv("WRONG");
+    if (wanted == NULL)
+        wanted = "";
+    return strcmp(wanted, name) == 0;
 }
 
 static void read_at(const void *place)
@@ -58,7 +63,7 @@ static uint32_t spoil_plan(uint32_t status, size_t n, const uint8_t *map,
 {
     static const uint8_t rectangle[4] = { 201, 205, 233, 237 };
     static const uint8_t apart[4] = { 17, 34, 51, 255 };
-    static const uint8_t small[4] = { 0, 6, 12, 18 };
+    static const uint8_t small[4] = { 11, 17, 23, 24 };
     int is_rectangle = n == 15 && erases(map, map_len, rectangle);
     int is_apart = n == 15 && erases(map, map_len, apart);
 

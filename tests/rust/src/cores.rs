@@ -2,7 +2,7 @@
 
 use crate::random::Random;
 use crate::tally::Tally;
-use crate::Run;
+use crate::{guard, Run};
 use std::sync::atomic::{AtomicUsize, Ordering};
 use std::sync::Mutex;
 use std::thread;
@@ -41,6 +41,7 @@ pub fn share(run: &mut Run, name: &str, parts: usize, work: impl Fn(&mut Run, us
             return;
         }
         let part = parts - 1 - turn;
+        guard::restart();
         let mut own = Run { random: Random::new(seed.wrapping_add(part as u64)), tally: Tally::new(trace) };
         work(&mut own, part);
         done.lock().expect("no core has failed").add(name, parts, own.tally);

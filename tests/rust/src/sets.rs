@@ -82,7 +82,7 @@ impl Planner {
         self.sheet.fill(FILL);
         disks.iter().for_each(|&disk| self.map[GUARD + disk] = 1);
         let mut count = [COUNT_BEFORE; 3];
-        let (map, sheet) = (self.map[GUARD..].as_ptr(), self.sheet[GUARD..].as_mut_ptr());
+        let (map, sheet) = (self.map[GUARD..].as_mut_ptr(), self.sheet[GUARD..].as_mut_ptr());
         let status = unsafe { ffi::raid2d_plan(SIDE_MAX, map, DISKS, sheet, SHEET, count[1..].as_mut_ptr()) };
         disks.iter().for_each(|&disk| self.map[GUARD + disk] ^= 1);
         self.planned += 1;
