@@ -117,6 +117,8 @@ uint32_t raid2d_write(size_t n, size_t block, uint8_t *array, size_t array_len,
 
     if (wrong("reads a byte behind the data") && status == 0)
         read_at(data + data_len);
+    if (wrong("reads a byte before the data") && status == 0)
+        read_at(data - 1);
     if (wrong("writes the data, the same bytes") && status == 0)
         write_at(data);
     return status;
