@@ -3,6 +3,7 @@
 # what it subtracts from the stack pointer, then what the deepest of its calls takes, but at least the 128 bytes below its stack
 # pointer that the calling convention lets it use; a function of the host, as memset, is taken to need no more than these. Ends
 # with status 1 where the code moves the stack pointer in another way, calls something that it does not name, or calls itself.
+# Older versions of objdump write callq, jmpq and pushq.
 
 /^[0-9a-f]+ <.*>:$/ { name = substr($0, index($0, "<") + 1); name = substr(name, 1, length(name) - 2); own[name] = 8; next }
 calling && !/R_X86_64_P(LT|C)32/ { refuse("calls something that it does not name: " calling) }
@@ -13,9 +14,9 @@ calling && !/R_X86_64_P(LT|C)32/ { refuse("calls something that it does not name
     calls[name] = calls[name] callee "\n"
     calling = ""
 }
-/\tcall / { calling = $0 }
-/\tjmp +\*/ { refuse("goes to a place that it does not name: " $0) }
-/\tpush / { own[name] += 8 }
+/\tcallq? / { calling = $0 }
+/[\t ](call|jmp)q? +\*/ { refuse("goes to a place that it does not name: " $0) }
+/\tpushq? / { own[name] += 8 }
 # Compilers write -128 for 128 where that is shorter.
 /\tadd +\$0xffffffffffffff80,%rsp$/ { own[name] += 128; next }
 /\tsub +\$0xffffffffffffff80,%rsp$/ { next }
@@ -44,4 +45,8 @@ function depth(f,    list, count, i, most, d) {
     return own[f] + most
 }
 
-END { if (bad) exit 1; for (f in own) if (f ~ /^raid2d_/) print depth(f), f }
+END {
+    if (bad) exit 1
+    if (calling) refuse("calls something that it does not name: " calling)
+    for (f in own) if (f ~ /^raid2d_/) print depth(f), f
+}
