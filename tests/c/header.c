@@ -97,38 +97,6 @@ static void readers_of_places(void)
     expect(raid2d_sheet_next(sheet, 32) == 197, "next of record 32");
 }
 
-/* The header's three sheets, read as it says. */
-static void readers_of_sheets(void)
-{
-    static const uint8_t sheets[3][RAID2D_SHEET_BYTES] = {
-        { 1, 1, 2, 18, 2, 0, 0, 3, 6, 2, 0 },
-        { 2, 1, 0, 0, 2, 2, 18, 3, 8, 2, 4, 6, 16, 0 },
-        { 1, 3, 6, 2, 0, 9, 9, 9, 2, 18, 4, 0, 0, 1 }
-    };
-    static const size_t counts[3] = { 3, 4, 3 };
-    static const size_t records[3][4][2] = {
-        { { 2, 18 }, { 0, 0 }, { 6, 2 }, { 0, 0 } },
-        { { 0, 0 }, { 2, 18 }, { 8, 2 }, { 6, 16 } },
-        { { 2, 18 }, { 0, 0 }, { 6, 2 }, { 0, 0 } }
-    };
-    size_t s, k, count;
-
-    for (s = 0; s < 3; s++) {
-        const uint8_t *sheet = sheets[s];
-
-        count = 0;
-        for (k = raid2d_sheet_first(sheet); k != 0;
-             k = raid2d_sheet_next(sheet, k)) {
-            expect(raid2d_sheet_disk(sheet, k) == records[s][count][0],
-                   "disk of record %u", (unsigned)k);
-            expect(raid2d_sheet_stripe(sheet, k) == records[s][count][1],
-                   "stripe of record %u", (unsigned)k);
-            count++;
-        }
-        expect(count == counts[s], "records of a sheet");
-    }
-}
-
 void test_header(void)
 {
     limits_and_sizes();
@@ -136,5 +104,4 @@ void test_header(void)
     numbers_of_statuses();
     words_of_statuses();
     readers_of_places();
-    readers_of_sheets();
 }
