@@ -71,7 +71,7 @@ test-c: $(BUILD)/host
 	CC="$(CC)" sh tests/c/run $(LIB) guards before behind clang gcc-sanitizers
 
 test-rust: $(LIB)
-	RAID2D_LIB_DIR=$(abspath $(dir $(LIB))) cargo run --release --offline \
+	RAID2D_LIB=$(abspath $(LIB)) cargo run --release --offline \
 	    --manifest-path tests/rust/Cargo.toml --target-dir $(BUILD)/rust -- $(COMPARE)
 
 test-fuzz: $(LIB)
