@@ -22,7 +22,8 @@ CXX = c++
 CFLAGS = -std=c99 -O2 -Wall -Wextra -Wpedantic
 BUILD = build
 
-# The header, raid2d.pc and the manual pages say the same: tests/install.
+# The header and the manual pages say the same (tests/manual), and so does
+# raid2d.pc (tests/install).
 VERSION = 0.4.0
 
 # The archive that C programs are linked with. `make test-c LIB=other.a` tests
