@@ -13,7 +13,7 @@ use lib.ListN.{length}
 use Rattle.model.specs.Fold.{bit, count}
 use Rattle.model.specs.Stripes.{Layout, TwoStripes, among, on}
 use Rattle.model.specs.Grid.{grid, rows, columns, gridOf, sizeFits}
-use Rattle.model.specs.Repair.{without, Entry, allowed, Peels, after}
+use Rattle.model.specs.Repair.{without, Entry, allowed, Peels}
 use Rattle.model.specs.declared.Size.{Size}
 use Rattle.model.proofs.Fold.{and-left, and-right, and-both, by-cases, lt-or-le, below-suc, bit-le, count-le, count-mono, count-none, count-some, count-found, count-add, count-without}
 use Rattle.model.proofs.Grid.{Fits, size-fits, gridOf-two}
@@ -258,16 +258,7 @@ module _ (L : Layout) (two : TwoStripes L) where
       true≢false (sym (ap (on L j) (sym q) ∙ n) ∙ a .only j w (without-apart e d j m) (without-sub e d j m)))))) in
       omega arith
 
-  -- So there are no more repairs than stripes that are touched.
-  pub peels-touched : (e : ℕ → Bool) (w : List Entry) → Peels L e w → length w + touched L (after e w) ≤ touched L e
-  unfolding after
-  peels-touched e [] p = le-of-eq (zero-add (touched L e))
-  peels-touched e (r ∷ rs) p =
-      let here = repair-frees e (r .disk) (r .stripe) (p .0) in
-      let rest = peels-touched (without e (r .disk)) rs (p .1) in
-      omega arith
-
-  -- Before the last repair its disk still touches two stripes.
+  -- So the repairs are fewer than the stripes that are touched: before the last repair its disk still touches two.
   pub peels-fewer : (e : ℕ → Bool) (w : List Entry) → Peels L e w → 0 < length w → length w + 1 ≤ touched L e
   peels-fewer e [] p h = absurd (not-suc-le-zero h)
   peels-fewer e (r ∷ []) p h =

@@ -6,7 +6,6 @@ use mathlib.Core.Logic.{_⊎_, inl, inr, ⊎-elim}
 use mathlib.Core.List.{List}
 use Prim.Native.Nat.{ℕ, zero, suc, _+_, _*_, _≤_, _<_, zero-le, suc-le-suc}
 use native.Mathlib.Nat.{add-zero, add-comm, add-suc, zero-mul, suc-mul, eq-or-lt-of-le, le-of-suc-le-suc, lt-suc-self, le-step, le-refl, le-of-lt, lt-irrefl, not-suc-le-zero, lt-of-lt-of-le, zero-lt-suc, pos-of-ne-zero}
-use native.Mathlib.Numerals.{add-one}
 use native.Mathlib.Omega.{arith}
 use borrow.Author.Tests.{ltb-true, ltb-false, eq-eqb, ne-eqb}
 use lib.Dec.{ltb, eqb}
@@ -141,10 +140,6 @@ every-fails (suc n) t e = go (every n t) refl (every-fails n t)
     go : (b : Bool) → every n t ≡ b → (every n t ≡ false → (i : ℕ) × (i < n) × (t i ≡ false)) → (i : ℕ) × (i < suc n) × (t i ≡ false)
     go true q up = (n, lt-suc-self n, ap (λ (b : Bool). b && t n) (sym q) ∙ e)
     go false q up = let (i, l, h) = up q in (i, le-step l, h)
-
-pub every-next : (n : ℕ) (t : ℕ → Bool) → every n t ≡ true → t n ≡ true → every (n + 1) t ≡ true
-unfolding every
-every-next n t e h = rw add-one (and-both e h)
 
 pub every-not : (n : ℕ) (t : ℕ → Bool) (i : ℕ) → i < n → t i ≡ false → every n t ≡ false
 every-not n t i h e = by-cases (λ (b : Bool). b ≡ false) (every n t) (λ a. sym (every-at n t a i h) ∙ e) (λ a. refl)

@@ -4,8 +4,8 @@ use mathlib.Core.Path.{_≡_, refl, sym, _∙_, ap, ap₂, subst, fun-ext}
 use mathlib.Core.Bool.{Bool, true, false, cond, not, _&&_, _||_, and-true, and-false, true≢false, false≢true}
 use mathlib.Core.Logic.{⊎-elim, _↔_}
 use mathlib.Core.List.{List, [], _∷_, _++_}
-use Prim.Native.Nat.{ℕ, zero, suc, _+_, _≤_, _<_, zero-le, suc-le-suc}
-use native.Mathlib.Nat.{zero-add, le-of-suc-le-suc, eq-or-lt-of-le, not-suc-le-zero, zero-lt-suc, lt-of-le-of-lt}
+use Prim.Native.Nat.{ℕ, zero, suc, _+_, _≤_, _<_, zero-le}
+use native.Mathlib.Nat.{zero-add, le-of-suc-le-suc, eq-or-lt-of-le, not-suc-le-zero, lt-of-le-of-lt}
 use native.Mathlib.Decide.{decLt}
 use native.Mathlib.Numerals.{add-one}
 use native.Mathlib.Omega.{arith}
@@ -125,14 +125,6 @@ after-append e (r ∷ rs) w = after-append (without e (r .disk)) rs w
 pub after-snoc : (e : ℕ → Bool) (w : List Entry) (r : Entry) → after e (w ++ (r ∷ [])) ≡ without (after e w) (r .disk)
 unfolding after
 after-snoc e w r = after-append e w (r ∷ [])
-
--- A disk that no repair names stays as it was.
-pub after-keeps : (e : ℕ → Bool) (w : List Entry) (d : ℕ) → ((i : ℕ) → i < length w → diskOf w i ≡ d → ⊥) → after e w d ≡ e d
-unfolding after diskOf
-after-keeps e [] d h = refl
-after-keeps e (r ∷ rs) d h =
-    after-keeps (without e (r .disk)) rs d (λ i l. h (suc i) (suc-le-suc l))
-    ∙ without-other e (r .disk) d (λ q. h 0 (zero-lt-suc (length rs)) (sym q))
 
 module _ (L : Layout) where
   -- Repairs name disks only.

@@ -12,10 +12,9 @@ use lib.ListN.{length, getD, set, take, replicate, length-set, length-append}
 use lib.Seq.{getD-set-same, getD-set-other, take-suc, take-length}
 use Rattle.model.specs.Fold.{tabulate}
 use Rattle.model.specs.Repair.{Entry}
-use Rattle.model.specs.Cycle.{diskOf, stripeOf}
 use Rattle.model.specs.Sheet.{chainBytes, sheetOf}
 use Rattle.model.proofs.Fold.{by-cases, length-tabulate, getD-tabulate, list-is, tabulate-ext}
-use Rattle.model.proofs.Sheets.{sheet-entry, sheet-disk, sheet-stripe}
+use Rattle.model.proofs.Sheets.{sheet-entry}
 use Rattle.sheet.specs.Record.{appended, recordDisk, recordStripe, records}
 
 -- ---- a list filled up with zeros to the length of a sheet
@@ -110,14 +109,6 @@ no-record kind = refl
 
 -- Where the list fits the sheet, its disks and stripes stand in the records.
 module _ (kind : ℕ) (w : List Entry) (fits : length w ≤ 32) where
-  pub record-disk-is : (k : ℕ) → k < length w → recordDisk (sheetOf kind w) k ≡ diskOf w k
-  unfolding recordDisk
-  record-disk-is = sheet-disk kind w fits
-
-  pub record-stripe-is : (k : ℕ) → k < length w → recordStripe (sheetOf kind w) k ≡ stripeOf w k
-  unfolding recordStripe
-  record-stripe-is = sheet-stripe kind w fits
-
   -- The first k records are the first k of the list.
   pub records-first : (k : ℕ) → k ≤ length w → records (sheetOf kind w) k ≡ take k w
   unfolding records recordDisk recordStripe
