@@ -20,7 +20,7 @@ fn spoil(array: &mut [u8], map: &[u8])
     while d < 256 {
         if map[d] == 1 {
             let at = d * 4096;
-            trial::mark(array, at, at + 4096, 1, 165);
+            trial::put_every(array, at, at + 4096, 1, 165);
         }
         d += 1;
     }
@@ -31,9 +31,9 @@ fn spoil(array: &mut [u8], map: &[u8])
 pub fn run() {
     let size = Size { side: 15 };
     let mut array = blank();
-    trial::mark(&mut array, 0, 1048576, 3, 7);
-    trial::mark(&mut array, 1, 1048576, 5, 90);
-    trial::mark(&mut array, 2, 1048576, 4099, 203);
+    trial::put_every(&mut array, 0, 1048576, 3, 7);
+    trial::put_every(&mut array, 1, 1048576, 5, 90);
+    trial::put_every(&mut array, 2, 1048576, 4099, 203);
     say::status(
         b"seal the largest array",
         array::seal(size, 4096, &mut array),
@@ -41,8 +41,8 @@ pub fn run() {
     say::checked(b"check it", array::check(size, 4096, &array));
     let sealed = array;
     let mut map = [0u8; 256];
-    trial::mark(&mut map, 0, 16, 1, 1);
-    trial::mark(&mut map, 0, 256, 16, 1);
+    trial::put_every(&mut map, 0, 16, 1, 1);
+    trial::put_every(&mut map, 0, 256, 16, 1);
     spoil(&mut array, &map);
     let mut sheet = [0u8; 98];
     say::outcome(

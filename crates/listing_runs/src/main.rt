@@ -58,8 +58,8 @@ fn cross() {
     let mut input = [0u8; 257];
     input[0] = 15;
     run(b"n = 15, none erased", &input);
-    trial::mark(&mut input, 1, 17, 1, 1);
-    trial::mark(&mut input, 1, 257, 16, 1);
+    trial::put_every(&mut input, 1, 17, 1, 1);
+    trial::put_every(&mut input, 1, 257, 16, 1);
     run(b"n = 15, row 0 and column 0 erased", &input);
 }
 
@@ -67,11 +67,11 @@ fn cross() {
 fn stairs() {
     let mut input = [0u8; 257];
     input[0] = 15;
-    trial::mark(&mut input, 1, 257, 17, 1);
-    trial::mark(&mut input, 2, 257, 17, 1);
-    trial::mark(&mut input, 241, 242, 1, 1);
+    trial::put_every(&mut input, 1, 257, 17, 1);
+    trial::put_every(&mut input, 2, 257, 17, 1);
+    trial::put_every(&mut input, 241, 242, 1, 1);
     run(b"n = 15, stairs erased", &input);
-    trial::mark(&mut input, 1, 257, 1, 1);
+    trial::put_every(&mut input, 1, 257, 1, 1);
     run(b"n = 15, all erased", &input);
 }
 

@@ -22,7 +22,7 @@ fn fatal_below(size: Size, map: &[u8], k: usize) -> bool
     0 < found.left
 }
 
-// The disk whose loss makes the loss of those below it fatal, by halving.
+// The lowest disk with which the loss of the erased disks up to it is fatal, found by halving.
 fn closing_disk(size: Size, map: &[u8]) -> usize
     requires { ⌜ sizeFits size ≡ true ⌝ }
     requires { ⌜ mapFits size (now map) ≡ true ⌝ }
@@ -52,10 +52,10 @@ pub fn show(size: Size, map: &[u8], sheet: &mut [u8])
 {
     let last = closing_disk(size, map);
     let mut core = [0u8; 256];
-    let mut used = [0u8; 98];
-    peel::peel_below(size, map, last + 1, &mut core, &mut used);
-    let mut blank = [0u8; 98];
-    blank[0] = 2;
-    cycle::trace(size, &core, &mut blank);
-    sheet::copy(&blank, sheet);
+    let mut unused = [0u8; 98];
+    peel::peel_below(size, map, last + 1, &mut core, &mut unused);
+    let mut drawn = [0u8; 98];
+    drawn[0] = 2;
+    cycle::trace(size, &core, &mut drawn);
+    sheet::copy(&drawn, sheet);
 }

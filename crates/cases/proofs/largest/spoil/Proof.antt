@@ -23,11 +23,11 @@ shared-slice-read-if1 c = search needs
 mul-at : tie.Need-mul-at Inv-loop μ-loop
 mul-at c = search needs
 
-add-mark : tie.Need-add-mark Inv-loop μ-loop
-add-mark c = search needs
+add-put-every : tie.Need-add-put-every Inv-loop μ-loop
+add-put-every c = search needs
 
-mark-requires : tie.Need-mark-requires Inv-loop μ-loop
-mark-requires c κs = search needs
+put-every-requires : tie.Need-put-every-requires Inv-loop μ-loop
+put-every-requires c κs = search needs
 
 add-d : tie.Need-add-d Inv-loop μ-loop
 add-d c = search needs
@@ -56,8 +56,8 @@ spoil-spec =
     loop-holds
     shared-slice-read-if1
     mul-at
-    add-mark
-    mark-requires
+    add-put-every
+    put-every-requires
     add-d
     loop-less
     loop-again

@@ -32,8 +32,8 @@ peel-below-requires c κs =
     let s = c .before .before .before .before .before in
     (s .pre .0, (s .pre .1 .0, (closing-inside _ _ (s .pre .1 .1 .0) _ (c .before .before .closing-disk .ensures), (refl, refl))))
 
-array-write-blank : tie.Need-array-write-blank
-array-write-blank c = search needs
+array-write-drawn : tie.Need-array-write-drawn
+array-write-drawn c = search needs
 
 slice-aggregate-trace : tie.Need-slice-aggregate-trace
 slice-aggregate-trace c = search needs
@@ -78,7 +78,7 @@ show-spec =
     slice-aggregate-peel-below
     slice-aggregate-peel-below-2
     peel-below-requires
-    array-write-blank
+    array-write-drawn
     slice-aggregate-trace
     slice-aggregate-trace-2
     trace-requires
