@@ -158,7 +158,7 @@ pub fn on_stripe(size: Size, disk: usize, stripe: usize) -> bool
     stripe == column_stripe(size, disk)
 }
 
-// The map has a byte for each disk, and each is 0 or 1: so is what all of them together have.
+// The map has a byte for each disk, and each is 0 or 1, which holds exactly if their inclusive or is.
 pub fn map_fits(size: Size, map: &[u8]) -> bool
     requires { ⌜ sizeFits size ≡ true ⌝ }
     ensures { λ r. ⌜ r ≡ mapFits size (now (map .entry)) ⌝ }

@@ -24,7 +24,7 @@ fn zero128(v: [u8; 128]) -> bool
     any == 0
 }
 
-// The same for 128 * chunks bytes, 128 at a time.
+// `cancel` for 128 * chunks bytes, 128 at a time.
 fn cancel128(a: &[u8], first: usize, step: usize, count: usize, skip: usize, chunks: usize) -> bool
     requires { ⌜ Within (now a) first step count (128 * chunks) ⌝ }
     requires { ⌜ first + 128 * chunks ≤ length (now a) ⌝ }
@@ -54,7 +54,7 @@ fn zero16(v: [u8; 16]) -> bool
     any == 0
 }
 
-// The same for 16 * chunks bytes, 16 at a time.
+// `cancel` for 16 * chunks bytes, 16 at a time.
 fn cancel16(a: &[u8], first: usize, step: usize, count: usize, skip: usize, chunks: usize) -> bool
     requires { ⌜ Within (now a) first step count (16 * chunks) ⌝ }
     requires { ⌜ first + 16 * chunks ≤ length (now a) ⌝ }
@@ -71,7 +71,7 @@ fn cancel16(a: &[u8], first: usize, step: usize, count: usize, skip: usize, chun
     true
 }
 
-// The same, one byte at a time.
+// `cancel`, one byte at a time.
 fn cancel1(a: &[u8], first: usize, step: usize, count: usize, skip: usize, len: usize) -> bool
     requires { ⌜ Within (now a) first step count len ⌝ }
     requires { ⌜ first + len ≤ length (now a) ⌝ }

@@ -19,7 +19,7 @@ fn put128(a: &mut [u8], at: usize, v: [u8; 128])
     }
 }
 
-// The same for 128 * chunks bytes, 128 at a time.
+// `fill` for 128 * chunks bytes, 128 at a time.
 fn fill128(a: &mut [u8], first: usize, step: usize, count: usize, skip: usize, chunks: usize)
     requires { ⌜ Spaced (now a) first step count skip (128 * chunks) ⌝ }
     ensures { λ r. ⌜ now (a .exit) ≡ filled (128 * chunks) (now (a .entry)) first step count skip ⌝ }
@@ -45,7 +45,7 @@ fn put16(a: &mut [u8], at: usize, v: [u8; 16])
     }
 }
 
-// The same for 16 * chunks bytes, 16 at a time.
+// `fill` for 16 * chunks bytes, 16 at a time.
 fn fill16(a: &mut [u8], first: usize, step: usize, count: usize, skip: usize, chunks: usize)
     requires { ⌜ Spaced (now a) first step count skip (16 * chunks) ⌝ }
     ensures { λ r. ⌜ now (a .exit) ≡ filled (16 * chunks) (now (a .entry)) first step count skip ⌝ }
@@ -59,7 +59,7 @@ fn fill16(a: &mut [u8], first: usize, step: usize, count: usize, skip: usize, ch
     }
 }
 
-// The same, one byte at a time.
+// `fill`, one byte at a time.
 fn fill1(a: &mut [u8], first: usize, step: usize, count: usize, skip: usize, len: usize)
     requires { ⌜ Spaced (now a) first step count skip len ⌝ }
     ensures { λ r. ⌜ now (a .exit) ≡ filled len (now (a .entry)) first step count skip ⌝ }
