@@ -1,5 +1,5 @@
-// What is proved of the definitions, said of the calls themselves: demand 3 of paper 01 of plan and rebuild, which are made on one
-// input, and of follow that it does as rebuild.
+// What is proved of the definitions, said of the calls: of plan and rebuild on one input demand 3, of follow that it does as
+// rebuild.
 ghost use mathlib.Core.Path.{_≡_};
 ghost use mathlib.Core.Bool.{true};
 ghost use mathlib.Core.Logic.{_↔_};

@@ -1,4 +1,4 @@
-// Peeling: the repairs of a map in plan's order, and the disks that they leave erased.
+// Peeling: the repairs of a map in plan's order, and the disks that they leave erased; and a list from elsewhere judged (`replay`).
 ghost use mathlib.Core.Path.{_≡_};
 ghost use mathlib.Core.Bool.{true};
 ghost use Prim.Native.Nat.{_≤_};
