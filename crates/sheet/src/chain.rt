@@ -16,7 +16,8 @@ pub enum Chain {
     Broken,
 }
 
-// Writes the records of a chain into a blank sheet in its order, as numbers 1, 2, 3 and so on.
+// Writes the records of a chain into a blank sheet in its order, as numbers 1, 2, 3 and so on. What `own` holds after `Broken` is
+// left open.
 pub fn straighten(sheet: &[u8], own: &mut [u8]) -> Chain
     requires { ⌜ length (now sheet) ≡ 98 ⌝ }
     requires { ⌜ now own ≡ replicate 98 0 ⌝ }
