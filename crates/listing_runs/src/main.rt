@@ -30,7 +30,7 @@ fn refused() {
     run(b"n = 15 with 255 bytes", &most[..256]);
 }
 
-// Losses that come back, n = 2.
+// Losses that come back.
 fn repairs() {
     run(b"none erased", b"\x02\0\0\0\0\0\0\0\0\0");
     run(b"0, 2, 6 erased", b"\x02\x01\0\x01\0\0\0\x01\0\0");
