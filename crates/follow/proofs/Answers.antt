@@ -5,10 +5,8 @@ use mathlib.Core.Bool.{Bool, true, false}
 use mathlib.Core.List.{List}
 use Prim.Native.Nat.{ℕ, _≤_}
 use native.Mathlib.Omega.{arith}
-use borrow.Author.Tests.{eq-eqb, ne-eqb}
-use lib.Dec.{eqb}
 use lib.ListN.{length}
-use Rattle.model.specs.Grid.{gridOf, mapFits}
+use Rattle.model.specs.Grid.{gridOf}
 use Rattle.model.specs.Refusal.{refusal, arrayTests}
 use Rattle.model.specs.Repair.{erasures, Peels}
 use Rattle.model.specs.Sheet.{sheetOf}
@@ -18,7 +16,7 @@ use Rattle.model.specs.Follow.{clears, followedArray, followOutcome, followArra
 use Rattle.model.specs.declared.Size.{Size}
 use Rattle.model.specs.declared.Outcome.{Outcome}
 use Rattle.model.specs.declared.Outcome.the-variants.{Repairs, Refused}
-use Rattle.model.proofs.Refusal.{no-tests, fails, passes, refused-first, array-fits, array-passed}
+use Rattle.model.proofs.Refusal.{refused-first, array-fits, array-passed}
 use Rattle.model.proofs.Clears.{clears-peels}
 use Rattle.model.proofs.Chain.{chain-few}
 use Rattle.model.proofs.Sheets.{sheet-length}
@@ -49,24 +47,13 @@ module _ (z : Size) (B : ℕ) (a m s : List ℕ) where
   array-refused status e some = early status (refused-first (arrayTests z B (length a)) _ (λ q. some (e ∙ q)) ∙ sym e) some
 
   module _ (sized : refusal (arrayTests z B (length a)) ≡ 0) where
-    tests-left : rebuildRefusal z B a m s ≡ refusal (sheetTests z m (length s))
+    pub tests-left : rebuildRefusal z B a m s ≡ refusal (sheetTests z m (length s))
     unfolding rebuildRefusal rebuildTests
     tests-left = array-passed z B (length a) (array-fits z B (length a) sized) _
 
-    pub map-refused : mapFits z m ≡ false → Followed z B a m s (Refused 4) a
-    unfolding sheetTests
-    map-refused unfit = early 4 (tests-left ∙ fails 4 (mapFits z m) _ unfit) (λ q. omega arith)
-
-    module _ (mapped : mapFits z m ≡ true) where
-      pub sheet-refused : (length s ≡ 98 → ⊥) → Followed z B a m s (Refused 5) a
-      unfolding sheetTests
-      sheet-refused other =
-          early 5 (tests-left ∙ passes 4 (mapFits z m) _ mapped ∙ fails 5 (eqb (length s) 98) _ (ne-eqb (length s) 98 other)) (λ q. omega arith)
-
-      pub none-refused : length s ≡ 98 → rebuildRefusal z B a m s ≡ 0
-      unfolding sheetTests
-      none-refused long =
-          tests-left ∙ passes 4 (mapFits z m) _ mapped ∙ passes 5 (eqb (length s) 98) _ (eq-eqb (length s) 98 long) ∙ no-tests
+    pub sheet-refused : (status : ℕ) → status ≡ refusal (sheetTests z m (length s)) → (status ≡ 0 → ⊥)
+        → Followed z B a m s (Refused status) a
+    sheet-refused status e = early status (tests-left ∙ sym e)
 
 -- ---- the sheet
 

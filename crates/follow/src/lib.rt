@@ -13,15 +13,13 @@ pub fn follow(size: Size, block: usize, array: &mut [u8], map: &[u8], sheet: &[u
         now (array .exit) ≡ followArray size block (now (array .entry)) (now (map .entry)) (now (sheet .entry))
         ⌝ }
 {
-    let status = layout::array_refusal(size, block, array.len());
-    if status != 0 {
-        return Outcome::Refused(status);
+    let of_array = layout::array_refusal(size, block, array.len());
+    if of_array != 0 {
+        return Outcome::Refused(of_array);
     }
-    if !layout::map_fits(size, map) {
-        return Outcome::Refused(4);
-    }
-    if sheet.len() != 98 {
-        return Outcome::Refused(5);
+    let of_sheet = layout::sheet_refusal(size, map, sheet.len());
+    if of_sheet != 0 {
+        return Outcome::Refused(of_sheet);
     }
     let mut own = [0u8; 98];
     let chain = sheet::chain::straighten(sheet, &mut own);

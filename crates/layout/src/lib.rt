@@ -7,6 +7,7 @@ ghost use Rattle.model.specs.Grid.{rows, columns, across, disks, diskAt, arrayB
 ghost use Rattle.model.specs.Stripes.{on};
 ghost use Rattle.model.specs.Grid.{gridOf};
 ghost use Rattle.model.specs.Refusal.{refusal, arrayTests};
+ghost use Rattle.model.specs.Rebuild.{sheetTests};
 ghost use Rattle.layout.specs.Stripe.{disksOn, placeOn, rowStripe, columnStripe};
 use model::Size;
 
@@ -188,6 +189,20 @@ pub fn array_refusal(size: Size, block: usize, len: usize) -> u32
     }
     if len != array_bytes(size, block) {
         return 3;
+    }
+    0
+}
+
+// The tests of the map and of the sheet's length, which follow the others in every call that takes both: the refusal, or 0.
+pub fn sheet_refusal(size: Size, map: &[u8], len: usize) -> u32
+    requires { ⌜ sizeFits size ≡ true ⌝ }
+    ensures { λ r. ⌜ r ≡ refusal (sheetTests size (now (map .entry)) len) ⌝ }
+{
+    if !map_fits(size, map) {
+        return 4;
+    }
+    if len != 98 {
+        return 5;
     }
     0
 }

@@ -1,6 +1,7 @@
 -- Which arguments pass the tests: the tests of the definitions against the paper's numbers.
 -- Assumes nothing.
 use mathlib.Core.Path.{_≡_, _∙_, ap}
+use mathlib.Core.Bool.{true}
 use native.Mathlib.Omega.{arith}
 use mathlib.Core.Logic.{_↔_}
 use mathlib.Core.List.{List}
@@ -52,15 +53,20 @@ block-accepts n B a d new = (
 abbrev pub SheetFits : ℕ → List ℕ → ℕ → Type 0
 SheetFits n m len = (length m ≡ (n + 1) * (n + 1)) × ((d : ℕ) → d < length m → getD m d 0 ≤ 1) × (len ≡ 98)
 
+pub sheet-fits : (z : Size) (m : List ℕ) (len : ℕ) → refusal (sheetTests z m len) ≡ 0 → (mapFits z m ≡ true) × (len ≡ 98)
+unfolding sheetTests
+sheet-fits z m len e =
+    let (map, e₂) = passed 4 (mapFits z m) _ (omega arith) e in
+    (map, eqb-true len 98 (passed 5 (eqb len 98) _ (omega arith) e₂ .0))
+
 sheet-accepts : (n : ℕ) (m : List ℕ) (len : ℕ) → (refusal (sheetTests (square n) m len) ≡ 0) ↔ SheetFits n m len
 unfolding sheetTests mapFits square disks across rows columns
 sheet-accepts n m len = (
   λ e.
-      let (map, e₂) = passed 4 (mapFits (square n) m) _ (omega arith) e in
-      let (long, e₃) = passed 5 (eqb len 98) _ (omega arith) e₂ in (
+      let (map, long) = sheet-fits (square n) m len e in (
         eqb-true _ _ (and-left (eqb (length m) (disks (square n))) (every (length m) (λ d. leb (getD m d 0) 1)) map),
         λ d l. leb-true _ _ (every-at (length m) _ (and-right (eqb (length m) (disks (square n))) (every (length m) (λ d. leb (getD m d 0) 1)) map) d l),
-        eqb-true len 98 long,
+        long,
       ),
   λ h.
       passes 4 (mapFits (square n) m) _ (and-both (eq-eqb _ _ (h .0)) (every-all (length m) (λ d l. le-leb _ _ (h .1 d l))))

@@ -6,10 +6,10 @@ use mathlib.Core.List.{List}
 use Prim.Native.Nat.{ℕ}
 use native.Mathlib.Nat.{pos-of-ne-zero}
 use native.Mathlib.Omega.{arith}
-use borrow.Author.Tests.{eq-eqb, ne-eqb, lt-ltb}
+use borrow.Author.Tests.{lt-ltb}
 use lib.Dec.{ltb}
 use lib.ListN.{length}
-use Rattle.model.specs.Grid.{gridOf, sizeFits, mapFits}
+use Rattle.model.specs.Grid.{gridOf, sizeFits}
 use Rattle.model.specs.Refusal.{refusal}
 use Rattle.model.specs.Repair.{erasures, repairs, lost, fatal}
 use Rattle.model.specs.Cycle.{shownCycle}
@@ -36,8 +36,7 @@ module _ (z : Size) (m : List ℕ) where
 -- What the tests have established.
 pub record PlanFits (z : Size) (m sheet : List ℕ) : Type 0 where
   pub size : sizeFits z ≡ true
-  pub map : mapFits z m ≡ true
-  pub long : length sheet ≡ 98
+  pub tests : refusal (sheetTests z m (length sheet)) ≡ 0
 
 module _ (z : Size) (m sheet : List ℕ) where
   -- The answer and the sheet are those of the definition.
@@ -56,20 +55,16 @@ module _ (z : Size) (m sheet : List ℕ) where
   unfolding planTests
   refused-size size = refused 1 (fails 1 _ _ size) (λ q. omega arith)
 
-  module _ (size : sizeFits z ≡ true) where
-    pub refused-map : mapFits z m ≡ false → Answers (Refused 4) sheet
-    unfolding planTests sheetTests
-    refused-map map = refused 4 (passes 1 _ _ size ∙ fails 4 _ _ map) (λ q. omega arith)
-
-    pub refused-sheet : mapFits z m ≡ true → (length sheet ≡ 98 → ⊥) → Answers (Refused 5) sheet
-    unfolding planTests sheetTests
-    refused-sheet map long = refused 5 (passes 1 _ _ size ∙ passes 4 _ _ map ∙ fails 5 _ _ (ne-eqb _ _ long)) (λ q. omega arith)
+  pub refused-sheet : sizeFits z ≡ true → (status : ℕ) → status ≡ refusal (sheetTests z m (length sheet)) → (status ≡ 0 → ⊥)
+      → Answers (Refused status) sheet
+  unfolding planTests
+  refused-sheet size status e = refused status (passes 1 _ _ size ∙ sym e)
 
   -- ---- where nothing is refused, what peeling leaves decides
   module _ (fits : PlanFits z m sheet) where
     accepted : refusal (planTests z m (length sheet)) ≡ 0
-    unfolding planTests sheetTests refusal
-    accepted = rw (fits .size, fits .map, eq-eqb (length sheet) 98 (fits .long))
+    unfolding planTests
+    accepted = passes 1 _ _ (fits .size) ∙ fits .tests
 
     is-map : Answers (mapOutcome z m) (mapSheet z m)
     unfolding planOutcome planSheet

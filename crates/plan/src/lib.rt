@@ -15,11 +15,9 @@ pub fn plan(size: Size, map: &[u8], sheet: &mut [u8]) -> Outcome
     if !layout::size_fits(size) {
         return Outcome::Refused(1);
     }
-    if !layout::map_fits(size, map) {
-        return Outcome::Refused(4);
-    }
-    if sheet.len() != 98 {
-        return Outcome::Refused(5);
+    let status = layout::sheet_refusal(size, map, sheet.len());
+    if status != 0 {
+        return Outcome::Refused(status);
     }
     let all = layout::disks(size);
     let mut work = [0u8; 256];
