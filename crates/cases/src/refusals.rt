@@ -19,7 +19,7 @@ fn parities(size: Size, block: usize, array: &mut [u8], new: &[u8]) {
     say::status(b"write", array::write(size, block, array, 0, new));
 }
 
-// What look and rebuild answer. Look has no number: an empty part has length 0.
+// What look, rebuild and follow answer. Look has no number: an empty part has length 0.
 fn losses(size: Size, block: usize, array: &mut [u8], map: &[u8]) {
     let mut sheet = [0u8; 98];
     say::number(b"look", array::look(size, block, array, map, 0).len());
@@ -27,6 +27,7 @@ fn losses(size: Size, block: usize, array: &mut [u8], map: &[u8]) {
         b"rebuild",
         rebuild::rebuild(size, block, array, map, &mut sheet),
     );
+    say::outcome(b"follow", follow::follow(size, block, array, map, &sheet));
 }
 
 // Each call on an array.
@@ -88,6 +89,10 @@ fn map_byte() {
     say::outcome(
         b"rebuild with 2 in the map",
         rebuild::rebuild(size, 1, &mut array, &first, &mut sheet),
+    );
+    say::outcome(
+        b"follow with 2 in the map",
+        follow::follow(size, 1, &mut array, &first, &sheet),
     );
 }
 

@@ -25,7 +25,7 @@ pub fn checked(what: &[u8], answer: Checked) {
     }
 }
 
-// The same for what plan and rebuild answer: 0 for repairs, 6 for a fatal loss, or a refusal.
+// The same for what plan, rebuild and follow answer: 0 for repairs, 6 for a fatal loss, or a refusal.
 pub fn outcome(what: &[u8], answer: Outcome) {
     match answer {
         Outcome::Repairs(_) => status(what, 0),
