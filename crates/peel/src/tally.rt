@@ -90,7 +90,7 @@ pub fn load(size: Size, map: &[u8], k: usize, work: &mut [u8], counts: &mut [u8]
     let mut number = 0;
     let mut d = 0;
     while d + 16 <= k {
-        if !xor::clear::clear16(map, d) {
+        if !xor::zeros::all_zero16(map, d) {
             let more = load_part(size, map, d, d + 16, number, work, counts);
             number = more;
         }

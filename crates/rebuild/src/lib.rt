@@ -24,7 +24,7 @@ pub fn rebuild(size: Size, block: usize, array: &mut [u8], map: &[u8], sheet: &m
         return answer;
     };
     if !restore::restore(size, block, array, map, sheet, count) {
-        sheet::clear(sheet);
+        sheet::zero(sheet);
         return Outcome::Refused(7);
     }
     answer

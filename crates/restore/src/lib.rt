@@ -9,8 +9,8 @@ ghost use Rattle.model.specs.Repair.{erasures, Peels};
 ghost use Rattle.sheet.specs.Record.{records};
 ghost use Rattle.restore.specs.Restored.{fits, restored};
 
-mod erase;
 mod repair;
+mod zero;
 
 use model::Checked;
 use model::Size;
@@ -38,7 +38,7 @@ pub fn restore(
     repair::repair_all(size, block, array, sheet, count);
     let checked = array::check(size, block, array);
     let Checked::Sealed = checked else {
-        erase::zero_erased(size, block, array, map);
+        zero::zero_erased(size, block, array, map);
         return false;
     };
     true

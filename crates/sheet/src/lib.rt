@@ -68,7 +68,7 @@ pub fn copy(from: &[u8], to: &mut [u8])
 }
 
 // Zeros the whole sheet.
-pub fn clear(sheet: &mut [u8])
+pub fn zero(sheet: &mut [u8])
     requires { ⌜ length (now sheet) ≡ 98 ⌝ }
     ensures { λ r. ⌜ now (sheet .exit) ≡ blankSheet ⌝ }
 {

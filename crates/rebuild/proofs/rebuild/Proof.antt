@@ -56,8 +56,8 @@ restore-requires c κs =
     let p = planned answer in
     (accepted (answer .before .before .before .before .before .before), (map-fits p, (sheet-98 p, (count-few p, peels p))))
 
-clear-requires : tie.Need-clear-requires
-clear-requires c κs = sheet-98 (planned (c .before .before .before .before .before .before .before .before))
+zero-requires : tie.Need-zero-requires
+zero-requires c κs = sheet-98 (planned (c .before .before .before .before .before .before .before .before))
 
 same-length-2 : tie.Need-same-length-2
 same-length-2 c = search needs
@@ -70,7 +70,7 @@ returns-3 c =
     let other = c .before .before .before .before in
     let restore = other .before .before .before in
     contradicted (planned (restore .before .before .before .before)) _ (restore .restore .ensures .1)
-    (sym (restore .restore .ensures .0) ∙ not-true _ (other .if2 .taken)) _ (c .before .before .clear .ensures)
+    (sym (restore .restore .ensures .0) ∙ not-true _ (other .if2 .taken)) _ (c .before .before .zero .ensures)
 
 same-length-4 : tie.Need-same-length-4
 same-length-4 c = search needs
@@ -95,7 +95,7 @@ rebuild-spec =
     same-length
     returns-2
     restore-requires
-    clear-requires
+    zero-requires
     same-length-2
     same-length-3
     returns-3

@@ -35,8 +35,8 @@ loop-holds c =
 add-loop : tie.Need-add-loop Inv-loop μ-loop
 add-loop c = let most = few c in let h = c .loop .inv .0 in omega arith
 
-clear16-requires : tie.Need-clear16-requires Inv-loop μ-loop
-clear16-requires c κs =
+all-zero16-requires : tie.Need-all-zero16-requires Inv-loop μ-loop
+all-zero16-requires c κs =
     let h = c .before .before .before .before .before .pre in
     let long = map-length _ _ (h .1 .0) in
     let l = c .loop-test .taken in
@@ -72,9 +72,9 @@ loop-again c =
           let part = w .3 .ensures in
           rw (w .8, w .9, w .10) (record { marked = part .1 .0; numbered = part .0; tallied = part .1 .1 }))
           (λ w.
-          let clear = sym (c .before .clear16 .ensures) ∙ not-false _ (w .0 .left) in
+          let zeros = sym (c .before .all-zero16 .ensures) ∙ not-false _ (w .0 .left) in
           rw (w .1, w .2, w .3)
-          (loaded-over l 16 (λ i b. eqb-true (getD map (d + i) 0) 0 (every-at 16 _ clear i b))))
+          (loaded-over l 16 (λ i b. eqb-true (getD map (d + i) 0) 0 (every-at 16 _ zeros i b))))
           (c .if1 .came),
     )
 
@@ -103,7 +103,7 @@ load-spec =
     μ-loop
     loop-holds
     add-loop
-    clear16-requires
+    all-zero16-requires
     add-load-part
     load-part-requires
     add-d

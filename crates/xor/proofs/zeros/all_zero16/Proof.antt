@@ -1,4 +1,4 @@
--- `xor::clear::clear16` meets its contract: the bytes so far are all zero exactly if nothing was gathered.
+-- `xor::zeros::all_zero16` meets its contract: the bytes so far are all zero exactly if nothing was gathered.
 -- Assumes nothing.
 use mathlib.Core.Path.{_≡_, _∙_, refl, ap}
 use mathlib.Core.Bool.{Bool}
@@ -10,15 +10,15 @@ use lib.Dec.{eqb}
 use lib.ListN.{getD}
 use Rattle.model.specs.Fold.{every}
 use Rattle.xor.proofs.Strided.{zero-next}
-use Rattle.xor.proofs.clear.clear16.Statement.{statement}
-use Rattle.xor.proofs.clear.clear16.Tie as tie
+use Rattle.xor.proofs.zeros.all_zero16.Statement.{statement}
+use Rattle.xor.proofs.zeros.all_zero16.Tie as tie
 
 -- Byte number i from `at` on is zero.
-abbrev clearAt : List ℕ → (at i : ℕ) → Bool
-clearAt a at i = eqb (getD a (at + i) 0) 0
+abbrev zeroAt : List ℕ → (at i : ℕ) → Bool
+zeroAt a at i = eqb (getD a (at + i) 0) 0
 
 abbrev Inv-loop : tie.InvT-loop
-Inv-loop a at any₀ i₀ any i = (i ≤ 16) × (eqb any 0 ≡ every i (clearAt a at))
+Inv-loop a at any₀ i₀ any i = (i ≤ 16) × (eqb any 0 ≡ every i (zeroAt a at))
 
 abbrev μ-loop : tie.MeasureT-loop
 μ-loop a at any₀ i₀ any i = 16 - i
@@ -48,10 +48,10 @@ loop-again c =
 returns : tie.Need-returns Inv-loop μ-loop
 returns c =
     let l = c .before .loop in
-    l .inv .1 ∙ ap (λ (n : ℕ). every n (clearAt (c .before .before .args .a .now) (c .before .before .args .at))) (omega arith)
+    l .inv .1 ∙ ap (λ (n : ℕ). every n (zeroAt (c .before .before .args .a .now) (c .before .before .args .at))) (omega arith)
 
-pub clear16-spec : {M : Type 1} → statement M
-clear16-spec =
+pub all-zero16-spec : {M : Type 1} → statement M
+all-zero16-spec =
     tie.close
     (tie.spec
     Inv-loop

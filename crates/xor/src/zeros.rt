@@ -6,7 +6,7 @@ ghost use lib.ListN.{length, getD};
 ghost use Rattle.model.specs.Fold.{every};
 
 // Every one of the 16 bytes from `at` on is zero.
-pub fn clear16(a: &[u8], at: usize) -> bool
+pub fn all_zero16(a: &[u8], at: usize) -> bool
     requires { ⌜ at + 16 ≤ length (now a) ⌝ }
     ensures { λ r. ⌜ r ≡ every 16 (λ i. eqb (getD (now (a .entry)) (at + i) 0) 0) ⌝ }
 {

@@ -1,12 +1,12 @@
--- `sheet::clear` meets its contract: the bytes so far are zero.
+-- `sheet::zero` meets its contract: the bytes so far are zero.
 -- Assumes nothing.
 use mathlib.Core.Path.{refl, _∙_, sym}
 use Prim.Native.Nat.{_-_}
 use native.Mathlib.Omega.{arith}
 use Rattle.model.specs.Sheet.{blankSheet}
 use Rattle.sheet.proofs.Prefix.{Prefix, prefix-none, prefix-next, prefix-all}
-use Rattle.sheet.proofs.clear.Statement.{statement}
-use Rattle.sheet.proofs.clear.Tie as tie
+use Rattle.sheet.proofs.zero.Statement.{statement}
+use Rattle.sheet.proofs.zero.Tie as tie
 
 abbrev Inv-loop : tie.InvT-loop
 Inv-loop sheet₀ i₀ sheet i = Prefix (λ j. 0) i sheet
@@ -36,8 +36,8 @@ returns : tie.Need-returns Inv-loop μ-loop
 unfolding blankSheet
 returns c = prefix-all _ _ _ (c .loop-test .left) (c .before .loop .inv)
 
-pub clear-spec : {M : Type 1} → statement M
-clear-spec =
+pub zero-spec : {M : Type 1} → statement M
+zero-spec =
     tie.close
     (tie.spec
     Inv-loop

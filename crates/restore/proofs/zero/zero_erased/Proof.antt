@@ -1,4 +1,4 @@
--- `restore::erase::zero_erased` meets its contract: after d turns the erased disks below d are zero.
+-- `restore::zero::zero_erased` meets its contract: after d turns the erased disks below d are zero.
 -- Assumes nothing.
 use mathlib.Core.Path.{_≡_, _∙_, ap}
 use mathlib.Core.Logic.{⊎-elim}
@@ -14,8 +14,8 @@ use Rattle.model.proofs.Refusal.{ArrayFits, array-fits}
 use Rattle.model.proofs.Grid.{map-length}
 use Rattle.array.proofs.Blocks.{block-within}
 use Rattle.restore.proofs.Zeros.{length-zeroed, zeroed-none, zeroed-present, zeroed-erased, zeroed-all}
-use Rattle.restore.proofs.erase.zero_erased.Statement.{statement}
-use Rattle.restore.proofs.erase.zero_erased.Tie as tie
+use Rattle.restore.proofs.zero.zero_erased.Statement.{statement}
+use Rattle.restore.proofs.zero.zero_erased.Tie as tie
 
 abbrev Inv-loop : tie.InvT-loop
 Inv-loop block array₀ map d₀ array d = (d ≤ length map) × (array ≡ zeroed (whole block) array₀ (below d (erasures map)))
