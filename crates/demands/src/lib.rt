@@ -10,7 +10,7 @@ ghost use Rattle.model.specs.Refusal.{refusal};
 ghost use Rattle.model.specs.Repair.{erasures, fatal, Belongs};
 ghost use Rattle.model.specs.Rebuild.{planTests, planOutcome, planSheet};
 ghost use Rattle.model.specs.Rebuild.{rebuildTests, rebuildRefusal, rebuildOutcome, rebuildArray, rebuildSheet, outcomeStatus};
-ghost use Rattle.model.specs.Follow.{Usable};
+ghost use Rattle.model.specs.Follow.{Usable, followOutcome, followArray};
 ghost use Rattle.model.specs.Demand3.{Demand3};
 use model::Outcome;
 use model::Size;
@@ -67,6 +67,10 @@ pub fn plan_and_rebuild(
 // it refuses by 7 exactly if such a sheet meets survivors that belong to no sealed array; and where the loss is fatal, no sheet
 // makes it change anything.
 pub fn follow_sheet(size: Size, block: usize, array: &mut [u8], map: &[u8], sheet: &[u8]) -> Outcome
+    ensures outcome { λ r. ⌜ r ≡ followOutcome size block (now (array .entry)) (now (map .entry)) (now (sheet .entry)) ⌝ }
+    ensures array { λ r. ⌜
+        now (array .exit) ≡ followArray size block (now (array .entry)) (now (map .entry)) (now (sheet .entry))
+        ⌝ }
     ensures rebuilt { λ r. ⌜
         (Usable size (now (map .entry)) (now (sheet .entry))
         → (r ≡ rebuildOutcome size block (now (array .entry)) (now (map .entry)) (now (sheet .entry)))

@@ -26,17 +26,23 @@ returns c =
     let found = c .before .before .before .before .before .before .slice-known .given in
     let small : Bytes (a .array .now) = λ i l. omega (arith, found i) in
     let (outcome, array) = c .before .before .follow .ensures in (
-      λ usable.
-          let (answer, left) = follow-any (a .size) (a .block) (a .array .now) (a .map .now) (a .sheet .now) (a .sheet .now) refl small usable in
-          (outcome ∙ answer, array ∙ left),
+      outcome,
       (
-        λ ok.
-            subst
-            (λ (o : Outcome). (outcomeStatus o ≡ 7)
-            ↔ (Usable (a .size) (a .map .now) (a .sheet .now)
-            × (Belongs (gridOf (a .size)) (whole (a .block)) (erasures (a .map .now)) (a .array .now) → ⊥)))
-            (sym outcome) (follow-contradicted (a .size) (a .block) (a .array .now) (a .map .now) (a .sheet .now) ok small),
-        λ lossy. array ∙ follow-fatal (a .size) (a .block) (a .array .now) (a .map .now) (a .sheet .now) lossy .0,
+        array,
+        (
+          λ usable.
+              let (answer, left) = follow-any (a .size) (a .block) (a .array .now) (a .map .now) (a .sheet .now) (a .sheet .now) refl small usable in
+              (outcome ∙ answer, array ∙ left),
+          (
+            λ ok.
+                subst
+                (λ (o : Outcome). (outcomeStatus o ≡ 7)
+                ↔ (Usable (a .size) (a .map .now) (a .sheet .now)
+                × (Belongs (gridOf (a .size)) (whole (a .block)) (erasures (a .map .now)) (a .array .now) → ⊥)))
+                (sym outcome) (follow-contradicted (a .size) (a .block) (a .array .now) (a .map .now) (a .sheet .now) ok small),
+            λ lossy. array ∙ follow-fatal (a .size) (a .block) (a .array .now) (a .map .now) (a .sheet .now) lossy .0,
+          ),
+        ),
       ),
     )
 
