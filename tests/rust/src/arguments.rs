@@ -2,11 +2,10 @@
 //! to refuse and the order of the refusals is seen.
 
 use crate::inputs::{Size, BLOCK_MAX, SIDE_MAX};
-use crate::losses;
 use crate::model::disk_count;
 use crate::random::Random;
 use crate::sheet::SHEET;
-use crate::sheets;
+use crate::{losses, model, sheets};
 
 /// Buffers in these tests are no longer than this.
 const LONGEST: usize = 1 << 21;
@@ -69,6 +68,15 @@ pub fn array(random: &mut Random) -> Array {
     let right = agreeing.unwrap_or(made_for.bytes());
     let bytes = length(random, right);
     Array { made_for, n, block, bytes: random.bytes(bytes) }
+}
+
+/// Most of the arrays that fit are sealed, so that calls with a map meet each of their answers.
+pub fn mostly_sealed(random: &mut Random) -> Array {
+    let mut drawn = array(random);
+    if !random.one_in(4) {
+        drawn.bytes = model::seal(drawn.n, drawn.block, &drawn.bytes).written.remove(0);
+    }
+    drawn
 }
 
 /// A disk's number: any disk of the grid, or now and then one outside it.

@@ -1,6 +1,6 @@
 //! Follow: the repairs of a sheet from elsewhere are made, or the sheet is refused before any block is changed.
 
-use crate::inputs::{sealed_array, Size};
+use crate::inputs::Size;
 use crate::model::{BROKEN, FATAL, NOT_ALLOWED};
 use crate::outcome::Outcome;
 use crate::sheet::SHEET;
@@ -59,19 +59,12 @@ pub fn sealed_and_damaged(run: &mut Run, size: Size, sealed: &[u8], map: &[u8]) 
 }
 
 pub fn contents(run: &mut Run, size: Size) {
-    let sealed = sealed_array(&mut run.random, size);
-    for kind in 0..losses::KINDS {
-        let map = losses::map(&mut run.random, size.n, kind);
-        sealed_and_damaged(run, size, &sealed, &map);
-    }
+    losses::of_each_kind(run, size, sealed_and_damaged);
 }
 
-/// Arguments good and bad. Most of the arrays that fit are sealed first, so that each answer is met.
+/// Arguments good and bad.
 pub fn refusals(run: &mut Run) {
-    let mut drawn = arguments::array(&mut run.random);
-    if !run.random.one_in(4) {
-        drawn.bytes = model::seal(drawn.n, drawn.block, &drawn.bytes).written.remove(0);
-    }
+    let drawn = arguments::mostly_sealed(&mut run.random);
     let map = arguments::map(&mut run.random, drawn.made_for.n);
     let sheet = arguments::repairs(&mut run.random, drawn.made_for.n, &map);
     compare(&mut run.tally, drawn.n, drawn.block, &drawn.bytes, &map, &sheet);

@@ -1,9 +1,10 @@
 //! Maps to try plan, rebuild and follow on, and what a lost array holds.
 
 use crate::equations::Equations;
-use crate::inputs::{place, Size};
+use crate::inputs::{place, sealed_array, Size};
 use crate::model::{disk_at, disk_count};
 use crate::random::Random;
+use crate::Run;
 
 /// The map that says of these disks that they are erased.
 pub fn map_of(n: usize, disks: &[usize]) -> Vec<u8> {
@@ -89,6 +90,15 @@ pub fn map(random: &mut Random, n: usize, kind: usize) -> Vec<u8> {
         _ => (0..disk_count(n)).collect(),
     };
     map_of(n, &disks)
+}
+
+/// A sealed array of a size with a map of each kind, in turn.
+pub fn of_each_kind(run: &mut Run, size: Size, judge: fn(&mut Run, Size, &[u8], &[u8])) {
+    let sealed = sealed_array(&mut run.random, size);
+    for kind in 0..KINDS {
+        let map = map(&mut run.random, size.n, kind);
+        judge(run, size, &sealed, &map);
+    }
 }
 
 /// Puts random bytes on the erased disks: they count for nothing.

@@ -1,6 +1,6 @@
 //! Rebuild: the erased blocks are restored, or the loss is fatal, or the survivors belong to no sealed array.
 
-use crate::inputs::{sealed_array, Size};
+use crate::inputs::Size;
 use crate::model::FATAL;
 use crate::outcome::Outcome;
 use crate::plan::judged;
@@ -39,19 +39,12 @@ pub fn sealed_and_damaged(run: &mut Run, size: Size, sealed: &[u8], map: &[u8]) 
 }
 
 pub fn contents(run: &mut Run, size: Size) {
-    let sealed = sealed_array(&mut run.random, size);
-    for kind in 0..losses::KINDS {
-        let map = losses::map(&mut run.random, size.n, kind);
-        sealed_and_damaged(run, size, &sealed, &map);
-    }
+    losses::of_each_kind(run, size, sealed_and_damaged);
 }
 
-/// Arguments good and bad. Most of the arrays that fit are sealed first, so that each answer is met.
+/// Arguments good and bad.
 pub fn refusals(run: &mut Run) {
-    let mut drawn = arguments::array(&mut run.random);
-    if !run.random.one_in(4) {
-        drawn.bytes = model::seal(drawn.n, drawn.block, &drawn.bytes).written.remove(0);
-    }
+    let drawn = arguments::mostly_sealed(&mut run.random);
     let map = arguments::map(&mut run.random, drawn.made_for.n);
     let sheet = arguments::sheet(&mut run.random);
     compare(&mut run.tally, drawn.n, drawn.block, &drawn.bytes, &map, &sheet);
