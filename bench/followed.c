@@ -1,4 +1,5 @@
 #include "followed.h"
+#include "guards.h"
 #include "maps.h"
 #include "raid2d.h"
 #include "timing.h"
@@ -36,15 +37,8 @@ int compare_follow(struct input *input)
     int warnings = 0;
     puts("Follow: on plan's own sheet, over rebuild on the same array.");
     for (size_t s = 0; s < sizeof sizes / sizeof *sizes; s++) {
-        double ratio;
-        char title[TITLE_MAX];
         input_resize(input, sizes[s]);
-        ratio = follow_over_rebuild(input);
-        put_title(title, &calls[REBUILD], sizes[s]);
-        printf("%-27s  %-28s %6.2f\n", title, "follow / rebuild", ratio);
-        if (ratio > MOST)
-            printf("WARNING: %s: follow takes %.3f x rebuild; the limit is %.2f\n", title, ratio, MOST);
-        warnings += ratio > MOST;
+        warnings += judge(sizes[s], "follow / rebuild", follow_over_rebuild(input), MOST);
     }
     return warnings;
 }

@@ -10,7 +10,7 @@ struct guard {
     double most;
 };
 
-/* The limits leave some room above the ratios in docs/PERFORMANCE.md. */
+/* docs/PERFORMANCE.md says how near the ratios come to these limits, and which of them they pass. */
 static const struct guard guards[] = {
     {SEAL, READ, 2.4},
     {CHECK, READ, 2.6},
@@ -47,4 +47,15 @@ int warn(ratio_table ratios)
             warnings += warn_one(&guards[g], call->sizes[s], ratios[guards[g].call][s][guards[g].peer]);
     }
     return warnings;
+}
+
+int judge(struct size size, const char *what, double ratio, double most)
+{
+    char title[TITLE_MAX];
+    put_title(title, &calls[REBUILD], size);
+    printf("%-27s  %-28s %6.2f\n", title, what, ratio);
+    if (ratio <= most)
+        return 0;
+    printf("WARNING: %s: %s is %.3f; the limit is %.2f\n", title, what, ratio, most);
+    return 1;
 }

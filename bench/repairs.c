@@ -1,4 +1,5 @@
 #include "repairs.h"
+#include "guards.h"
 #include "maps.h"
 #include "timing.h"
 
@@ -27,16 +28,8 @@ int compare_places(struct input *input)
     puts("Repairs: rebuild with the middle column erased over rebuild with the last column erased, both less rebuild");
     puts("with no disk erased. So each row has one repair, of its middle disk or of its last one.");
     for (size_t s = 0; s < sizeof sizes / sizeof *sizes; s++) {
-        double ratio;
-        char title[TITLE_MAX];
         input_resize(input, sizes[s]);
-        ratio = middle_over_end(input);
-        put_title(title, &calls[REBUILD], sizes[s]);
-        printf("%-27s  %-28s %6.2f\n", title, "repairs, middle / last disk", ratio);
-        if (ratio > MOST)
-            printf("WARNING: %s: repairs of middle disks take %.3f x those of last disks; the limit is %.2f\n", title,
-                   ratio, MOST);
-        warnings += ratio > MOST;
+        warnings += judge(sizes[s], "repairs, middle / last disk", middle_over_end(input), MOST);
     }
     return warnings;
 }
