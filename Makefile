@@ -24,7 +24,7 @@ BUILD = build
 
 # The header and the manual pages say the same (tests/manual), and so does
 # raid2d.pc (tests/install).
-VERSION = 0.4.0
+VERSION = 0.5.0
 
 # The archive that C programs are linked with. `make test-c LIB=other.a` tests
 # another one.

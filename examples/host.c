@@ -15,21 +15,23 @@
 
 #include "raid2d.h"
 
-/* 3 x 3 data disks with blocks of 8 bytes; with the parities, 4 x 4 disks. */
-enum { SIDE = 3, BLOCK = 8, ACROSS = SIDE + 1, SUPERPARITY = 15 };
+/* 3 rows and 4 columns of data disks with blocks of 8 bytes; with the parities
+   4 rows of 5 disks. */
+enum { ROWS = 3, COLUMNS = 4, BLOCK = 8 };
+enum { ACROSS = COLUMNS + 1, SUPERPARITY = 19 };
 
 /* All memory is the host's own: the library allocates nothing. A map of zeros
    says that every disk is present. */
-static uint8_t array[RAID2D_ARRAY_BYTES(SIDE, BLOCK)];
-static uint8_t map[RAID2D_DISKS(SIDE)];
+static uint8_t array[RAID2D_ARRAY_BYTES(ROWS, COLUMNS, BLOCK)];
+static uint8_t map[RAID2D_DISKS(ROWS, COLUMNS)];
 static uint8_t sheet[RAID2D_SHEET_BYTES];
 
 /* What the data disks are to hold. Each name has 8 letters, and behind them
    the zero that ends a string in C. */
-static char names[SIDE][SIDE][BLOCK + 1] = {
-    { "entrance", "mailroom", "workshop" },
-    { "basement", "stairway", "corridor" },
-    { "elevator", "darkroom", "showroom" }
+static char names[ROWS][COLUMNS][BLOCK + 1] = {
+    { "entrance", "mailroom", "workshop", "washroom" },
+    { "basement", "stairway", "corridor", "playroom" },
+    { "elevator", "darkroom", "showroom", "backroom" }
 };
 
 /* How many things went otherwise than they should. */
@@ -60,7 +62,7 @@ static void print_disk(size_t disk)
     printf("  %2zu ", disk);
     if (map[disk])
         printf("(erased)");
-    else if (disk / ACROSS < SIDE && disk % ACROSS < SIDE)
+    else if (disk / ACROSS < ROWS && disk % ACROSS < COLUMNS)
         printf("%-10.*s", BLOCK, (const char *)b);
     else
         printf("%02x%02x%02x%02x..", b[0], b[1], b[2], b[3]);
@@ -70,9 +72,9 @@ static void print_array(void)
 {
     size_t disk;
 
-    for (disk = 0; disk < RAID2D_DISKS(SIDE); disk++) {
+    for (disk = 0; disk < RAID2D_DISKS(ROWS, COLUMNS); disk++) {
         print_disk(disk);
-        if (disk % ACROSS == SIDE)
+        if (disk % ACROSS == COLUMNS)
             printf("\n");
     }
 }
@@ -83,12 +85,13 @@ static int all_is_there(void)
 {
     size_t row, column, stripe;
 
-    for (row = 0; row < SIDE; row++)
-        for (column = 0; column < SIDE; column++)
+    for (row = 0; row < ROWS; row++)
+        for (column = 0; column < COLUMNS; column++)
             if (memcmp(block_of(row * ACROSS + column), names[row][column],
                        BLOCK) != 0)
                 return 0;
-    return raid2d_check(SIDE, BLOCK, array, sizeof array, &stripe) == RAID2D_OK;
+    return raid2d_check(ROWS, COLUMNS, BLOCK, array, sizeof array, &stripe)
+        == RAID2D_OK;
 }
 
 /* Disks fail. Nobody can rely on what a failed disk holds. */
@@ -134,7 +137,7 @@ static void print_repairs(const uint8_t *list)
 
 static void seal(void)
 {
-    uint32_t status = raid2d_seal(SIDE, BLOCK, array, sizeof array);
+    uint32_t status = raid2d_seal(ROWS, COLUMNS, BLOCK, array, sizeof array);
 
     printf("seal: %s\n", raid2d_strerror(status));
     expect(status == RAID2D_OK, "seal");
@@ -143,7 +146,8 @@ static void seal(void)
 static uint32_t check(void)
 {
     size_t stripe = 0;
-    uint32_t status = raid2d_check(SIDE, BLOCK, array, sizeof array, &stripe);
+    uint32_t status = raid2d_check(ROWS, COLUMNS, BLOCK, array, sizeof array,
+                                   &stripe);
 
     if (status == RAID2D_NOT_SEALED) {
         printf("check: not sealed, see ");
@@ -156,8 +160,8 @@ static uint32_t check(void)
 
 static void write_name(size_t disk, const char *name)
 {
-    uint32_t status = raid2d_write(SIDE, BLOCK, array, sizeof array, disk,
-                                   (const uint8_t *)name, BLOCK);
+    uint32_t status = raid2d_write(ROWS, COLUMNS, BLOCK, array, sizeof array,
+                                   disk, (const uint8_t *)name, BLOCK);
 
     printf("write %s to disk %zu: %s\n", name, disk, raid2d_strerror(status));
     expect(status == RAID2D_OK, "write");
@@ -167,8 +171,8 @@ static void write_name(size_t disk, const char *name)
 static void look_at(size_t disk)
 {
     size_t offset = 0;
-    size_t length = raid2d_look(SIDE, BLOCK, array, sizeof array, map,
-                                sizeof map, disk, &offset);
+    size_t length = raid2d_look(ROWS, COLUMNS, BLOCK, array, sizeof array,
+                                map, sizeof map, disk, &offset);
 
     if (length == 0)
         printf("look at disk %zu: nothing there\n", disk);
@@ -183,8 +187,8 @@ static void look_at(size_t disk)
 static void plan(void)
 {
     size_t count = 0;
-    uint32_t status = raid2d_plan(SIDE, map, sizeof map, sheet, sizeof sheet,
-                                  &count);
+    uint32_t status = raid2d_plan(ROWS, COLUMNS, map, sizeof map,
+                                  sheet, sizeof sheet, &count);
 
     printf("plan: %s, %zu repairs\n", raid2d_strerror(status), count);
     expect(status == RAID2D_OK, "plan");
@@ -197,8 +201,9 @@ static void plan(void)
 static void rebuild(void)
 {
     size_t count = 0;
-    uint32_t status = raid2d_rebuild(SIDE, BLOCK, array, sizeof array, map,
-                                     sizeof map, sheet, sizeof sheet, &count);
+    uint32_t status = raid2d_rebuild(ROWS, COLUMNS, BLOCK, array, sizeof array,
+                                     map, sizeof map, sheet, sizeof sheet,
+                                     &count);
 
     printf("rebuild: %s, %zu repairs\n", raid2d_strerror(status), count);
     expect(status == RAID2D_OK, "rebuild");
@@ -217,10 +222,10 @@ static void fill(void)
     static const size_t missing[] = { SUPERPARITY };
     size_t row, column;
 
-    printf("1. The array is filled. The superparity, disk 15, is not there"
+    printf("1. The array is filled. The superparity, disk 19, is not there"
            " yet.\n");
-    for (row = 0; row < SIDE; row++)
-        for (column = 0; column < SIDE; column++)
+    for (row = 0; row < ROWS; row++)
+        for (column = 0; column < COLUMNS; column++)
             memcpy(block_of(row * ACROSS + column), names[row][column], BLOCK);
     seal();
     lose(missing, 1);
@@ -241,9 +246,9 @@ static void rename_a_room(void)
 /* The missing superparity and the failed disk are repaired in one go. */
 static void add_superparity(void)
 {
-    static const size_t failed[] = { 5 };
+    static const size_t failed[] = { 6 };
 
-    printf("\n3. The superparity is put in, still empty, and disk 5"
+    printf("\n3. The superparity is put in, still empty, and disk 6"
            " fails.\n");
     lose(failed, 1);
     plan();
@@ -251,14 +256,14 @@ static void add_superparity(void)
     expect(check() == RAID2D_OK, "check after a rebuild");
 }
 
-/* Disk 2 shares a row with disk 3 and a column with disk 14: only the
+/* Disk 2 shares a row with disk 4 and a column with disk 17: only the
    superparity can bring the first of them back. */
-static const size_t disk_with_parities[] = { 2, 3, 14 };
+static const size_t disk_with_parities[] = { 2, 4, 17 };
 
 static void lose_disk_with_parities(void)
 {
-    printf("\n4. A data disk fails with both its parities: disks 2, 3 and"
-           " 14.\n");
+    printf("\n4. A data disk fails with both its parities: disks 2, 4 and"
+           " 17.\n");
     lose(disk_with_parities, 3);
     look_at(2);
     plan();
@@ -272,8 +277,8 @@ static const uint8_t notes[RAID2D_SHEET_BYTES] = {
     RAID2D_SHEET_REPAIRS, 4,
     2, 18, 3,
     99, 99, 99,
-    3, 0, 0,
-    14, 3, 1
+    4, 0, 0,
+    17, 3, 1
 };
 
 /* Follow judges the whole list before it changes a block. The records are
@@ -281,8 +286,9 @@ static const uint8_t notes[RAID2D_SHEET_BYTES] = {
 static void follow(uint32_t expected)
 {
     size_t count = 0;
-    uint32_t status = raid2d_follow(SIDE, BLOCK, array, sizeof array, map,
-                                    sizeof map, notes, sizeof notes, &count);
+    uint32_t status = raid2d_follow(ROWS, COLUMNS, BLOCK, array, sizeof array,
+                                    map, sizeof map, notes, sizeof notes,
+                                    &count);
 
     printf("follow: %s\n", raid2d_strerror(status));
     expect(status == expected, "follow");
@@ -290,17 +296,17 @@ static void follow(uint32_t expected)
         print_repairs(notes);
 }
 
-/* For a while disk 5 is out as well, of which the list knows nothing. */
+/* For a while disk 6 is out as well, of which the list knows nothing. */
 static void follow_notes(void)
 {
     printf("\n5. The same disks fail again. A list of repairs comes from"
            " elsewhere.\n");
     lose(disk_with_parities, 3);
-    printf("Disk 5 is pulled out by mistake.\n");
-    map[5] = 1;
+    printf("Disk 6 is pulled out by mistake.\n");
+    map[6] = 1;
     follow(RAID2D_ERR_REPAIRS);
-    printf("Disk 5 is back, as it was.\n");
-    map[5] = 0;
+    printf("Disk 6 is back, as it was.\n");
+    map[6] = 0;
     follow(RAID2D_OK);
     expect(all_is_there(), "what follow has restored");
     all_present();
@@ -314,25 +320,25 @@ static void meet_a_changed_survivor(void)
     size_t count = 0;
     uint32_t status;
 
-    printf("\n6. A bit of disk 5 flips, and nobody says so. Then disk 0"
+    printf("\n6. A bit of disk 6 flips, and nobody says so. Then disk 0"
            " fails.\n");
-    block_of(5)[0] ^= 1;
+    block_of(6)[0] ^= 1;
     expect(check() == RAID2D_NOT_SEALED, "check of a changed block");
     lose(failed, 1);
-    status = raid2d_rebuild(SIDE, BLOCK, array, sizeof array, map, sizeof map,
-                            sheet, sizeof sheet, &count);
+    status = raid2d_rebuild(ROWS, COLUMNS, BLOCK, array, sizeof array,
+                            map, sizeof map, sheet, sizeof sheet, &count);
     printf("rebuild: %s\n", raid2d_strerror(status));
     expect(status == RAID2D_ERR_SURVIVORS, "rebuild from a changed block");
     expect(block_of(0)[0] == 0, "zeros in place of a block made up");
-    printf("Disk 5 is taken as failed too.\n");
-    map[5] = 1;
+    printf("Disk 6 is taken as failed too.\n");
+    map[6] = 1;
     rebuild();
 }
 
 /* ---- A fatal loss, with a picture of its loop. */
 
 /* The disks that are on the loop, in the form of a map. */
-static uint8_t loop[RAID2D_DISKS(SIDE)];
+static uint8_t loop[RAID2D_DISKS(ROWS, COLUMNS)];
 
 static void read_loop(void)
 {
@@ -366,7 +372,7 @@ static void draw_disk(size_t disk)
     else if (map[disk])
         printf("(%2zu)", disk);
     else
-        printf(disk % ACROSS < SIDE ? " %2zu " : " %2zu", disk);
+        printf(disk % ACROSS < COLUMNS ? " %2zu " : " %2zu", disk);
 }
 
 static void draw_row(size_t row)
@@ -399,7 +405,7 @@ static void draw_loop(void)
 {
     size_t row;
 
-    for (row = 0; row < ACROSS; row++) {
+    for (row = 0; row <= ROWS; row++) {
         draw_row(row);
         draw_links_below(row);
     }
@@ -411,7 +417,7 @@ static void change_along_loop(void)
 {
     size_t disk;
 
-    for (disk = 0; disk < RAID2D_DISKS(SIDE); disk++)
+    for (disk = 0; disk < RAID2D_DISKS(ROWS, COLUMNS); disk++)
         block_of(disk)[0] ^= loop[disk];
 }
 
@@ -423,21 +429,21 @@ static void fail_to_rebuild(void)
     uint32_t status;
 
     memcpy(kept, array, sizeof array);
-    status = raid2d_rebuild(SIDE, BLOCK, array, sizeof array, map, sizeof map,
-                            sheet, sizeof sheet, &count);
+    status = raid2d_rebuild(ROWS, COLUMNS, BLOCK, array, sizeof array,
+                            map, sizeof map, sheet, sizeof sheet, &count);
     printf("rebuild: %s, %zu disks cannot be repaired\n\n",
            raid2d_strerror(status), count);
     expect(status == RAID2D_FATAL && count == 6, "rebuild of a fatal loss");
     expect(memcmp(array, kept, sizeof array) == 0, "the array of a fatal loss");
 }
 
-/* Disk 15 alone could be repaired: no stripe has just one of the others. */
+/* Disk 19 alone could be repaired: no stripe has just one of the others. */
 static void meet_a_fatal_loss(void)
 {
-    static const size_t failed[] = { 0, 2, 5, 6, 8, 9, 15 };
+    static const size_t failed[] = { 0, 3, 6, 8, 10, 11, 19 };
     static uint8_t before[sizeof array];
 
-    printf("\n7. Disks 0, 2, 5, 6, 8, 9 and 15 fail.\n");
+    printf("\n7. Disks 0, 3, 6, 8, 10, 11 and 19 fail.\n");
     memcpy(before, array, sizeof array);
     lose(failed, 7);
     fail_to_rebuild();

@@ -1,23 +1,24 @@
 /*
  * raid2d.h: a two-dimensional RAID array with superparity.
  *
- * The library keeps the parities of a square array of disks and restores lost
- * disks, in memory that the caller lends. Each call is proved, in the Rattle
- * sources it is made from, against a definition of its result and of every
- * byte it leaves, for every argument. This header puts those definitions into
- * words. It is C99 and C++.
+ * The library keeps the parities of a grid of disks and restores lost disks,
+ * in memory that the caller lends. Each call is proved, in the Rattle sources
+ * it is made from, against a definition of its result and of every byte it
+ * leaves, for every argument. This header puts those definitions into words.
+ * It is C99 and C++.
  *
  *
  * THE ARRAY
  *
- * n data disks stand along each side. The grid has n+1 rows and n+1 columns,
- * numbered from 0; the last column and the last row hold parities. The disk
- * in row r and column c has number r * (n+1) + c. For n = 2:
+ * An array has rows times columns data disks. One more column beside them and
+ * one more row below them hold parities, so the grid has rows + 1 rows and
+ * columns + 1 columns, each numbered from 0. The disk in row r and column c
+ * has number r * (columns + 1) + c. For rows = 2 and columns = 3:
  *
- *               column 0          column 1          column 2
- *     row 0     0 data            1 data            2 row parity
- *     row 1     3 data            4 data            5 row parity
- *     row 2     6 column parity   7 column parity   8 superparity
+ *              column 0        column 1        column 2        column 3
+ *     row 0    0 data          1 data          2 data          3 row parity
+ *     row 1    4 data          5 data          6 data          7 row parity
+ *     row 2    8 col. parity   9 col. parity  10 col. parity  11 superparity
  *
  *
  * GLOSSARY
@@ -27,16 +28,19 @@
  *   sum            Exclusive or of blocks, at each byte place by itself.
  *   block          The bytes of one disk: as many for every disk.
  *   disk           A place in the grid, with one block.
- *   data disk      A disk in rows 0 to n-1 and columns 0 to n-1.
- *   row parity     The disk in column n of a data row: the sum of the row's
+ *   data row       A row other than the last, 0 to rows - 1.
+ *   data column    A column other than the last, 0 to columns - 1.
+ *   data disk      A disk in a data row and a data column.
+ *   row parity     The last disk of a data row: the sum of the row's data.
+ *   column parity  The last disk of a data column: the sum of the column's
  *                  data.
- *   column parity  The disk in row n of a data column: the sum of the column's
- *                  data.
- *   superparity    The disk in row n and column n: the sum of all row
- *                  parities, which is also that of all column parities.
- *   stripe         All n+1 disks of a row or of a column, parity disks and
- *                  superparity included. Row r is stripe r, column c is
- *                  stripe 16 + c.
+ *   superparity    The last disk of all, in the last row and column: the sum
+ *                  of all row parities, which is also that of all column
+ *                  parities.
+ *   stripe         All disks of a row, columns + 1 of them, or of a column,
+ *                  rows + 1 of them: parity disks and superparity included.
+ *                  Row r is stripe r, column c is stripe 16 + c, whatever the
+ *                  size.
  *   sealed         Every stripe's sum is zero at every byte place: all
  *                  parities are as defined above.
  *   array          The blocks of all disks, in the order of disk numbers.
@@ -81,7 +85,7 @@
  * In a list of repairs the stripe is the one that is summed. In a cycle it is
  * the one that the disk shares with the next disk, the last with the first.
  * The library writes records 1, 2, 3 and so on in this order, and zeros
- * elsewhere. Two sheets for n = 2:
+ * elsewhere. Two sheets for rows = 2 and columns = 2:
  *
  *     disks 0, 2, 6 erased      1 1  2 18 2  0 0 3  6 2 0  0 0 0 ..
  *     disks 0, 2, 6, 8 erased   2 1  0 0 2  2 18 3  8 2 4  6 16 0  0 0 0 ..
@@ -99,9 +103,9 @@
  *
  * CONVENTIONS
  *
- * Numbers. n, block and disk may have any value of size_t: each is tested as
- * it is given and never shortened before its test. A wrong number or length
- * is refused and does no harm.
+ * Numbers. rows, columns, block and disk may have any value of size_t: each is
+ * tested as it is given and never shortened before its test. A wrong number or
+ * length is refused and does no harm.
  *
  * Buffers. Each pointer to bytes is followed by its length. The caller sees
  * to three things, which no call can test:
@@ -134,10 +138,10 @@ extern "C" {
 
 /* The version of this header, as three numbers, as one, and as a string. */
 #define RAID2D_VERSION_MAJOR   0
-#define RAID2D_VERSION_MINOR   4
+#define RAID2D_VERSION_MINOR   5
 #define RAID2D_VERSION_PATCH   0
-#define RAID2D_VERSION_NUMBER  400
-#define RAID2D_VERSION_STRING  "0.4.0"
+#define RAID2D_VERSION_NUMBER  500
+#define RAID2D_VERSION_STRING  "0.5.0"
 
 /*
  * The version of the archive, as one number: 10000 times the major version,
@@ -146,7 +150,7 @@ extern "C" {
  */
 uint32_t raid2d_version_number(void);
 
-/* Data disks along a side: the range of n. */
+/* Data disks along a side: the range of rows, and that of columns. */
 #define RAID2D_SIDE_MIN  2
 #define RAID2D_SIDE_MAX  15
 
@@ -156,15 +160,18 @@ uint32_t raid2d_version_number(void);
 
 /*
  * Disks of an array, parity disks included: a map has as many bytes. And bytes
- * of an array. With constants for n and b both can size a static array.
+ * of an array. With constants both can size a static array.
  */
 #ifdef __cplusplus
-#define RAID2D_DISKS(n) \
-    ((static_cast<size_t>(n) + 1) * (static_cast<size_t>(n) + 1))
-#define RAID2D_ARRAY_BYTES(n, b)  (RAID2D_DISKS(n) * static_cast<size_t>(b))
+#define RAID2D_DISKS(rows, columns) \
+    ((static_cast<size_t>(rows) + 1) * (static_cast<size_t>(columns) + 1))
+#define RAID2D_ARRAY_BYTES(rows, columns, block) \
+    (RAID2D_DISKS(rows, columns) * static_cast<size_t>(block))
 #else
-#define RAID2D_DISKS(n)  (((size_t)(n) + 1) * ((size_t)(n) + 1))
-#define RAID2D_ARRAY_BYTES(n, b)  (RAID2D_DISKS(n) * (size_t)(b))
+#define RAID2D_DISKS(rows, columns) \
+    (((size_t)(rows) + 1) * ((size_t)(columns) + 1))
+#define RAID2D_ARRAY_BYTES(rows, columns, block) \
+    (RAID2D_DISKS(rows, columns) * (size_t)(block))
 #endif
 
 /* The stripe number of column 0. Row r is stripe r, column c this plus c. */
@@ -200,7 +207,7 @@ static inline const char *raid2d_strerror(uint32_t status)
     case RAID2D_OK:
         return "success";
     case RAID2D_ERR_SIDE:
-        return "n is not 2 to 15";
+        return "rows or columns is not 2 to 15";
     case RAID2D_ERR_BLOCK:
         return "the block's length is not 1 to 4096";
     case RAID2D_ERR_ARRAY_LENGTH:
@@ -278,10 +285,11 @@ static inline size_t raid2d_sheet_next(const uint8_t *sheet, size_t record)
  * the sum of its column's data, and the superparity to the sum of all row
  * parities. The array is then sealed.
  *
- *   n          data disks along a side, RAID2D_SIDE_MIN to RAID2D_SIDE_MAX
+ *   rows       data rows, RAID2D_SIDE_MIN to RAID2D_SIDE_MAX
+ *   columns    data columns, likewise
  *   block      bytes in a block, RAID2D_BLOCK_MIN to RAID2D_BLOCK_MAX
  *   array      the blocks of all disks
- *   array_len  its length, RAID2D_ARRAY_BYTES(n, block)
+ *   array_len  its length, RAID2D_ARRAY_BYTES(rows, columns, block)
  *
  * Reads       the blocks of the data disks.
  * Writes      the blocks of all parity disks and of the superparity, whatever
@@ -290,20 +298,22 @@ static inline size_t raid2d_sheet_next(const uint8_t *sheet, size_t record)
  *
  * Returns the first of these that applies:
  *
- *   RAID2D_ERR_SIDE          n is not 2 to 15; array unchanged
+ *   RAID2D_ERR_SIDE          rows or columns is not 2 to 15; array unchanged
  *   RAID2D_ERR_BLOCK         block is not 1 to 4096; array unchanged
  *   RAID2D_ERR_ARRAY_LENGTH  array_len is wrong; array unchanged
  *   RAID2D_OK                array sealed, its data unchanged
  */
-uint32_t raid2d_seal(size_t n, size_t block, uint8_t *array, size_t array_len);
+uint32_t raid2d_seal(size_t rows, size_t columns, size_t block,
+                     uint8_t *array, size_t array_len);
 
 /*
  * raid2d_check: say whether an array is sealed.
  *
- *   n          data disks along a side, RAID2D_SIDE_MIN to RAID2D_SIDE_MAX
+ *   rows       data rows, RAID2D_SIDE_MIN to RAID2D_SIDE_MAX
+ *   columns    data columns, likewise
  *   block      bytes in a block, RAID2D_BLOCK_MIN to RAID2D_BLOCK_MAX
  *   array      the blocks of all disks
- *   array_len  its length, RAID2D_ARRAY_BYTES(n, block)
+ *   array_len  its length, RAID2D_ARRAY_BYTES(rows, columns, block)
  *   stripe     receives the lowest stripe whose sum is not zero: r for row r,
  *              16 + c for column c, so rows come before columns
  *
@@ -317,14 +327,15 @@ uint32_t raid2d_seal(size_t n, size_t block, uint8_t *array, size_t array_len);
  *
  * Returns the first of these that applies:
  *
- *   RAID2D_ERR_SIDE          n is not 2 to 15; *stripe unchanged
+ *   RAID2D_ERR_SIDE          rows or columns is not 2 to 15; *stripe
+ *                            unchanged
  *   RAID2D_ERR_BLOCK         block is not 1 to 4096; *stripe unchanged
  *   RAID2D_ERR_ARRAY_LENGTH  array_len is wrong; *stripe unchanged
  *   RAID2D_NOT_SEALED        some stripe's sum is not zero at some byte
  *                            place; *stripe is the lowest such stripe
  *   RAID2D_OK                the array is sealed; *stripe unchanged
  */
-uint32_t raid2d_check(size_t n, size_t block,
+uint32_t raid2d_check(size_t rows, size_t columns, size_t block,
                       const uint8_t *array, size_t array_len,
                       size_t *stripe);
 
@@ -343,11 +354,13 @@ uint32_t raid2d_check(size_t n, size_t block,
  * new one. Rebuild first. Other disks may be erased, the parities too: the
  * write is right, and what changes in their blocks counts for nothing.
  *
- *   n          data disks along a side, RAID2D_SIDE_MIN to RAID2D_SIDE_MAX
+ *   rows       data rows, RAID2D_SIDE_MIN to RAID2D_SIDE_MAX
+ *   columns    data columns, likewise
  *   block      bytes in a block, RAID2D_BLOCK_MIN to RAID2D_BLOCK_MAX
  *   array      the blocks of all disks
- *   array_len  its length, RAID2D_ARRAY_BYTES(n, block)
- *   disk       the number of a data disk: r * (n+1) + c with r < n and c < n
+ *   array_len  its length, RAID2D_ARRAY_BYTES(rows, columns, block)
+ *   disk       the number of a data disk: r * (columns + 1) + c with r < rows
+ *              and c < columns
  *   data       the new block
  *   data_len   its length, equal to block
  *
@@ -358,7 +371,7 @@ uint32_t raid2d_check(size_t n, size_t block,
  *
  * Returns the first of these that applies:
  *
- *   RAID2D_ERR_SIDE          n is not 2 to 15; array unchanged
+ *   RAID2D_ERR_SIDE          rows or columns is not 2 to 15; array unchanged
  *   RAID2D_ERR_BLOCK         block is not 1 to 4096; array unchanged
  *   RAID2D_ERR_ARRAY_LENGTH  array_len is wrong; array unchanged
  *   RAID2D_ERR_DISK          disk is a parity disk, the superparity or no
@@ -367,7 +380,7 @@ uint32_t raid2d_check(size_t n, size_t block,
  *   RAID2D_OK                the block is stored and its three parities
  *                            changed, the other blocks unchanged
  */
-uint32_t raid2d_write(size_t n, size_t block,
+uint32_t raid2d_write(size_t rows, size_t columns, size_t block,
                       uint8_t *array, size_t array_len,
                       size_t disk,
                       const uint8_t *data, size_t data_len);
@@ -378,13 +391,14 @@ uint32_t raid2d_write(size_t n, size_t block,
  * The block is that very part of the array: block bytes from array + *offset.
  * Any disk of the grid can be looked at, parities too.
  *
- *   n          data disks along a side, RAID2D_SIDE_MIN to RAID2D_SIDE_MAX
+ *   rows       data rows, RAID2D_SIDE_MIN to RAID2D_SIDE_MAX
+ *   columns    data columns, likewise
  *   block      bytes in a block, RAID2D_BLOCK_MIN to RAID2D_BLOCK_MAX
  *   array      the blocks of all disks
- *   array_len  its length, RAID2D_ARRAY_BYTES(n, block)
+ *   array_len  its length, RAID2D_ARRAY_BYTES(rows, columns, block)
  *   map        which disks are erased: every byte 0 or 1
- *   map_len    its length, RAID2D_DISKS(n)
- *   disk       the number of a disk, less than RAID2D_DISKS(n)
+ *   map_len    its length, RAID2D_DISKS(rows, columns)
+ *   disk       the number of a disk, less than RAID2D_DISKS(rows, columns)
  *   offset     receives where the block begins in the array: disk * block
  *
  * Reads       the map.
@@ -393,12 +407,12 @@ uint32_t raid2d_write(size_t n, size_t block,
  *
  * Returns a length and no status:
  *
- *   0      n, block, array_len, map_len or disk is wrong, or a byte of the
- *          map, wherever it stands, is neither 0 nor 1, or the disk is
- *          erased; *offset unchanged
+ *   0      rows, columns, block, array_len, map_len or disk is wrong, or a
+ *          byte of the map, wherever it stands, is neither 0 nor 1, or the
+ *          disk is erased; *offset unchanged
  *   block  otherwise; *offset is disk * block
  */
-size_t raid2d_look(size_t n, size_t block,
+size_t raid2d_look(size_t rows, size_t columns, size_t block,
                    const uint8_t *array, size_t array_len,
                    const uint8_t *map, size_t map_len,
                    size_t disk,
@@ -412,13 +426,15 @@ size_t raid2d_look(size_t n, size_t block,
  * a fatal loss a cycle. Where a loss has several cycles, which of them is
  * listed is left open; raid2d_rebuild lists the same one.
  *
- *   n          data disks along a side, RAID2D_SIDE_MIN to RAID2D_SIDE_MAX
+ *   rows       data rows, RAID2D_SIDE_MIN to RAID2D_SIDE_MAX
+ *   columns    data columns, likewise
  *   map        which disks are erased: every byte 0 or 1
- *   map_len    its length, RAID2D_DISKS(n)
+ *   map_len    its length, RAID2D_DISKS(rows, columns)
  *   sheet      receives the repairs or the cycle
  *   sheet_len  its length, RAID2D_SHEET_BYTES
  *   count      receives the number of repairs, which is that of the erased
- *              disks and at most 2n+1, or the number of disks in the residual
+ *              disks and at most rows + columns + 1, or the number of disks in
+ *              the residual
  *
  * Reads       the map.
  * Writes      the whole sheet and *count with RAID2D_OK and RAID2D_FATAL, else
@@ -429,7 +445,8 @@ size_t raid2d_look(size_t n, size_t block,
  *
  * Returns the first of these that applies:
  *
- *   RAID2D_ERR_SIDE          n is not 2 to 15; sheet and *count unchanged
+ *   RAID2D_ERR_SIDE          rows or columns is not 2 to 15; sheet and *count
+ *                            unchanged
  *   RAID2D_ERR_MAP           map_len is wrong, or a byte of the map is neither
  *                            0 nor 1; sheet and *count unchanged
  *   RAID2D_ERR_SHEET_LENGTH  sheet_len is not 98; sheet and *count unchanged
@@ -438,7 +455,7 @@ size_t raid2d_look(size_t n, size_t block,
  *   RAID2D_OK                the sheet lists the repairs, *count is their
  *                            number: none and 0 where no disk is erased
  */
-uint32_t raid2d_plan(size_t n,
+uint32_t raid2d_plan(size_t rows, size_t columns,
                      const uint8_t *map, size_t map_len,
                      uint8_t *sheet, size_t sheet_len,
                      size_t *count);
@@ -449,21 +466,23 @@ uint32_t raid2d_plan(size_t n,
  * Makes the repairs of raid2d_plan, whatever the erased blocks hold, and then
  * checks all stripes. With RAID2D_OK the whole array is sealed: it is the only
  * sealed array with these survivors. A survivor that was damaged shows only
- * where the other survivors contradict it; with 2n+1 disks erased none can.
- * The map is not cleared; the host does so when it takes the disks as present
- * again. While an array is filled without superparity, its superparity disk
- * is simply erased in the map.
+ * where the other survivors contradict it; with rows + columns + 1 disks
+ * erased none can. The map is not cleared; the host does so when it takes the
+ * disks as present again. While an array is filled without superparity, its
+ * superparity disk is simply erased in the map.
  *
- *   n          data disks along a side, RAID2D_SIDE_MIN to RAID2D_SIDE_MAX
+ *   rows       data rows, RAID2D_SIDE_MIN to RAID2D_SIDE_MAX
+ *   columns    data columns, likewise
  *   block      bytes in a block, RAID2D_BLOCK_MIN to RAID2D_BLOCK_MAX
  *   array      the blocks of all disks
- *   array_len  its length, RAID2D_ARRAY_BYTES(n, block)
+ *   array_len  its length, RAID2D_ARRAY_BYTES(rows, columns, block)
  *   map        which disks are erased: every byte 0 or 1
- *   map_len    its length, RAID2D_DISKS(n)
+ *   map_len    its length, RAID2D_DISKS(rows, columns)
  *   sheet      receives the repairs or the cycle
  *   sheet_len  its length, RAID2D_SHEET_BYTES
  *   count      receives the number of repairs, which is that of the erased
- *              disks and at most 2n+1, or the number of disks in the residual
+ *              disks and at most rows + columns + 1, or the number of disks in
+ *              the residual
  *
  * Reads       the map, and the blocks of the disks that are not erased.
  * Writes      the blocks of the erased disks with RAID2D_OK and
@@ -473,7 +492,7 @@ uint32_t raid2d_plan(size_t n,
  *
  * Returns the first of these that applies:
  *
- *   RAID2D_ERR_SIDE          n is not 2 to 15; all unchanged
+ *   RAID2D_ERR_SIDE          rows or columns is not 2 to 15; all unchanged
  *   RAID2D_ERR_BLOCK         block is not 1 to 4096; all unchanged
  *   RAID2D_ERR_ARRAY_LENGTH  array_len is wrong; all unchanged
  *   RAID2D_ERR_MAP           map_len is wrong, or a byte of the map is neither
@@ -489,7 +508,7 @@ uint32_t raid2d_plan(size_t n,
  *   RAID2D_OK                the blocks of the erased disks are restored;
  *                            sheet and *count are those of raid2d_plan
  */
-uint32_t raid2d_rebuild(size_t n, size_t block,
+uint32_t raid2d_rebuild(size_t rows, size_t columns, size_t block,
                         uint8_t *array, size_t array_len,
                         const uint8_t *map, size_t map_len,
                         uint8_t *sheet, size_t sheet_len,
@@ -506,16 +525,17 @@ uint32_t raid2d_rebuild(size_t n, size_t block,
  * The sheet is judged as a whole before any block is changed. The map is not
  * cleared.
  *
- *   n          data disks along a side, RAID2D_SIDE_MIN to RAID2D_SIDE_MAX
+ *   rows       data rows, RAID2D_SIDE_MIN to RAID2D_SIDE_MAX
+ *   columns    data columns, likewise
  *   block      bytes in a block, RAID2D_BLOCK_MIN to RAID2D_BLOCK_MAX
  *   array      the blocks of all disks
- *   array_len  its length, RAID2D_ARRAY_BYTES(n, block)
+ *   array_len  its length, RAID2D_ARRAY_BYTES(rows, columns, block)
  *   map        which disks are erased: every byte 0 or 1
- *   map_len    its length, RAID2D_DISKS(n)
+ *   map_len    its length, RAID2D_DISKS(rows, columns)
  *   sheet      the repairs, each erased disk once
  *   sheet_len  its length, RAID2D_SHEET_BYTES
  *   count      receives the number of repairs, which is that of the erased
- *              disks and at most 2n+1
+ *              disks and at most rows + columns + 1
  *
  * Reads       the map, the sheet, and the blocks of the disks that are not
  *             erased.
@@ -525,7 +545,7 @@ uint32_t raid2d_rebuild(size_t n, size_t block,
  *
  * Returns the first of these that applies:
  *
- *   RAID2D_ERR_SIDE          n is not 2 to 15; all unchanged
+ *   RAID2D_ERR_SIDE          rows or columns is not 2 to 15; all unchanged
  *   RAID2D_ERR_BLOCK         block is not 1 to 4096; all unchanged
  *   RAID2D_ERR_ARRAY_LENGTH  array_len is wrong; all unchanged
  *   RAID2D_ERR_MAP           map_len is wrong, or a byte of the map is neither
@@ -546,7 +566,7 @@ uint32_t raid2d_rebuild(size_t n, size_t block,
  *                            *count is the number of repairs: 0 where no disk
  *                            is erased
  */
-uint32_t raid2d_follow(size_t n, size_t block,
+uint32_t raid2d_follow(size_t rows, size_t columns, size_t block,
                        uint8_t *array, size_t array_len,
                        const uint8_t *map, size_t map_len,
                        const uint8_t *sheet, size_t sheet_len,

@@ -1,4 +1,4 @@
-// Case 12: the fatal losses of three and of four disks, counted.
+// Case 12: the fatal losses of three and of four disks, counted for 2 to 4 data rows and columns.
 ghost use Prim.Native.Nat.{_≤_};
 use crate::say;
 use model::Outcome;
@@ -95,29 +95,44 @@ fn fatal_sets(size: Size, map: &mut [u8], number: usize) -> usize {
     found
 }
 
-fn side_two() {
-    let mut map = [0u8; 9];
-    let size = Size { side: 2 };
-    say::number(b"n = 2, fatal sets of three", fatal_sets(size, &mut map, 3));
-    say::number(b"n = 2, fatal sets of four", fatal_sets(size, &mut map, 4));
+// The counts for one size, with a clear map of its length.
+fn counted(rows: usize, columns: usize, map: &mut [u8]) {
+    let size = Size { rows, columns };
+    say::size(rows, columns);
+    say::end();
+    say::number(b"fatal sets of three", fatal_sets(size, map, 3));
+    say::number(b"fatal sets of four", fatal_sets(size, map, 4));
 }
 
-fn side_three() {
-    let mut map = [0u8; 16];
-    let size = Size { side: 3 };
-    say::number(b"n = 3, fatal sets of three", fatal_sets(size, &mut map, 3));
-    say::number(b"n = 3, fatal sets of four", fatal_sets(size, &mut map, 4));
+fn two_rows() {
+    let mut two = [0u8; 9];
+    let mut three = [0u8; 12];
+    let mut four = [0u8; 15];
+    counted(2, 2, &mut two);
+    counted(2, 3, &mut three);
+    counted(2, 4, &mut four);
 }
 
-fn side_four() {
-    let mut map = [0u8; 25];
-    let size = Size { side: 4 };
-    say::number(b"n = 4, fatal sets of three", fatal_sets(size, &mut map, 3));
-    say::number(b"n = 4, fatal sets of four", fatal_sets(size, &mut map, 4));
+fn three_rows() {
+    let mut two = [0u8; 12];
+    let mut three = [0u8; 16];
+    let mut four = [0u8; 20];
+    counted(3, 2, &mut two);
+    counted(3, 3, &mut three);
+    counted(3, 4, &mut four);
+}
+
+fn four_rows() {
+    let mut two = [0u8; 15];
+    let mut three = [0u8; 20];
+    let mut four = [0u8; 25];
+    counted(4, 2, &mut two);
+    counted(4, 3, &mut three);
+    counted(4, 4, &mut four);
 }
 
 pub fn run() {
-    side_two();
-    side_three();
-    side_four();
+    two_rows();
+    three_rows();
+    four_rows();
 }

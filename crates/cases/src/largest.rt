@@ -1,4 +1,4 @@
-// Case 10: the largest array, n = 15 with blocks of 4,096 bytes.
+// Case 10: the largest array, 15 data rows and columns with blocks of 4,096 bytes.
 ghost use mathlib.Core.Path.{_≡_};
 ghost use lib.ListN.{length};
 use crate::say;
@@ -29,7 +29,10 @@ fn spoil(array: &mut [u8], map: &[u8])
 // Seals an array of many different bytes, loses the first row and the first column, which are as many disks as can come back,
 // and restores them.
 pub fn run() {
-    let size = Size { side: 15 };
+    let size = Size {
+        rows: 15,
+        columns: 15,
+    };
     let mut array = blank();
     trial::put_every(&mut array, 0, 1048576, 3, 7);
     trial::put_every(&mut array, 1, 1048576, 5, 90);

@@ -4,12 +4,11 @@ use libc::STDOUT_FILENO;
 use model::Size;
 
 // A heading for the lines that follow.
-fn heading(side: usize, block: usize) {
-    io::write_all(STDOUT_FILENO, b"n = ");
-    io::print_decimal(STDOUT_FILENO, side as u64);
+fn heading(rows: usize, columns: usize, block: usize) {
+    say::size(rows, columns);
     io::write_all(STDOUT_FILENO, b", B = ");
     io::print_decimal(STDOUT_FILENO, block as u64);
-    io::write_all(STDOUT_FILENO, b"\n");
+    say::end();
 }
 
 // What seal, check and write answer.
@@ -31,61 +30,90 @@ fn losses(size: Size, block: usize, array: &mut [u8], map: &[u8]) {
 }
 
 // Each call on an array.
-fn calls(side: usize, block: usize, array: &mut [u8], map: &[u8], new: &[u8]) {
-    let size = Size { side: side };
-    heading(side, block);
+fn calls(size: Size, block: usize, array: &mut [u8], map: &[u8], new: &[u8]) {
+    heading(size.rows, size.columns, block);
     parities(size, block, array, new);
     losses(size, block, array, map);
 }
 
 // What plan answers, which takes no block.
-fn planned(what: &[u8], side: usize, map: &[u8]) {
-    let size = Size { side: side };
+fn planned(what: &[u8], size: Size, map: &[u8]) {
     let mut sheet = [0u8; 98];
     say::outcome(what, plan::plan(size, map, &mut sheet));
 }
 
-// n = 1, with the buffers that such an array would have.
-fn side_one() {
-    let mut array = [0u8; 4];
-    let map = [0u8; 4];
-    calls(1, 1, &mut array, &map, b"a");
-    planned(b"plan", 1, &map);
+// Every call for a size, with blocks of one byte.
+fn sized(rows: usize, columns: usize, array: &mut [u8], map: &[u8]) {
+    let size = Size { rows, columns };
+    calls(size, 1, array, map, b"a");
+    planned(b"plan", size, map);
 }
 
-// n = 16, likewise.
-fn side_sixteen() {
+// One data row and one data column, with the buffers that such an array would have.
+fn one_by_one() {
+    let mut array = [0u8; 4];
+    let map = [0u8; 4];
+    sized(1, 1, &mut array, &map);
+}
+
+// One of either alone, likewise.
+fn one_beside_two() {
+    let mut array = [0u8; 6];
+    let map = [0u8; 6];
+    sized(1, 2, &mut array, &map);
+    sized(2, 1, &mut array, &map);
+}
+
+// 16 of both, likewise.
+fn sixteen_by_sixteen() {
     let mut array = [0u8; 289];
     let map = [0u8; 289];
-    calls(16, 1, &mut array, &map, b"a");
-    planned(b"plan", 16, &map);
+    sized(16, 16, &mut array, &map);
+}
+
+// 16 of either alone, likewise.
+fn sixteen_beside_two() {
+    let mut array = [0u8; 51];
+    let map = [0u8; 51];
+    sized(16, 2, &mut array, &map);
+    sized(2, 16, &mut array, &map);
+}
+
+// The size of the cases that have another fault.
+fn two_by_two() -> Size {
+    Size {
+        rows: 2,
+        columns: 2,
+    }
 }
 
 // B = 0, likewise.
 fn block_zero() {
+    let size = two_by_two();
     let mut array = [0u8; 0];
     let map = [0u8; 9];
     let new = [0u8; 0];
-    calls(2, 0, &mut array, &map, &new);
+    calls(size, 0, &mut array, &map, &new);
 }
 
 // B = 4,097, likewise.
 fn block_above() {
+    let size = two_by_two();
     let mut array = [0u8; 36873];
     let map = [0u8; 9];
     let new = [0u8; 4097];
-    calls(2, 4097, &mut array, &map, &new);
+    calls(size, 4097, &mut array, &map, &new);
 }
 
 // A map byte of 2, first and last.
 fn map_byte() {
-    let size = Size { side: 2 };
+    let size = two_by_two();
     let mut array = [0u8; 9];
     let mut sheet = [0u8; 98];
     let first = [2u8, 0, 0, 0, 0, 0, 0, 0, 0];
     let last = [0u8, 0, 0, 0, 0, 0, 0, 0, 2];
-    planned(b"plan with 2 in the map", 2, &first);
-    planned(b"plan with 2 at the map's end", 2, &last);
+    planned(b"plan with 2 in the map", size, &first);
+    planned(b"plan with 2 at the map's end", size, &last);
     say::outcome(
         b"rebuild with 2 in the map",
         rebuild::rebuild(size, 1, &mut array, &first, &mut sheet),
@@ -98,7 +126,7 @@ fn map_byte() {
 
 // Disk 2 is the parity of row 0, so that no block is written there.
 fn parity_disk() {
-    let size = Size { side: 2 };
+    let size = two_by_two();
     let mut array = [1u8, 2, 3, 4, 8, 12, 5, 10, 15];
     say::status(
         b"write to disk 2",
@@ -108,8 +136,10 @@ fn parity_disk() {
 }
 
 pub fn run() {
-    side_one();
-    side_sixteen();
+    one_by_one();
+    one_beside_two();
+    sixteen_by_sixteen();
+    sixteen_beside_two();
     block_zero();
     block_above();
     map_byte();

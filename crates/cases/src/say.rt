@@ -3,6 +3,19 @@ use libc::STDOUT_FILENO;
 use model::Checked;
 use model::Outcome;
 
+// A size, without the end of a line.
+pub fn size(rows: usize, columns: usize) {
+    io::write_all(STDOUT_FILENO, b"a = ");
+    io::print_decimal(STDOUT_FILENO, rows as u64);
+    io::write_all(STDOUT_FILENO, b", b = ");
+    io::print_decimal(STDOUT_FILENO, columns as u64);
+}
+
+// The end of a line.
+pub fn end() {
+    io::write_all(STDOUT_FILENO, b"\n");
+}
+
 // What was done, the number that came of it, and a line feed.
 pub fn number(what: &[u8], value: usize) {
     io::write_all(STDOUT_FILENO, what);

@@ -3,7 +3,7 @@
 ghost use mathlib.Core.Path.{_≡_};
 ghost use mathlib.Core.Bool.{true};
 ghost use Prim.Native.Nat.{_≤_};
-ghost use Rattle.model.specs.Grid.{rows, columns, across, disks, diskAt, arrayBytes, isData, sizeFits, blockFits, mapFits};
+ghost use Rattle.model.specs.Grid.{rows, columns, across, disks, diskAt, arrayBytes, isData, sideFits, sizeFits, blockFits, mapFits};
 ghost use Rattle.model.specs.Stripes.{on};
 ghost use Rattle.model.specs.Grid.{gridOf};
 ghost use Rattle.model.specs.Refusal.{refusal, arrayTests};
@@ -15,25 +15,34 @@ use model::Size;
 pub fn rows(size: Size) -> usize
     ensures { λ r. ⌜ r ≡ rows size ⌝ }
 {
-    size.side
+    size.rows
 }
 
 // Data columns.
 pub fn columns(size: Size) -> usize
     ensures { λ r. ⌜ r ≡ columns size ⌝ }
 {
-    size.side
+    size.columns
+}
+
+// So many data rows, or data columns, can be.
+fn side_fits(side: usize) -> bool
+    ensures { λ r. ⌜ r ≡ sideFits side ⌝ }
+{
+    if side < 2 {
+        return false;
+    }
+    side <= 15
 }
 
 // The size is one that the library takes.
 pub fn size_fits(size: Size) -> bool
     ensures { λ r. ⌜ r ≡ sizeFits size ⌝ }
 {
-    let side = size.side;
-    if side < 2 {
+    if !side_fits(size.rows) {
         return false;
     }
-    side <= 15
+    side_fits(size.columns)
 }
 
 // The block's length is one that the library takes.

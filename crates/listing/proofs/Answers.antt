@@ -9,7 +9,7 @@ use native.Mathlib.Omega.{arith}
 use borrow.Author.Tests.{eqb-true}
 use lib.Dec.{eqb}
 use lib.ListN.{length, getD, drop}
-use Rattle.model.specs.Grid.{square, gridOf, sizeFits}
+use Rattle.model.specs.Grid.{rectangle, gridOf, sizeFits}
 use Rattle.model.specs.Refusal.{refusal}
 use Rattle.model.specs.Repair.{Entry, erasures, repairs, lost, fatal}
 use Rattle.model.specs.Cycle.{shownCycle}
@@ -86,9 +86,9 @@ module _ (z : Size) (m s : List ℕ) (long : length s ≡ 98) where
 
 -- So the report on plan's answer for the size and the map of an input is the listing.
 pub plan-listed : (input : List ℕ) (z : Size) (m s : List ℕ) {o : Outcome} {t : List ℕ} → length s ≡ 98
-    → z ≡ square (getD input 0 0) → m ≡ drop 1 input → o ≡ planOutcome z m s → t ≡ planSheet z m s → report o t ≡ listing input
+    → z ≡ rectangle (getD input 0 0) (getD input 1 0) → m ≡ drop 2 input → o ≡ planOutcome z m s → t ≡ planSheet z m s → report o t ≡ listing input
 unfolding listing
 plan-listed input z m s long size map outcome sheet =
     ap₂ report outcome sheet
     ∙ ap₂ (λ (z : Size) (m : List ℕ). report (planOutcome z m s) (planSheet z m s)) size map
-    ∙ plan-reported (square (getD input 0 0)) (drop 1 input) s long
+    ∙ plan-reported (rectangle (getD input 0 0) (getD input 1 0)) (drop 2 input) s long

@@ -2,7 +2,7 @@
 ghost use mathlib.Core.Path.{_≡_};
 ghost use Prim.Native.Nat.{_-_, _≤_};
 ghost use lib.ListN.{length, take, drop, getD, replicate};
-ghost use Rattle.model.specs.Grid.{square};
+ghost use Rattle.model.specs.Grid.{rectangle};
 ghost use Rattle.model.specs.Listing.{listing};
 
 mod put;
@@ -16,29 +16,38 @@ pub struct Text {
     pub len: usize,
 }
 
-// The size that the first byte of the input gives. A missing byte counts as 0.
+// The byte at a place of the input. A missing byte counts as 0.
+fn byte_at(input: &[u8], place: usize) -> usize
+    ensures { λ r. ⌜ r ≡ getD (now (input .entry)) place 0 ⌝ }
+{
+    if place < input.len() {
+        return input[place] as usize;
+    }
+    0
+}
+
+// The size that the first two bytes of the input give.
 fn size_of(input: &[u8]) -> Size
-    ensures { λ r. ⌜ r ≡ square (getD (now (input .entry)) 0 0) ⌝ }
+    ensures { λ r. ⌜ r ≡ rectangle (getD (now (input .entry)) 0 0) (getD (now (input .entry)) 1 0) ⌝ }
 {
-    if input.len() == 0 {
-        return Size { side: 0 };
-    }
     Size {
-        side: input[0] as usize,
+        rows: byte_at(input, 0),
+        columns: byte_at(input, 1),
     }
 }
 
-// The map that follows it.
+// The map that follows them.
 fn map_of(input: &[u8]) -> &[u8]
-    ensures { λ r. ⌜ now r ≡ drop 1 (now (input .entry)) ⌝ }
+    ensures { λ r. ⌜ now r ≡ drop 2 (now (input .entry)) ⌝ }
 {
-    if input.len() == 0 {
-        return input;
+    let len = input.len();
+    if len < 2 {
+        return &input[len..];
     }
-    &input[1..]
+    &input[2..]
 }
 
-// The text for an input: one byte for the size, then the map.
+// The text for an input: a byte for the data rows, one for the data columns, then the map.
 pub fn listing_of(input: &[u8]) -> Text
     ensures text { λ r. ⌜ take (r .len) (r .bytes) ≡ listing (now (input .entry)) ⌝ }
     ensures rest { λ r. ⌜ drop (r .len) (r .bytes) ≡ replicate (320 - r .len) 0 ⌝ }

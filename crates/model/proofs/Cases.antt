@@ -1,4 +1,5 @@
--- The worked cases of paper 01, n = 2 and B = 1, as one list: what the definitions give, and what the paper says. They agree.
+-- The worked cases of paper 01, two data rows, two data columns and B = 1, and some with two rows and three columns, as one list:
+-- what the definitions give, and what the paper says. They agree.
 -- Assumes nothing.
 use mathlib.Core.Path.{_≡_, refl}
 use mathlib.Core.List.{List, [], _∷_, _++_, map}
@@ -6,7 +7,7 @@ use Prim.Native.Nat.{ℕ}
 use lib.ListN.{replicate}
 use Rattle.model.specs.Fold.{_⊕_, xsum, gate, every, bit, count, lowest, tabulate}
 use Rattle.model.specs.Stripes.{among, on, whole, byte, sumOver, stripeSum, sumsToZero}
-use Rattle.model.specs.Grid.{grid, gridOf, square, rows, columns, across, disks, diskAt, isData, arrayBytes, arrayOf, sizeFits, blockFits, mapFits}
+use Rattle.model.specs.Grid.{grid, gridOf, rectangle, rows, columns, across, disks, diskAt, isData, arrayBytes, arrayOf, sideFits, sizeFits, blockFits, mapFits}
 use Rattle.model.specs.Equations.{cell, rowData, columnData}
 use Rattle.model.specs.Refusal.{refusal, arrayTests}
 use Rattle.model.specs.Array.{encodedByte, encoded, sealStatus, sealArray, writeTests, isParityOf, writtenByte, written, writeStatus, writeArray}
@@ -26,27 +27,34 @@ pub record Case : Type 0 where
   pub expected : List ℕ
 
 two : Size
-two = record { side = 2 }
+two = rectangle 2 2
+
+wide : Size
+wide = rectangle 2 3
 
 -- The paper's sealed array A.
 A : List ℕ
 A = 1 ∷ 2 ∷ 3 ∷ 4 ∷ 8 ∷ 12 ∷ 5 ∷ 10 ∷ 15 ∷ []
+
+-- A sealed array with two rows and three columns of data.
+W : List ℕ
+W = 1 ∷ 2 ∷ 4 ∷ 7 ∷ 8 ∷ 16 ∷ 32 ∷ 56 ∷ 9 ∷ 18 ∷ 36 ∷ 63 ∷ []
 
 -- Whatever stands in the sheet beforehand.
 before : List ℕ
 before = replicate 98 7
 
 -- What plan gives for a map: the number, the count, the sheet.
-planned : List ℕ → List ℕ
-unfolding two before
-planned m = outcomeStatus (planOutcome two m before) ∷ outcomeCount (planOutcome two m before) 99 ∷ planSheet two m before
+planned : Size → List ℕ → List ℕ
+unfolding before
+planned z m = outcomeStatus (planOutcome z m before) ∷ outcomeCount (planOutcome z m before) 99 ∷ planSheet z m before
 
 -- What rebuild gives for an array and a map: the number, the count, the array, the sheet.
-restored : List ℕ → List ℕ → List ℕ
-unfolding two before
-restored a m =
-    outcomeStatus (rebuildOutcome two 1 a m before) ∷ outcomeCount (rebuildOutcome two 1 a m before) 99
-    ∷ rebuildArray two 1 a m before ++ rebuildSheet two 1 a m before
+restored : Size → (a m : List ℕ) → List ℕ
+unfolding before
+restored z a m =
+    outcomeStatus (rebuildOutcome z 1 a m before) ∷ outcomeCount (rebuildOutcome z 1 a m before) 99
+    ∷ rebuildArray z 1 a m before ++ rebuildSheet z 1 a m before
 
 -- What follow gives for an array, a map and a sheet: the number, the count, the array.
 followed : (a m sheet : List ℕ) → List ℕ
@@ -55,7 +63,7 @@ followed a m sheet =
     outcomeStatus (followOutcome two 1 a m sheet) ∷ outcomeCount (followOutcome two 1 a m sheet) 99 ∷ followArray two 1 a m sheet
 
 unfoldable pub cases : List Case
-unfolding two A planned restored followed
+unfolding two wide A W planned restored followed
 cases =
     -- Data 1 2 / 4 8 seals to A, whatever stands in the parities' place.
     record {
@@ -67,7 +75,7 @@ cases =
     -- No disk erased: restored, no repairs; byte 0 of the sheet is 1, the rest zero.
     ∷ record {
       number = 2;
-      computed = restored A (0 ∷ 0 ∷ 0 ∷ 0 ∷ 0 ∷ 0 ∷ 0 ∷ 0 ∷ 0 ∷ []);
+      computed = restored two A (0 ∷ 0 ∷ 0 ∷ 0 ∷ 0 ∷ 0 ∷ 0 ∷ 0 ∷ 0 ∷ []);
       expected = 0 ∷ 0 ∷ A ++ 1 ∷ replicate 97 0;
     }
     -- Disks 0, 2, 6 erased: the sheet, and A is restored whatever stands on them; the listing has the lines `repair 3`, `2 18`,
@@ -75,8 +83,8 @@ cases =
     ∷ record {
       number = 3;
       computed =
-          restored (7 ∷ 2 ∷ 7 ∷ 4 ∷ 8 ∷ 12 ∷ 7 ∷ 10 ∷ 15 ∷ []) (1 ∷ 0 ∷ 1 ∷ 0 ∷ 0 ∷ 0 ∷ 1 ∷ 0 ∷ 0 ∷ [])
-          ++ listing (2 ∷ 1 ∷ 0 ∷ 1 ∷ 0 ∷ 0 ∷ 0 ∷ 1 ∷ 0 ∷ 0 ∷ []);
+          restored two (7 ∷ 2 ∷ 7 ∷ 4 ∷ 8 ∷ 12 ∷ 7 ∷ 10 ∷ 15 ∷ []) (1 ∷ 0 ∷ 1 ∷ 0 ∷ 0 ∷ 0 ∷ 1 ∷ 0 ∷ 0 ∷ [])
+          ++ listing (2 ∷ 2 ∷ 1 ∷ 0 ∷ 1 ∷ 0 ∷ 0 ∷ 0 ∷ 1 ∷ 0 ∷ 0 ∷ []);
       expected =
           0 ∷ 3 ∷ A ++ 1 ∷ 1 ∷ 2 ∷ 18 ∷ 2 ∷ 0 ∷ 0 ∷ 3 ∷ 6 ∷ 2 ∷ 0 ∷ replicate 87 0
           ++ 114 ∷ 101 ∷ 112 ∷ 97 ∷ 105 ∷ 114 ∷ 32 ∷ 51 ∷ 10 ∷ 50 ∷ 32 ∷ 49 ∷ 56 ∷ 10 ∷ 48 ∷ 32 ∷ 48 ∷ 10 ∷ 54 ∷ 32 ∷ 50 ∷ 10 ∷ [];
@@ -86,8 +94,8 @@ cases =
     ∷ record {
       number = 4;
       computed =
-          planned (1 ∷ 0 ∷ 1 ∷ 0 ∷ 0 ∷ 0 ∷ 1 ∷ 0 ∷ 1 ∷ []) ++ restored A (1 ∷ 0 ∷ 1 ∷ 0 ∷ 0 ∷ 0 ∷ 1 ∷ 0 ∷ 1 ∷ [])
-          ++ listing (2 ∷ 1 ∷ 0 ∷ 1 ∷ 0 ∷ 0 ∷ 0 ∷ 1 ∷ 0 ∷ 1 ∷ []);
+          planned two (1 ∷ 0 ∷ 1 ∷ 0 ∷ 0 ∷ 0 ∷ 1 ∷ 0 ∷ 1 ∷ []) ++ restored two A (1 ∷ 0 ∷ 1 ∷ 0 ∷ 0 ∷ 0 ∷ 1 ∷ 0 ∷ 1 ∷ [])
+          ++ listing (2 ∷ 2 ∷ 1 ∷ 0 ∷ 1 ∷ 0 ∷ 0 ∷ 0 ∷ 1 ∷ 0 ∷ 1 ∷ []);
       expected =
           6 ∷ 4 ∷ 2 ∷ 1 ∷ 0 ∷ 0 ∷ 2 ∷ 2 ∷ 18 ∷ 3 ∷ 8 ∷ 2 ∷ 4 ∷ 6 ∷ 16 ∷ 0 ∷ replicate 84 0
           ++ 6 ∷ 4 ∷ A ++ 2 ∷ 1 ∷ 0 ∷ 0 ∷ 2 ∷ 2 ∷ 18 ∷ 3 ∷ 8 ∷ 2 ∷ 4 ∷ 6 ∷ 16 ∷ 0 ∷ replicate 84 0
@@ -96,25 +104,25 @@ cases =
     -- Disks 0, 1, 3, 4 erased: fatal.
     ∷ record {
       number = 5;
-      computed = planned (1 ∷ 1 ∷ 0 ∷ 1 ∷ 1 ∷ 0 ∷ 0 ∷ 0 ∷ 0 ∷ []);
+      computed = planned two (1 ∷ 1 ∷ 0 ∷ 1 ∷ 1 ∷ 0 ∷ 0 ∷ 0 ∷ 0 ∷ []);
       expected = 6 ∷ 4 ∷ 2 ∷ 1 ∷ 0 ∷ 0 ∷ 2 ∷ 1 ∷ 17 ∷ 3 ∷ 4 ∷ 1 ∷ 4 ∷ 3 ∷ 16 ∷ 0 ∷ replicate 84 0;
     }
     -- Disks 0, 4, 8 erased: repairs 0, 4, 8, on stripes 0, 1, 2.
     ∷ record {
       number = 6;
-      computed = restored (7 ∷ 2 ∷ 3 ∷ 4 ∷ 7 ∷ 12 ∷ 5 ∷ 10 ∷ 7 ∷ []) (1 ∷ 0 ∷ 0 ∷ 0 ∷ 1 ∷ 0 ∷ 0 ∷ 0 ∷ 1 ∷ []);
+      computed = restored two (7 ∷ 2 ∷ 3 ∷ 4 ∷ 7 ∷ 12 ∷ 5 ∷ 10 ∷ 7 ∷ []) (1 ∷ 0 ∷ 0 ∷ 0 ∷ 1 ∷ 0 ∷ 0 ∷ 0 ∷ 1 ∷ []);
       expected = 0 ∷ 3 ∷ A ++ 1 ∷ 1 ∷ 0 ∷ 0 ∷ 2 ∷ 4 ∷ 1 ∷ 3 ∷ 8 ∷ 2 ∷ 0 ∷ replicate 87 0;
     }
     -- Disks 0, 1, 2, 3, 6 erased: restored, the full five.
     ∷ record {
       number = 7;
-      computed = restored (7 ∷ 7 ∷ 7 ∷ 7 ∷ 8 ∷ 12 ∷ 7 ∷ 10 ∷ 15 ∷ []) (1 ∷ 1 ∷ 1 ∷ 1 ∷ 0 ∷ 0 ∷ 1 ∷ 0 ∷ 0 ∷ []);
+      computed = restored two (7 ∷ 7 ∷ 7 ∷ 7 ∷ 8 ∷ 12 ∷ 7 ∷ 10 ∷ 15 ∷ []) (1 ∷ 1 ∷ 1 ∷ 1 ∷ 0 ∷ 0 ∷ 1 ∷ 0 ∷ 0 ∷ []);
       expected = 0 ∷ 5 ∷ A ++ 1 ∷ 1 ∷ 1 ∷ 17 ∷ 2 ∷ 2 ∷ 18 ∷ 3 ∷ 0 ∷ 0 ∷ 4 ∷ 3 ∷ 1 ∷ 5 ∷ 6 ∷ 2 ∷ 0 ∷ replicate 81 0;
     }
     -- A with disk 8 holding 14, disk 0 erased: refusal 7, disk 0 becomes 0, and the sheet is zero.
     ∷ record {
       number = 8;
-      computed = restored (1 ∷ 2 ∷ 3 ∷ 4 ∷ 8 ∷ 12 ∷ 5 ∷ 10 ∷ 14 ∷ []) (1 ∷ 0 ∷ 0 ∷ 0 ∷ 0 ∷ 0 ∷ 0 ∷ 0 ∷ 0 ∷ []);
+      computed = restored two (1 ∷ 2 ∷ 3 ∷ 4 ∷ 8 ∷ 12 ∷ 5 ∷ 10 ∷ 14 ∷ []) (1 ∷ 0 ∷ 0 ∷ 0 ∷ 0 ∷ 0 ∷ 0 ∷ 0 ∷ 0 ∷ []);
       expected = 7 ∷ 99 ∷ 0 ∷ 2 ∷ 3 ∷ 4 ∷ 8 ∷ 12 ∷ 5 ∷ 10 ∷ 14 ∷ replicate 98 0;
     }
     -- Write 9 to disk 0 of A: disks 0, 2, 6, 8 become 9, 11, 13, 7.
@@ -123,11 +131,14 @@ cases =
       computed = writeStatus two 1 A 0 (9 ∷ []) ∷ writeArray two 1 A 0 (9 ∷ []);
       expected = 0 ∷ 9 ∷ 2 ∷ 11 ∷ 4 ∷ 8 ∷ 12 ∷ 13 ∷ 10 ∷ 7 ∷ [];
     }
-    -- The listing for empty input and for a size without a map: `refused 1`, `refused 4`. These have no number in the paper.
+    -- The listing for empty input, for one size byte and for a size without a map: `refused 1` twice, `refused 4`. These and those
+    -- that follow have no number in the paper.
     ∷ record {
       number = 0;
-      computed = listing [] ++ listing (2 ∷ []);
-      expected = 114 ∷ 101 ∷ 102 ∷ 117 ∷ 115 ∷ 101 ∷ 100 ∷ 32 ∷ 49 ∷ 10 ∷ 114 ∷ 101 ∷ 102 ∷ 117 ∷ 115 ∷ 101 ∷ 100 ∷ 32 ∷ 52 ∷ 10 ∷ [];
+      computed = listing [] ++ listing (2 ∷ []) ++ listing (2 ∷ 2 ∷ []);
+      expected =
+          114 ∷ 101 ∷ 102 ∷ 117 ∷ 115 ∷ 101 ∷ 100 ∷ 32 ∷ 49 ∷ 10 ∷ 114 ∷ 101 ∷ 102 ∷ 117 ∷ 115 ∷ 101 ∷ 100 ∷ 32 ∷ 49 ∷ 10
+          ∷ 114 ∷ 101 ∷ 102 ∷ 117 ∷ 115 ∷ 101 ∷ 100 ∷ 32 ∷ 52 ∷ 10 ∷ [];
     }
     -- Case 3's repairs from a sheet whose chain visits records 3, 1 and 2, with other bytes behind them; the same with a ring; the
     -- same with a disk left over.
@@ -143,8 +154,27 @@ cases =
       expected =
           0 ∷ 3 ∷ A ++ 10 ∷ 99 ∷ 7 ∷ 2 ∷ 7 ∷ 4 ∷ 8 ∷ 12 ∷ 7 ∷ 10 ∷ 15 ∷ 11 ∷ 99 ∷ 7 ∷ 2 ∷ 7 ∷ 4 ∷ 8 ∷ 12 ∷ 7 ∷ 10 ∷ 15 ∷ [];
     }
+    -- Two rows and three columns: data 1 2 4 / 8 16 32 seals to W; disks 0 to 3, 4 and 8, the full six, are restored.
+    ∷ record {
+      number = 0;
+      computed =
+          sealArray wide 1 (1 ∷ 2 ∷ 4 ∷ 99 ∷ 8 ∷ 16 ∷ 32 ∷ 9 ∷ 8 ∷ 7 ∷ 6 ∷ 5 ∷ [])
+          ++ restored wide (7 ∷ 7 ∷ 7 ∷ 7 ∷ 7 ∷ 16 ∷ 32 ∷ 56 ∷ 7 ∷ 18 ∷ 36 ∷ 63 ∷ []) (1 ∷ 1 ∷ 1 ∷ 1 ∷ 1 ∷ 0 ∷ 0 ∷ 0 ∷ 1 ∷ 0 ∷ 0 ∷ 0 ∷ []);
+      expected =
+          W ++ 0 ∷ 6 ∷ W ++ 1 ∷ 1 ∷ 1 ∷ 17 ∷ 2 ∷ 2 ∷ 18 ∷ 3 ∷ 3 ∷ 19 ∷ 4 ∷ 0 ∷ 0 ∷ 5 ∷ 4 ∷ 1 ∷ 6 ∷ 8 ∷ 2 ∷ 0 ∷ replicate 78 0;
+    }
+    -- There the four corners are fatal: loop 0, 3, 11, 8 on stripes 0, 19, 2, 16. Disk 2 holds data, disk 3 does not.
+    ∷ record {
+      number = 0;
+      computed =
+          planned wide (1 ∷ 0 ∷ 0 ∷ 1 ∷ 0 ∷ 0 ∷ 0 ∷ 0 ∷ 1 ∷ 0 ∷ 0 ∷ 1 ∷ [])
+          ++ writeStatus wide 1 W 2 (9 ∷ []) ∷ writeStatus wide 1 W 3 (9 ∷ []) ∷ writeArray wide 1 W 2 (9 ∷ []);
+      expected =
+          6 ∷ 4 ∷ 2 ∷ 1 ∷ 0 ∷ 0 ∷ 2 ∷ 3 ∷ 19 ∷ 3 ∷ 11 ∷ 2 ∷ 4 ∷ 8 ∷ 16 ∷ 0 ∷ replicate 84 0
+          ++ 0 ∷ 8 ∷ 1 ∷ 2 ∷ 9 ∷ 10 ∷ 8 ∷ 16 ∷ 32 ∷ 56 ∷ 9 ∷ 18 ∷ 41 ∷ 50 ∷ [];
+    }
     ∷ []
 
 pub cases-hold : map (λ (c : Case). c .computed) cases ≡ map (λ (c : Case). c .expected) cases
-unfolding cases sealStatus sealArray encoded encodedByte writeStatus writeArray writeTests written writtenByte isParityOf refusal arrayTests sizeFits blockFits arrayBytes arrayOf disks across rows columns diskAt isData rowData columnData cell byte whole xsum _⊕_ tabulate gate every bit count lowest among on sumOver stripeSum sumsToZero grid gridOf mapFits erasures without alone allowed firstAllowed someAllowed nextDisk repairOf peel repairs after residual lost fatal changed sumOfOthers repaired rebuilt zeroed consistent below closing core partner firstOf otherThan trace lowestOf cycleOf shownCycle chainBytes sheetOf blankSheet sheetTests planTests mapOutcome mapSheet planOutcome planSheet outcomeStatus outcomeCount rebuildTests rebuildRefusal repairedArray choose rebuildOutcome rebuildArray rebuildSheet entryAt nextNumber visited chainNumbers within different chainFits entriesAt chainEntries allAllowed clears followedArray followTests followRefusal followOutcome followArray square digit decimal repairWord fatalWord refusedWord entryLines listed listing
+unfolding cases sealStatus sealArray encoded encodedByte writeStatus writeArray writeTests written writtenByte isParityOf refusal arrayTests sideFits sizeFits blockFits arrayBytes arrayOf disks across rows columns diskAt isData rowData columnData cell byte whole xsum _⊕_ tabulate gate every bit count lowest among on sumOver stripeSum sumsToZero grid gridOf mapFits erasures without alone allowed firstAllowed someAllowed nextDisk repairOf peel repairs after residual lost fatal changed sumOfOthers repaired rebuilt zeroed consistent below closing core partner firstOf otherThan trace lowestOf cycleOf shownCycle chainBytes sheetOf blankSheet sheetTests planTests mapOutcome mapSheet planOutcome planSheet outcomeStatus outcomeCount rebuildTests rebuildRefusal repairedArray choose rebuildOutcome rebuildArray rebuildSheet entryAt nextNumber visited chainNumbers within different chainFits entriesAt chainEntries allAllowed clears followedArray followTests followRefusal followOutcome followArray rectangle digit decimal repairWord fatalWord refusedWord entryLines listed listing
 cases-hold = refl

@@ -7,7 +7,7 @@ use mathlib.Core.List.{List}
 use Prim.Native.Nat.{ℕ, _+_, _*_, _≤_, _<_}
 use lib.ListN.{length, getD}
 use Rattle.model.specs.Stripes.{whole, byte, stripeSum, Codeword}
-use Rattle.model.specs.Grid.{gridOf, grid, across, disks, arrayBytes, isData, square}
+use Rattle.model.specs.Grid.{gridOf, grid, across, disks, arrayBytes, isData, rectangle}
 use Rattle.model.specs.Equations.{Equations}
 use Rattle.model.specs.Refusal.{refusal, arrayTests}
 use Rattle.model.specs.Array.{sealStatus, sealArray, checked, checkStatus, isParityOf, replaced, writeStatus, writeArray}
@@ -22,15 +22,15 @@ use Rattle.model.proofs.Accept.{array-accepts, block-accepts}
 
 -- ---- which arguments are taken
 
--- Of the square array with n data disks along a side, just these sizes, blocks and lengths.
-pub accepts : (n B len : ℕ) → (refusal (arrayTests (square n) B len) ≡ 0)
-    ↔ ((2 ≤ n) × (n ≤ 15) × (1 ≤ B) × (B ≤ 4096) × (len ≡ (n + 1) * (n + 1) * B))
+-- With a data rows and b data columns, just these sizes, blocks and lengths.
+pub accepts : (a b B len : ℕ) → (refusal (arrayTests (rectangle a b) B len) ≡ 0)
+    ↔ ((2 ≤ a) × (a ≤ 15) × (2 ≤ b) × (b ≤ 15) × (1 ≤ B) × (B ≤ 4096) × (len ≡ (a + 1) * (b + 1) * B))
 accepts = array-accepts
 
 -- A write takes, besides, just a data disk, in row r and column c, and a block of B bytes.
-pub write-accepts : (n B : ℕ) (a : List ℕ) (d : ℕ) (new : List ℕ) → (writeStatus (square n) B a d new ≡ 0)
-    ↔ ((refusal (arrayTests (square n) B (length a)) ≡ 0)
-    × ((r : ℕ) × (c : ℕ) × (r < n) × (c < n) × (d ≡ r * (n + 1) + c)) × (length new ≡ B))
+pub write-accepts : (a b B : ℕ) (array : List ℕ) (d : ℕ) (new : List ℕ) → (writeStatus (rectangle a b) B array d new ≡ 0)
+    ↔ ((refusal (arrayTests (rectangle a b) B (length array)) ≡ 0)
+    × ((r : ℕ) × (c : ℕ) × (r < a) × (c < b) × (d ≡ r * (b + 1) + c)) × (length new ≡ B))
 write-accepts = block-accepts
 
 -- ---- seal

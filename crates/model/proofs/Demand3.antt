@@ -10,7 +10,7 @@ use native.Mathlib.Omega.{arith}
 use lib.ListN.{length, getD}
 use Rattle.model.specs.Fold.{count}
 use Rattle.model.specs.Stripes.{Layout, TwoStripes, whole, Codeword, Bytes}
-use Rattle.model.specs.Grid.{square, rows, columns, gridOf, sizeFits}
+use Rattle.model.specs.Grid.{rectangle, rows, columns, gridOf, sizeFits}
 use Rattle.model.specs.Refusal.{refusal, arrayTests}
 use Rattle.model.specs.Repair.{erasures, Entry, Peels, repairs, after, residual, fatal, rebuilt, consistent, Agree, Belongs, Ambiguous}
 use Rattle.model.specs.Cycle.{Cycle, Loop}
@@ -36,14 +36,15 @@ use Rattle.model.proofs.Outcomes.{when-fatal, when-restored, when-contr
 -- ---- which arguments are taken
 
 -- Plan takes just these sizes, a map with a byte of 0 or 1 for each disk, and a sheet of 98 bytes.
-pub plan-takes : (n : ℕ) (m : List ℕ) (len : ℕ) → (refusal (planTests (square n) m len) ≡ 0)
-    ↔ ((2 ≤ n) × (n ≤ 15) × ((length m ≡ (n + 1) * (n + 1)) × ((d : ℕ) → d < length m → getD m d 0 ≤ 1) × (len ≡ 98)))
+pub plan-takes : (a b : ℕ) (m : List ℕ) (len : ℕ) → (refusal (planTests (rectangle a b) m len) ≡ 0)
+    ↔ ((2 ≤ a) × (a ≤ 15) × (2 ≤ b) × (b ≤ 15)
+    × ((length m ≡ (a + 1) * (b + 1)) × ((d : ℕ) → d < length m → getD m d 0 ≤ 1) × (len ≡ 98)))
 plan-takes = plan-accepts
 
 -- Rebuild takes, besides, just the blocks and the arrays that every call on an array takes.
-pub rebuild-takes : (n B arrayLen : ℕ) (m : List ℕ) (len : ℕ) → (refusal (rebuildTests (square n) B arrayLen m len) ≡ 0)
-    ↔ ((refusal (arrayTests (square n) B arrayLen) ≡ 0)
-    × ((length m ≡ (n + 1) * (n + 1)) × ((d : ℕ) → d < length m → getD m d 0 ≤ 1) × (len ≡ 98)))
+pub rebuild-takes : (a b B arrayLen : ℕ) (m : List ℕ) (len : ℕ) → (refusal (rebuildTests (rectangle a b) B arrayLen m len) ≡ 0)
+    ↔ ((refusal (arrayTests (rectangle a b) B arrayLen) ≡ 0)
+    × ((length m ≡ (a + 1) * (b + 1)) × ((d : ℕ) → d < length m → getD m d 0 ≤ 1) × (len ≡ 98)))
 rebuild-takes = rebuild-accepts
 
 -- One that is refused by these tests changes nothing.

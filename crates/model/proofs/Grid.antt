@@ -13,7 +13,7 @@ use lib.Dec.{eqb, leb, ltb}
 use lib.ListN.{length, getD, List·getD-eq-default}
 use Rattle.model.specs.Fold.{xsum, gate}
 use Rattle.model.specs.Stripes.{TwoStripes, among, on, Stretch, whole, byte, sumOver, stripeSum}
-use Rattle.model.specs.Grid.{grid, rows, columns, across, gridOf, disks, diskAt, isData, arrayBytes, arrayOf, sizeFits, blockFits, mapFits}
+use Rattle.model.specs.Grid.{grid, rows, columns, across, gridOf, disks, diskAt, isData, arrayBytes, arrayOf, sideFits, sizeFits, blockFits, mapFits}
 use Rattle.model.specs.declared.Size.{Size}
 use Rattle.model.proofs.Fold.{and-left, and-right, and-both, same-test, xsum-ext, xsum-zero, xsum-swap, xsum-mul, xsum-only, length-tabulate, getD-tabulate, list-is}
 
@@ -98,12 +98,17 @@ both-bounds : (low n high : ℕ) → (leb low n && leb n high) ≡ true → (low
 both-bounds low n high e =
     (leb-true low n (and-left (leb low n) (leb n high) e), leb-true n high (and-right (leb low n) (leb n high) e))
 
+pub side-fits : (n : ℕ) → sideFits n ≡ true → (2 ≤ n) × (n ≤ 15)
+unfolding sideFits
+side-fits n = both-bounds 2 n 15
+
 -- What a size that fits says of its rows and of its columns.
 pub size-fits : (z : Size) → sizeFits z ≡ true → Fits z
-unfolding sizeFits rows columns
+unfolding sizeFits
 size-fits z e =
-    let b : (2 ≤ z .side) × (z .side ≤ 15) = both-bounds 2 (z .side) 15 e in
-    record { rowsLow = b .0; rowsHigh = b .1; columnsLow = b .0; columnsHigh = b .1 }
+    let r = side-fits (rows z) (and-left (sideFits (rows z)) (sideFits (columns z)) e) in
+    let c = side-fits (columns z) (and-right (sideFits (rows z)) (sideFits (columns z)) e) in
+    record { rowsLow = r .0; rowsHigh = r .1; columnsLow = c .0; columnsHigh = c .1 }
 
 pub block-fits : (B : ℕ) → blockFits B ≡ true → BlockFits B
 unfolding blockFits

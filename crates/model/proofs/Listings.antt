@@ -1,6 +1,6 @@
--- The listing program's text: the first 258 bytes of the input settle it.
+-- The listing program's text: the first 259 bytes of the input settle it.
 -- Assumes nothing.
-use mathlib.Core.Path.{_≡_, refl, sym, _∙_, ap}
+use mathlib.Core.Path.{_≡_, refl, sym, _∙_, ap, ap₂}
 use mathlib.Core.Bool.{Bool, true, false, cond, _&&_}
 use mathlib.Core.Logic.{⊎-elim}
 use mathlib.Core.List.{List, [], _∷_, _++_}
@@ -11,7 +11,7 @@ use lib.Dec.{leb}
 use lib.ListN.{length, getD, take, drop, length-take, length-drop}
 use lib.Seq.{take-all, getD-take}
 use Rattle.model.specs.Fold.{every}
-use Rattle.model.specs.Grid.{square, disks, sizeFits, mapFits}
+use Rattle.model.specs.Grid.{rectangle, disks, sizeFits, mapFits}
 use Rattle.model.specs.Refusal.{refusal}
 use Rattle.model.specs.Listing.{decimal, refusedWord, listing}
 use Rattle.model.specs.Rebuild.{sheetTests, planTests}
@@ -38,28 +38,29 @@ overlong z m h = go (sizeFits z) refl
         ∙ fails 4 (mapFits z m) _ (ap (λ (b : Bool). b && every (length m) (λ d. leb (getD m d 0) 1)) (ne-eqb (length m) (disks z) (λ q. omega arith)))
     go false e = fails 1 (sizeFits z) _ e
 
-refused-listing : (input : List ℕ) → 257 < length input
-    → listing input ≡ refusedWord ++ decimal (cond (sizeFits (square (getD input 0 0))) 4 1) ++ 10 ∷ []
+refused-listing : (input : List ℕ) → 258 < length input
+    → listing input ≡ refusedWord ++ decimal (cond (sizeFits (rectangle (getD input 0 0) (getD input 1 0))) 4 1) ++ 10 ∷ []
 unfolding listing
 refused-listing input h =
-    let z : Size = square (getD input 0 0) in
-    let long = length-drop 1 input in
-    let is = overlong z (drop 1 input) (omega arith) in
-    given-refused (refusal (planTests z (drop 1 input) 98)) _ _ (λ e. never (sizeFits z) (sym is ∙ e))
+    let z : Size = rectangle (getD input 0 0) (getD input 1 0) in
+    let long = length-drop 2 input in
+    let is = overlong z (drop 2 input) (omega arith) in
+    given-refused (refusal (planTests z (drop 2 input) 98)) _ _ (λ e. never (sizeFits z) (sym is ∙ e))
     ∙ ap (λ (k : ℕ). refusedWord ++ decimal k ++ 10 ∷ []) is
   where
     never : (b : Bool) → _≡_ {A = ℕ} (cond b 4 1) 0 → ⊥
     never true e = omega arith
     never false e = omega arith
 
--- So the program need not read more than 258 bytes.
-pub listing-settled : (input : List ℕ) → listing (take 258 input) ≡ listing input
+-- So the program need not read more than 259 bytes.
+pub listing-settled : (input : List ℕ) → listing (take 259 input) ≡ listing input
 listing-settled input =
     ⊎-elim
-    (λ (l : 258 < length input).
-    let long = length-take 258 input in
-    refused-listing (take 258 input) (omega arith)
-    ∙ ap (λ (n : ℕ). refusedWord ++ decimal (cond (sizeFits (square n)) 4 1) ++ 10 ∷ []) (getD-take 258 input 0 0 (omega arith))
+    (λ (l : 259 < length input).
+    let long = length-take 259 input in
+    refused-listing (take 259 input) (omega arith)
+    ∙ ap₂ (λ (a b : ℕ). refusedWord ++ decimal (cond (sizeFits (rectangle a b)) 4 1) ++ 10 ∷ [])
+    (getD-take 259 input 0 0 (omega arith)) (getD-take 259 input 1 0 (omega arith))
     ∙ sym (refused-listing input (omega arith)))
-    (λ (l : length input ≤ 258). ap listing (take-all 258 input l))
-    (lt-or-le 258 (length input))
+    (λ (l : length input ≤ 259). ap listing (take-all 259 input l))
+    (lt-or-le 259 (length input))

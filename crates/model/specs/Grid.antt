@@ -19,16 +19,16 @@ grid r c base =
       through = λ d. (d / (c + 1)) ∷ (base + d % (c + 1)) ∷ [];
     }
 
--- The size with n data disks along a side.
-unfoldable pub square : ℕ → Size
-square n = record { side = n }
+-- The size with a data rows and b data columns.
+unfoldable pub rectangle : (a b : ℕ) → Size
+rectangle a b = record { rows = a; columns = b }
 
 -- Data rows and data columns of a size.
 unfoldable pub rows : Size → ℕ
-rows z = z .side
+rows z = z .rows
 
 unfoldable pub columns : Size → ℕ
-columns z = z .side
+columns z = z .columns
 
 -- Disks in a row of the grid.
 unfoldable pub across : Size → ℕ
@@ -58,9 +58,12 @@ arrayBytes z B = disks z * B
 unfoldable pub arrayOf : Size → ℕ → (ℕ → ℕ → ℕ) → List ℕ
 arrayOf z B f = tabulate (arrayBytes z B) (λ i. f (i / B) (i % B))
 
--- What refusal 1 tests: 2 to 15 data disks along a side.
+-- What refusal 1 tests: 2 to 15 data rows, and as many data columns or another number from 2 to 15.
+unfoldable pub sideFits : ℕ → Bool
+sideFits n = leb 2 n && leb n 15
+
 unfoldable pub sizeFits : Size → Bool
-sizeFits z = leb 2 (z .side) && leb (z .side) 15
+sizeFits z = sideFits (rows z) && sideFits (columns z)
 
 -- What refusal 2 tests: a block of 1 to 4,096 bytes.
 unfoldable pub blockFits : ℕ → Bool

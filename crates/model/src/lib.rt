@@ -1,9 +1,10 @@
 // What is right. This crate has no code: specs/ says what the array, its parities and each call are, and proofs/ says what
 // follows from that. The types below are those that the definitions and the calls share.
 
-// The size of an array, which every call takes. Paper 01's n: data disks along a side.
+// The size of an array, which every call takes: data rows and data columns (paper 02: a and b).
 pub struct Size {
-    pub side: usize,
+    pub rows: usize,
+    pub columns: usize,
 }
 
 // What a check answers.

@@ -1,7 +1,7 @@
 // The C interface: thin exports over the calls, on numbers, byte buffers and places for one number. include/raid2d.h declares
 // them.
 ghost use mathlib.Core.Path.{_≡_};
-ghost use Rattle.model.specs.Grid.{square};
+ghost use Rattle.model.specs.Grid.{rectangle};
 ghost use Rattle.model.specs.Array.{sealStatus, sealArray, checked, checkStatus, checkStripe, writeStatus, writeArray};
 ghost use Rattle.model.specs.Array.{lookLength, lookPlace};
 ghost use Rattle.model.specs.Rebuild.{planOutcome, planSheet, outcomeStatus, outcomeCount};
@@ -14,25 +14,33 @@ use model::Size;
 // The version of the library: 10000 times the major number, 100 times the minor number, and the patch.
 #[no_mangle]
 pub extern "C" fn raid2d_version_number() -> u32
-    ensures { λ r. ⌜ r ≡ 400 ⌝ }
+    ensures { λ r. ⌜ r ≡ 500 ⌝ }
 {
-    400
+    500
 }
 
 #[no_mangle]
-pub extern "C" fn raid2d_seal(n: usize, block: usize, array: &mut [u8]) -> u32
-    ensures status { λ r. ⌜ r ≡ sealStatus (square n) block (now (array .entry)) ⌝ }
-    ensures array { λ r. ⌜ now (array .exit) ≡ sealArray (square n) block (now (array .entry)) ⌝ }
+pub extern "C" fn raid2d_seal(rows: usize, columns: usize, block: usize, array: &mut [u8]) -> u32
+    ensures status { λ r. ⌜ r ≡ sealStatus (rectangle rows columns) block (now (array .entry)) ⌝ }
+    ensures array { λ r. ⌜ now (array .exit) ≡ sealArray (rectangle rows columns) block (now (array .entry)) ⌝ }
 {
-    array::seal(Size { side: n }, block, array)
+    array::seal(Size { rows, columns }, block, array)
 }
 
 #[no_mangle]
-pub extern "C" fn raid2d_check(n: usize, block: usize, array: &[u8], stripe: &mut usize) -> u32
-    ensures status { λ r. ⌜ r ≡ checkStatus (checked (square n) block (now (array .entry))) ⌝ }
-    ensures stripe { λ r. ⌜ now (stripe .exit) ≡ checkStripe (checked (square n) block (now (array .entry))) (now (stripe .entry)) ⌝ }
+pub extern "C" fn raid2d_check(
+    rows: usize,
+    columns: usize,
+    block: usize,
+    array: &[u8],
+    stripe: &mut usize,
+) -> u32
+    ensures status { λ r. ⌜ r ≡ checkStatus (checked (rectangle rows columns) block (now (array .entry))) ⌝ }
+    ensures stripe { λ r. ⌜
+        now (stripe .exit) ≡ checkStripe (checked (rectangle rows columns) block (now (array .entry))) (now (stripe .entry))
+        ⌝ }
 {
-    let answer = array::check(Size { side: n }, block, array);
+    let answer = array::check(Size { rows, columns }, block, array);
     match answer {
         Checked::Sealed => 0,
         Checked::Unsealed(lowest) => {
@@ -45,33 +53,38 @@ pub extern "C" fn raid2d_check(n: usize, block: usize, array: &[u8], stripe: &mu
 
 #[no_mangle]
 pub extern "C" fn raid2d_write(
-    n: usize,
+    rows: usize,
+    columns: usize,
     block: usize,
     array: &mut [u8],
     disk: usize,
     data: &[u8],
 ) -> u32
-    ensures status { λ r. ⌜ r ≡ writeStatus (square n) block (now (array .entry)) disk (now («data» .entry)) ⌝ }
-    ensures array { λ r. ⌜ now (array .exit) ≡ writeArray (square n) block (now (array .entry)) disk (now («data» .entry)) ⌝ }
+    ensures status { λ r. ⌜ r ≡ writeStatus (rectangle rows columns) block (now (array .entry)) disk (now («data» .entry)) ⌝ }
+    ensures array { λ r. ⌜
+        now (array .exit) ≡ writeArray (rectangle rows columns) block (now (array .entry)) disk (now («data» .entry))
+        ⌝ }
 {
-    array::write(Size { side: n }, block, array, disk, data)
+    array::write(Size { rows, columns }, block, array, disk, data)
 }
 
 #[no_mangle]
 pub extern "C" fn raid2d_look(
-    n: usize,
+    rows: usize,
+    columns: usize,
     block: usize,
     array: &[u8],
     map: &[u8],
     disk: usize,
     offset: &mut usize,
 ) -> usize
-    ensures length { λ r. ⌜ r ≡ lookLength (square n) block (now (array .entry)) (now (map .entry)) disk ⌝ }
+    ensures length { λ r. ⌜ r ≡ lookLength (rectangle rows columns) block (now (array .entry)) (now (map .entry)) disk ⌝ }
     ensures offset { λ r. ⌜
-        now (offset .exit) ≡ lookPlace (square n) block (now (array .entry)) (now (map .entry)) disk (now (offset .entry))
+        now (offset .exit)
+        ≡ lookPlace (rectangle rows columns) block (now (array .entry)) (now (map .entry)) disk (now (offset .entry))
         ⌝ }
 {
-    let part = array::look(Size { side: n }, block, array, map, disk);
+    let part = array::look(Size { rows, columns }, block, array, map, disk);
     let len = part.len();
     if len == 0 {
         return 0;
@@ -99,20 +112,28 @@ fn report(answer: Outcome, count: &mut usize) -> u32
 }
 
 #[no_mangle]
-pub extern "C" fn raid2d_plan(n: usize, map: &[u8], sheet: &mut [u8], count: &mut usize) -> u32
-    ensures status { λ r. ⌜ r ≡ outcomeStatus (planOutcome (square n) (now (map .entry)) (now (sheet .entry))) ⌝ }
-    ensures sheet { λ r. ⌜ now (sheet .exit) ≡ planSheet (square n) (now (map .entry)) (now (sheet .entry)) ⌝ }
+pub extern "C" fn raid2d_plan(
+    rows: usize,
+    columns: usize,
+    map: &[u8],
+    sheet: &mut [u8],
+    count: &mut usize,
+) -> u32
+    ensures status { λ r. ⌜ r ≡ outcomeStatus (planOutcome (rectangle rows columns) (now (map .entry)) (now (sheet .entry))) ⌝ }
+    ensures sheet { λ r. ⌜ now (sheet .exit) ≡ planSheet (rectangle rows columns) (now (map .entry)) (now (sheet .entry)) ⌝ }
     ensures count { λ r. ⌜
-        now (count .exit) ≡ outcomeCount (planOutcome (square n) (now (map .entry)) (now (sheet .entry))) (now (count .entry))
+        now (count .exit)
+        ≡ outcomeCount (planOutcome (rectangle rows columns) (now (map .entry)) (now (sheet .entry))) (now (count .entry))
         ⌝ }
 {
-    let answer = plan::plan(Size { side: n }, map, sheet);
+    let answer = plan::plan(Size { rows, columns }, map, sheet);
     report(answer, count)
 }
 
 #[no_mangle]
 pub extern "C" fn raid2d_rebuild(
-    n: usize,
+    rows: usize,
+    columns: usize,
     block: usize,
     array: &mut [u8],
     map: &[u8],
@@ -120,26 +141,31 @@ pub extern "C" fn raid2d_rebuild(
     count: &mut usize,
 ) -> u32
     ensures status { λ r. ⌜
-        r ≡ outcomeStatus (rebuildOutcome (square n) block (now (array .entry)) (now (map .entry)) (now (sheet .entry)))
+        r ≡ outcomeStatus
+        (rebuildOutcome (rectangle rows columns) block (now (array .entry)) (now (map .entry)) (now (sheet .entry)))
         ⌝ }
     ensures array { λ r. ⌜
-        now (array .exit) ≡ rebuildArray (square n) block (now (array .entry)) (now (map .entry)) (now (sheet .entry))
+        now (array .exit)
+        ≡ rebuildArray (rectangle rows columns) block (now (array .entry)) (now (map .entry)) (now (sheet .entry))
         ⌝ }
     ensures sheet { λ r. ⌜
-        now (sheet .exit) ≡ rebuildSheet (square n) block (now (array .entry)) (now (map .entry)) (now (sheet .entry))
+        now (sheet .exit)
+        ≡ rebuildSheet (rectangle rows columns) block (now (array .entry)) (now (map .entry)) (now (sheet .entry))
         ⌝ }
     ensures count { λ r. ⌜
         now (count .exit) ≡ outcomeCount
-        (rebuildOutcome (square n) block (now (array .entry)) (now (map .entry)) (now (sheet .entry))) (now (count .entry))
+        (rebuildOutcome (rectangle rows columns) block (now (array .entry)) (now (map .entry)) (now (sheet .entry)))
+        (now (count .entry))
         ⌝ }
 {
-    let answer = rebuild::rebuild(Size { side: n }, block, array, map, sheet);
+    let answer = rebuild::rebuild(Size { rows, columns }, block, array, map, sheet);
     report(answer, count)
 }
 
 #[no_mangle]
 pub extern "C" fn raid2d_follow(
-    n: usize,
+    rows: usize,
+    columns: usize,
     block: usize,
     array: &mut [u8],
     map: &[u8],
@@ -147,16 +173,19 @@ pub extern "C" fn raid2d_follow(
     count: &mut usize,
 ) -> u32
     ensures status { λ r. ⌜
-        r ≡ outcomeStatus (followOutcome (square n) block (now (array .entry)) (now (map .entry)) (now (sheet .entry)))
+        r ≡ outcomeStatus
+        (followOutcome (rectangle rows columns) block (now (array .entry)) (now (map .entry)) (now (sheet .entry)))
         ⌝ }
     ensures array { λ r. ⌜
-        now (array .exit) ≡ followArray (square n) block (now (array .entry)) (now (map .entry)) (now (sheet .entry))
+        now (array .exit)
+        ≡ followArray (rectangle rows columns) block (now (array .entry)) (now (map .entry)) (now (sheet .entry))
         ⌝ }
     ensures count { λ r. ⌜
         now (count .exit) ≡ outcomeCount
-        (followOutcome (square n) block (now (array .entry)) (now (map .entry)) (now (sheet .entry))) (now (count .entry))
+        (followOutcome (rectangle rows columns) block (now (array .entry)) (now (map .entry)) (now (sheet .entry)))
+        (now (count .entry))
         ⌝ }
 {
-    let answer = follow::follow(Size { side: n }, block, array, map, sheet);
+    let answer = follow::follow(Size { rows, columns }, block, array, map, sheet);
     report(answer, count)
 }

@@ -1,6 +1,6 @@
--- `listing::map_of` meets its contract: all bytes but the first.
+-- `listing::map_of` meets its contract: all bytes but the first two.
 -- Assumes nothing.
-use mathlib.Core.Path.{_∙_, ap, sym}
+use mathlib.Core.Path.{_∙_, sym}
 use Prim.Native.Nat.{_-_}
 use native.Mathlib.Omega.{arith}
 use borrow.Author.Needs.{needs}
@@ -9,9 +9,6 @@ use lib.Seq.{take-all}
 use Rattle.listing.proofs.Answers.{empty}
 use Rattle.listing.proofs.map_of.Statement.{statement}
 use Rattle.listing.proofs.map_of.Tie as tie
-
-returns : tie.Need-returns
-returns c = let none = empty (c .before .args .input .now) (c .if1 .taken) in none ∙ sym (ap (drop 1) none)
 
 sub-result : tie.Need-sub-result
 sub-result c = search needs
@@ -22,8 +19,28 @@ part-result-start c = search needs
 part-result-end : tie.Need-part-result-end
 part-result-end c = search needs
 
+returns : tie.Need-returns
+returns c =
+    let s = c .before .before .args .input .now in
+    let short = c .before .if1 .taken in
+    let here = length-drop (length s) s in
+    let there = length-drop 2 s in
+    take-all (length s - length s) (drop (length s) s) (omega arith)
+    ∙ empty (drop (length s) s) (omega arith) ∙ sym (empty (drop 2 s) (omega arith))
+
+sub-result-2 : tie.Need-sub-result-2
+sub-result-2 c = search needs
+
+part-result-start-2 : tie.Need-part-result-start-2
+part-result-start-2 c = search needs
+
+part-result-end-2 : tie.Need-part-result-end-2
+part-result-end-2 c = search needs
+
 returns-2 : tie.Need-returns-2
-returns-2 c = let s = c .before .before .args .input .now in let long = length-drop 1 s in take-all (length s - 1) (drop 1 s) (omega arith)
+returns-2 c = let s = c .before .before .args .input .now in let long = length-drop 2 s in take-all (length s - 2) (drop 2 s) (omega arith)
 
 pub map-of-spec : {M : Type 1} → statement M
-map-of-spec = tie.close (tie.spec returns sub-result part-result-start part-result-end returns-2)
+map-of-spec =
+    tie.close
+    (tie.spec sub-result part-result-start part-result-end returns sub-result-2 part-result-start-2 part-result-end-2 returns-2)

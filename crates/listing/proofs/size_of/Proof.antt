@@ -1,29 +1,20 @@
--- `listing::size_of` meets its contract: past the end of the input stands 0.
+-- `listing::size_of` meets its contract: the two bytes, in their order.
 -- Assumes nothing.
-use mathlib.Core.Path.{refl, ap, sym}
-use mathlib.Core.List.{List}
-use Prim.Native.Nat.{ℕ}
-use native.Mathlib.Omega.{arith}
+use mathlib.Core.Path.{ap₂}
 use borrow.Author.Needs.{needs}
-use lib.ListN.{getD}
-use Rattle.model.specs.Grid.{square}
-use Rattle.listing.proofs.Answers.{empty}
+use Rattle.model.specs.Grid.{rectangle}
 use Rattle.listing.proofs.size_of.Statement.{statement}
 use Rattle.listing.proofs.size_of.Tie as tie
 
+byte-at-requires : tie.Need-byte-at-requires
+byte-at-requires c κs = search needs
+
+byte-at-requires-2 : tie.Need-byte-at-requires-2
+byte-at-requires-2 c κs = search needs
+
 returns : tie.Need-returns
-unfolding square
-returns c = sym (ap (λ (s : List ℕ). square (getD s 0 0)) (empty (c .before .args .input .now) (c .if1 .taken)))
-
-shared-slice-read-t5 : tie.Need-shared-slice-read-t5
-shared-slice-read-t5 c = search needs
-
-cast-t2 : tie.Need-cast-t2
-cast-t2 c = omega (arith, c .shared-slice-known .given 0)
-
-returns-2 : tie.Need-returns-2
-unfolding square
-returns-2 c = refl
+unfolding rectangle
+returns c = ap₂ rectangle (c .before .byte-at .ensures) (c .byte-at2 .ensures)
 
 pub size-of-spec : {M : Type 1} → statement M
-size-of-spec = tie.close (tie.spec returns shared-slice-read-t5 cast-t2 returns-2)
+size-of-spec = tie.close (tie.spec byte-at-requires byte-at-requires-2 returns)

@@ -2,7 +2,7 @@
 -- Assumes nothing.
 use mathlib.Core.Path.{_∙_, sym, ap}
 use borrow.Author.Needs.{needs}
-use Rattle.model.specs.Grid.{square}
+use Rattle.model.specs.Grid.{rectangle}
 use Rattle.model.specs.Array.{checkStatus, checkStripe}
 use Rattle.model.specs.declared.Checked.{Checked}
 use Rattle.raid2d.proofs.raid2d_check.Statement.{statement}
@@ -21,19 +21,19 @@ enum-known-answer-2 : tie.Need-enum-known-answer-2
 enum-known-answer-2 c = search needs
 
 returns : tie.Need-returns
-unfolding square checkStatus checkStripe
+unfolding rectangle checkStatus checkStripe
 returns c =
     let e = sym (c .before .before .check .ensures) ∙ c .enum-told .given .1 in
     (sym (ap checkStatus e), sym (ap (λ (x : Checked). checkStripe x (c .before .before .before .before .args .stripe .now)) e))
 
 returns-2 : tie.Need-returns-2
-unfolding square checkStatus checkStripe
+unfolding rectangle checkStatus checkStripe
 returns-2 c =
     let e = sym (c .before .before .before .check .ensures) ∙ c .before .answer .given .1 in
     (sym (ap checkStatus e), sym (ap (λ (x : Checked). checkStripe x (c .before .before .before .before .before .args .stripe .now)) e))
 
 returns-3 : tie.Need-returns-3
-unfolding square checkStatus checkStripe
+unfolding rectangle checkStatus checkStripe
 returns-3 c =
     let e = sym (c .before .before .before .check .ensures) ∙ c .before .answer2 .given .1 in
     (sym (ap checkStatus e), sym (ap (λ (x : Checked). checkStripe x (c .before .before .before .before .before .args .stripe .now)) e))

@@ -1,7 +1,7 @@
 -- `raid2d::raid2d_write` meets its contract: it is that of the call.
 -- Assumes nothing.
 use borrow.Author.Needs.{needs}
-use Rattle.model.specs.Grid.{square}
+use Rattle.model.specs.Grid.{rectangle}
 use Rattle.raid2d.proofs.raid2d_write.Statement.{statement}
 use Rattle.raid2d.proofs.raid2d_write.Tie as tie
 
@@ -12,7 +12,7 @@ same-length : tie.Need-same-length
 same-length c = search needs
 
 returns : tie.Need-returns
-unfolding square
+unfolding rectangle
 returns c = c .before .before .write .ensures
 
 pub raid2d-write-spec : {M : Type 1} → statement M
