@@ -20,7 +20,7 @@ use Rattle.model.proofs.Grid.{size-fits, block-fits, disk-is, data-at, 
 use Rattle.model.proofs.Refusal.{no-tests, passes, by-test, passed, array-fits, array-accepted, array-tests, array-passed}
 use Rattle.model.proofs.Write.{write-fits, status-none}
 
-size-accepts : (a b : ℕ) → (sizeFits (rectangle a b) ≡ true) ↔ ((2 ≤ a) × (a ≤ 15) × (2 ≤ b) × (b ≤ 15))
+pub size-accepts : (a b : ℕ) → (sizeFits (rectangle a b) ≡ true) ↔ ((2 ≤ a) × (a ≤ 15) × (2 ≤ b) × (b ≤ 15))
 unfolding rectangle sizeFits sideFits rows columns
 size-accepts a b = (
   λ e. let fits = size-fits (rectangle a b) e in (fits .rowsLow, fits .rowsHigh, fits .columnsLow, fits .columnsHigh),

@@ -1,26 +1,35 @@
 -- Demand 2: what seal, check and write promise of the array, for every size, block and input.
 -- Assumes nothing.
-use mathlib.Core.Path.{_≡_, sym, _∙_, subst}
-use mathlib.Core.Bool.{true, false}
+use mathlib.Core.Path.{_≡_, refl, sym, _∙_, subst}
+use mathlib.Core.Bool.{Bool, true, false}
 use mathlib.Core.Logic.{_↔_}
-use mathlib.Core.List.{List}
+use mathlib.Core.List.{List, _∷_}
 use Prim.Native.Nat.{ℕ, _+_, _*_, _≤_, _<_}
 use lib.ListN.{length, getD}
 use Rattle.model.specs.Stripes.{whole, byte, stripeSum, Codeword}
-use Rattle.model.specs.Grid.{gridOf, grid, across, disks, arrayBytes, isData, rectangle}
+use Rattle.model.specs.Grid.{gridOf, grid, across, disks, arrayBytes, isData, sizeFits, rectangle}
 use Rattle.model.specs.Equations.{Equations}
-use Rattle.model.specs.Refusal.{refusal, arrayTests}
+use Rattle.model.specs.Refusal.{Test, _unless_, refusal, arrayTests}
 use Rattle.model.specs.Array.{sealStatus, sealArray, checked, checkStatus, isParityOf, replaced, writeStatus, writeArray}
 use Rattle.model.specs.declared.Size.{Size}
 use Rattle.model.specs.declared.Checked.the-variants.{Sealed, Unsealed, Refused}
 use Rattle.model.proofs.Equations.{equations-iff-sums}
-use Rattle.model.proofs.Refusal.{given-refused}
+use Rattle.model.proofs.Fold.{by-cases}
+use Rattle.model.proofs.Refusal.{given-refused, fails}
 use Rattle.model.proofs.Seal.{Same, seal-fits, seal-is, encoded-length, encoded-same, encoded-equations, encoded-exact, encoded-small, same-of-data, data-of-same}
 use Rattle.model.proofs.Check.{answer-sealed, answer-unsealed, answer-zero}
 use Rattle.model.proofs.Write.{write-fits, write-is, written-sum, written-block, written-others, written-sealed, replaced-status}
-use Rattle.model.proofs.Accept.{array-accepts, block-accepts}
+use Rattle.model.proofs.Accept.{size-accepts, array-accepts, block-accepts}
 
 -- ---- which arguments are taken
+
+-- A size with either number out of range is refused by 1, whatever the tests are that follow.
+pub size-refused : (a b : ℕ) (ts : List Test) → ((2 ≤ a) × (a ≤ 15) × (2 ≤ b) × (b ≤ 15) → ⊥)
+    → refusal (1 unless sizeFits (rectangle a b) ∷ ts) ≡ 1
+size-refused a b ts outside =
+    by-cases (λ (t : Bool). refusal (1 unless t ∷ ts) ≡ 1) (sizeFits (rectangle a b))
+    (λ e. absurd (outside (size-accepts a b .0 e)))
+    (λ e. fails 1 false ts refl)
 
 -- With a data rows and b data columns, just these sizes, blocks and lengths.
 pub accepts : (a b B len : ℕ) → (refusal (arrayTests (rectangle a b) B len) ≡ 0)
