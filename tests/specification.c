@@ -3,15 +3,16 @@
  * docs/SPECIFICATION.md has them, without their indent and with an empty line
  * behind each:
  *
- *     CALL     n N, block B, disk D
+ *     CALL     rows N, columns N, block N, disk N
  *     array    bytes that are lent; likewise map, data and sheet
- *     returns  R, count C
+ *     returns  N, count N
  *     array    bytes afterwards; what is not named here keeps its bytes
  *
- * Numbers that a call does not have are left out. The out-parameter is called
- * count, stripe or offset, and keeps its value where it is not named. `..`
- * repeats the byte before it up to the buffer's right length. A sheet that is
- * not given is lent with arbitrary bytes. The last line counts the examples.
+ * Every call has rows and columns; of block and disk those that it does not
+ * take are left out. The out-parameter is called count, stripe or offset, and
+ * keeps its value where it is not named. `..` repeats the byte before it up to
+ * the buffer's right length. A sheet that is not given is lent with arbitrary
+ * bytes. The last line counts the examples.
  */
 #include <stdio.h>
 #include <stdlib.h>
@@ -23,6 +24,9 @@ enum { LINE_MAX_BYTES = 4096, BYTES_MAX = 1024, ARBITRARY = 0xaa };
 
 /* What an out-parameter holds before each call. */
 #define OUT_BEFORE 123456789u
+
+/* Stands for a number that a line does not have. */
+#define MISSING SIZE_MAX
 
 enum { ARRAY, MAP, DATA, SHEET, BUFFERS };
 
@@ -37,7 +41,7 @@ struct buffer {
 
 struct example {
     char call[16];
-    size_t n, block, disk;
+    size_t rows, columns, block, disk;
     struct buffer buffers[BUFFERS];
     int returned; /* whether the line `returns` has been read */
     size_t result, out;
@@ -54,9 +58,9 @@ static size_t right_length(const struct example *e, int buffer)
 {
     switch (buffer) {
     case ARRAY:
-        return RAID2D_ARRAY_BYTES(e->n, e->block);
+        return RAID2D_ARRAY_BYTES(e->rows, e->columns, e->block);
     case MAP:
-        return RAID2D_DISKS(e->n);
+        return RAID2D_DISKS(e->rows, e->columns);
     case DATA:
         return e->block;
     default:
@@ -64,7 +68,7 @@ static size_t right_length(const struct example *e, int buffer)
     }
 }
 
-/* The number behind a name such as `n` in a line, or a default. */
+/* The number behind a name such as `rows` in a line, or a default. */
 static size_t number(const char *line, const char *name, size_t otherwise)
 {
     const char *at = line;
@@ -119,7 +123,10 @@ static void read_line(struct example *e, const char *line)
 
     if (e->call[0] == '\0') {
         sscanf(line, "%15s", e->call);
-        e->n = number(line, "n", 0);
+        e->rows = number(line, "rows", MISSING);
+        e->columns = number(line, "columns", MISSING);
+        if (e->rows == MISSING || e->columns == MISSING)
+            stop("without rows or columns", line);
         e->block = number(line, "block", 0);
         e->disk = number(line, "disk", 0);
         e->buffers[SHEET].len = RAID2D_SHEET_BYTES;
@@ -147,29 +154,30 @@ static void read_line(struct example *e, const char *line)
 
 static size_t run(struct example *e, size_t *out)
 {
+    size_t rows = e->rows, columns = e->columns, block = e->block;
     uint8_t *array = e->buffers[ARRAY].bytes, *map = e->buffers[MAP].bytes;
     uint8_t *data = e->buffers[DATA].bytes, *sheet = e->buffers[SHEET].bytes;
     size_t array_len = e->buffers[ARRAY].len, map_len = e->buffers[MAP].len;
     size_t data_len = e->buffers[DATA].len, sheet_len = e->buffers[SHEET].len;
 
     if (strcmp(e->call, "seal") == 0)
-        return raid2d_seal(e->n, e->block, array, array_len);
+        return raid2d_seal(rows, columns, block, array, array_len);
     if (strcmp(e->call, "check") == 0)
-        return raid2d_check(e->n, e->block, array, array_len, out);
+        return raid2d_check(rows, columns, block, array, array_len, out);
     if (strcmp(e->call, "write") == 0)
-        return raid2d_write(e->n, e->block, array, array_len, e->disk, data,
-                            data_len);
+        return raid2d_write(rows, columns, block, array, array_len, e->disk,
+                            data, data_len);
     if (strcmp(e->call, "look") == 0)
-        return raid2d_look(e->n, e->block, array, array_len, map, map_len,
-                           e->disk, out);
+        return raid2d_look(rows, columns, block, array, array_len,
+                           map, map_len, e->disk, out);
     if (strcmp(e->call, "plan") == 0)
-        return raid2d_plan(e->n, map, map_len, sheet, sheet_len, out);
+        return raid2d_plan(rows, columns, map, map_len, sheet, sheet_len, out);
     if (strcmp(e->call, "rebuild") == 0)
-        return raid2d_rebuild(e->n, e->block, array, array_len, map, map_len,
-                              sheet, sheet_len, out);
+        return raid2d_rebuild(rows, columns, block, array, array_len,
+                              map, map_len, sheet, sheet_len, out);
     if (strcmp(e->call, "follow") == 0)
-        return raid2d_follow(e->n, e->block, array, array_len, map, map_len,
-                             sheet, sheet_len, out);
+        return raid2d_follow(rows, columns, block, array, array_len,
+                             map, map_len, sheet, sheet_len, out);
     stop("not a call", e->call);
     return 0;
 }
