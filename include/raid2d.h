@@ -13,7 +13,8 @@
  * An array has rows times columns data disks. One more column beside them and
  * one more row below them hold parities, so the grid has rows + 1 rows and
  * columns + 1 columns, each numbered from 0. The disk in row r and column c
- * has number r * (columns + 1) + c. For rows = 2 and columns = 3:
+ * has number r * (columns + 1) + c: disk d stands in row d / (columns + 1) and
+ * column d % (columns + 1). For rows = 2 and columns = 3:
  *
  *              column 0        column 1        column 2        column 3
  *     row 0    0 data          1 data          2 data          3 row parity
@@ -50,8 +51,8 @@
  *                  without a map take every disk as present.
  *   loss           All disks that a map says are erased.
  *   survivors      The blocks of all other disks. They belong to a sealed
- *                  array if one of the same size has the same bytes in each
- *                  of them.
+ *                  array if one with the same rows, columns and block has the
+ *                  same bytes in each of them.
  *   repair         Sets the block of an erased disk to the sum of the other
  *                  disks of one stripe through it. It is allowed if no other
  *                  disk of that stripe is still erased; then the disk counts
@@ -85,27 +86,29 @@
  * In a list of repairs the stripe is the one that is summed. In a cycle it is
  * the one that the disk shares with the next disk, the last with the first.
  * The library writes records 1, 2, 3 and so on in this order, and zeros
- * elsewhere. Two sheets for rows = 2 and columns = 2:
+ * elsewhere. Two sheets for rows = 2 and columns = 3:
  *
- *     disks 0, 2, 6 erased      1 1  2 18 2  0 0 3  6 2 0  0 0 0 ..
- *     disks 0, 2, 6, 8 erased   2 1  0 0 2  2 18 3  8 2 4  6 16 0  0 0 0 ..
+ *     disks 0, 3, 8 erased       1 1  3 19 2  0 0 3  8 2 0  0 0 0 ..
+ *     disks 0, 3, 8, 11 erased   2 1  0 0 2  3 19 3  11 2 4  8 16 0  0 0 0 ..
  *
- * The first says: disk 2 by stripe 18 (column 2), disk 0 by row 0, disk 6 by
- * row 2. The second is a cycle from disk 0 along row 0 to disk 2, along column
- * 2 to disk 8, along row 2 to disk 6, and along column 0 back to disk 0.
+ * The first says: disk 3 by stripe 19 (column 3), disk 0 by row 0, disk 8 by
+ * row 2. The second is a cycle from disk 0 along row 0 to disk 3, along column
+ * 3 to disk 11, along row 2 to disk 8, and along column 0 back to disk 0.
  *
  * raid2d_follow also takes lists of repairs from elsewhere. Their chain may
  * visit the records in any order, and bytes off the chain are ignored. The
  * first list once more, by records 3, 4 and 1, with record 2 off the chain:
  *
- *     disks 0, 2, 6 erased      1 3  6 2 0  9 9 9  2 18 4  0 0 1  0 0 0 ..
+ *     disks 0, 3, 8 erased       1 3  8 2 0  9 9 9  3 19 4  0 0 1  0 0 0 ..
  *
  *
  * CONVENTIONS
  *
  * Numbers. rows, columns, block and disk may have any value of size_t: each is
- * tested as it is given and never shortened before its test. A wrong number or
- * length is refused and does no harm.
+ * tested as it is given and never shortened before its test. A number or a
+ * length that is out of range is refused and does no harm. But 2 rows and 3
+ * columns are another array than 3 rows and 2 columns, of the same length: no
+ * call can see that the two were swapped, and what it writes is then wrong.
  *
  * Buffers. Each pointer to bytes is followed by its length. The caller sees
  * to three things, which no call can test:
@@ -150,7 +153,7 @@ extern "C" {
  */
 uint32_t raid2d_version_number(void);
 
-/* Data disks along a side: the range of rows, and that of columns. */
+/* Data rows, and data columns: the range of each. */
 #define RAID2D_SIDE_MIN  2
 #define RAID2D_SIDE_MAX  15
 

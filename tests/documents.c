@@ -2,10 +2,10 @@
  * What tests/documents puts around the loop over a sheet that raid2d.h shows.
  * shown.inc is that loop, as it stands in the header's comment.
  *
- * Standard input has the sheets that the header shows for two data rows
- * and columns, one to a line: the erased disks, then the bytes. For each of them this program prints
- * whether raid2d_plan writes these bytes, the status of raid2d_follow, and the
- * records by the loop. It is C99 and C++.
+ * Standard input has the sheets that the header shows for two data rows and
+ * three data columns, one to a line: the erased disks, then the bytes. For each
+ * of them this program prints whether raid2d_plan writes these bytes, the
+ * status of raid2d_follow, and the records by the loop. It is C99 and C++.
  */
 #include <stdio.h>
 #include <stdlib.h>
@@ -13,9 +13,9 @@
 
 #include "raid2d.h"
 
-enum { SIDE = 2, LINE = 200 };
+enum { ROWS = 2, COLUMNS = 3, LINE = 200 };
 
-static uint8_t map[RAID2D_DISKS(SIDE, SIDE)];
+static uint8_t map[RAID2D_DISKS(ROWS, COLUMNS)];
 static uint8_t sheet[RAID2D_SHEET_BYTES];
 
 /* The loop calls this for each record. It has to end after 32 of them. */
@@ -39,7 +39,7 @@ static void print_records(void)
     printf(" %zu records\n", used);
 }
 
-/* `disks 0, 2, 6 erased  1 1  2 18 2 ..`: `..` stands for zeros. */
+/* `disks 0, 3, 8 erased  1 1  3 19 2 ..`: `..` stands for zeros. */
 static void read_line(char *line)
 {
     const char *word = strtok(line, " ,\n");
@@ -62,19 +62,19 @@ static void read_line(char *line)
 static void judge(void)
 {
     uint8_t planned[RAID2D_SHEET_BYTES];
-    uint8_t array[RAID2D_DISKS(SIDE, SIDE)] = { 0 };
+    uint8_t array[RAID2D_DISKS(ROWS, COLUMNS)] = { 0 };
     size_t count = 0;
     uint32_t status;
 
-    status = raid2d_plan(SIDE, SIDE, map, sizeof map, planned, sizeof planned,
-                         &count);
+    status = raid2d_plan(ROWS, COLUMNS, map, sizeof map,
+                         planned, sizeof planned, &count);
     if (status != RAID2D_OK && status != RAID2D_FATAL)
         printf("refused by plan, ");
     else
         printf("%s, ", memcmp(planned, sheet, sizeof sheet) == 0
                            ? "plan's bytes" : "other bytes");
-    status = raid2d_follow(SIDE, SIDE, 1, array, sizeof array, map, sizeof map,
-                           sheet, sizeof sheet, &count);
+    status = raid2d_follow(ROWS, COLUMNS, 1, array, sizeof array,
+                           map, sizeof map, sheet, sizeof sheet, &count);
     printf("follow %u:", (unsigned)status);
 }
 

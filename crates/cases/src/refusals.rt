@@ -124,6 +124,21 @@ fn map_byte() {
     );
 }
 
+// What write answers for a disk, with zeros everywhere.
+fn written(what: &[u8], rows: usize, columns: usize, disk: usize) {
+    let size = Size { rows, columns };
+    let mut array = [0u8; 12];
+    say::status(what, array::write(size, 1, &mut array, disk, b"a"));
+}
+
+// Row 0 ends with disk 3 where there are three data columns, and with disk 2 where there are two.
+fn last_of_row_0() {
+    written(b"2 x 3, write to disk 2", 2, 3, 2);
+    written(b"2 x 3, write to disk 3", 2, 3, 3);
+    written(b"3 x 2, write to disk 2", 3, 2, 2);
+    written(b"3 x 2, write to disk 3", 3, 2, 3);
+}
+
 // Disk 2 is the parity of row 0, so that no block is written there.
 fn parity_disk() {
     let size = two_by_two();
@@ -144,4 +159,5 @@ pub fn run() {
     block_above();
     map_byte();
     parity_disk();
+    last_of_row_0();
 }

@@ -25,7 +25,7 @@ pub fn columns(size: Size) -> usize
     size.columns
 }
 
-// So many data rows, or data columns, can be.
+// The number is one of data rows, or of data columns, that the library takes.
 fn side_fits(side: usize) -> bool
     ensures { λ r. ⌜ r ≡ sideFits side ⌝ }
 {
@@ -60,7 +60,7 @@ pub fn across(size: Size) -> usize
     requires { ⌜ sizeFits size ≡ true ⌝ }
     ensures { λ r. ⌜ r ≡ across size ⌝ }
 {
-    columns(size) + 1
+    size.columns + 1
 }
 
 // Disks of the grid.
@@ -68,7 +68,7 @@ pub fn disks(size: Size) -> usize
     requires { ⌜ sizeFits size ≡ true ⌝ }
     ensures { λ r. ⌜ r ≡ disks size ⌝ }
 {
-    (rows(size) + 1) * across(size)
+    (size.rows + 1) * across(size)
 }
 
 // Bytes of an array.
@@ -96,8 +96,8 @@ pub fn is_data(size: Size, disk: usize) -> bool
     ensures { λ r. ⌜ r ≡ isData size disk ⌝ }
 {
     let width = across(size);
-    if disk / width < rows(size) {
-        return disk % width < columns(size);
+    if disk / width < size.rows {
+        return disk % width < size.columns;
     }
     false
 }
@@ -115,6 +115,7 @@ pub fn disks_on(size: Size, stripe: usize) -> Run
     ensures { λ r. ⌜ r ≡ disksOn size stripe ⌝ }
 {
     let width = across(size);
+    let height = size.rows + 1;
     if stripe < 16 {
         return Run {
             first: stripe * width,
@@ -125,7 +126,7 @@ pub fn disks_on(size: Size, stripe: usize) -> Run
     Run {
         first: stripe - 16,
         step: width,
-        count: rows(size) + 1,
+        count: height,
     }
 }
 

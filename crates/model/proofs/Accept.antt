@@ -1,31 +1,38 @@
 -- Which arguments pass the tests: the tests of the definitions against the paper's numbers.
 -- Assumes nothing.
-use mathlib.Core.Path.{_≡_, _∙_, ap}
-use mathlib.Core.Bool.{true}
+use mathlib.Core.Path.{_≡_, refl, _∙_, ap}
+use mathlib.Core.Bool.{Bool, true, false}
 use native.Mathlib.Omega.{arith}
 use mathlib.Core.Logic.{_↔_}
-use mathlib.Core.List.{List}
+use mathlib.Core.List.{List, _∷_}
 use Prim.Native.Nat.{ℕ, _+_, _*_, _/_, _%_, _≤_, _<_}
 use borrow.Author.Tests.{le-leb, leb-true, eq-eqb, eqb-true}
 use lib.Dec.{leb, eqb}
 use lib.ListN.{length, getD}
 use Rattle.model.specs.Fold.{every}
 use Rattle.model.specs.Grid.{rectangle, rows, columns, across, disks, diskAt, isData, arrayBytes, sideFits, sizeFits, blockFits, mapFits}
-use Rattle.model.specs.Refusal.{refusal, arrayTests}
+use Rattle.model.specs.Refusal.{Test, _unless_, refusal, arrayTests}
 use Rattle.model.specs.Array.{writeStatus}
 use Rattle.model.specs.Rebuild.{sheetTests, planTests, rebuildTests}
 use Rattle.model.specs.declared.Size.{Size}
-use Rattle.model.proofs.Fold.{and-left, and-right, and-both, every-at, every-all}
+use Rattle.model.proofs.Fold.{by-cases, and-left, and-right, and-both, every-at, every-all}
 use Rattle.model.proofs.Grid.{size-fits, block-fits, disk-is, data-at, data-row, data-column}
-use Rattle.model.proofs.Refusal.{no-tests, passes, by-test, passed, array-fits, array-accepted, array-tests, array-passed}
+use Rattle.model.proofs.Refusal.{no-tests, fails, passes, by-test, passed, array-fits, array-accepted, array-tests, array-passed}
 use Rattle.model.proofs.Write.{write-fits, status-none}
 
-pub size-accepts : (a b : ℕ) → (sizeFits (rectangle a b) ≡ true) ↔ ((2 ≤ a) × (a ≤ 15) × (2 ≤ b) × (b ≤ 15))
+size-accepts : (a b : ℕ) → (sizeFits (rectangle a b) ≡ true) ↔ ((2 ≤ a) × (a ≤ 15) × (2 ≤ b) × (b ≤ 15))
 unfolding rectangle sizeFits sideFits rows columns
 size-accepts a b = (
   λ e. let fits = size-fits (rectangle a b) e in (fits .rowsLow, fits .rowsHigh, fits .columnsLow, fits .columnsHigh),
   λ h. and-both (and-both (le-leb 2 a (h .0)) (le-leb a 15 (h .1))) (and-both (le-leb 2 b (h .2)) (le-leb b 15 (h .3))),
 )
+
+-- So either number out of range is refused by 1, whatever the tests are that follow.
+pub outside-refused : (a b : ℕ) → ((2 ≤ a) × (a ≤ 15) × (2 ≤ b) × (b ≤ 15) → ⊥)
+    → (ts : List Test) → refusal (1 unless sizeFits (rectangle a b) ∷ ts) ≡ 1
+outside-refused a b outside ts =
+    by-cases (λ (t : Bool). refusal (1 unless t ∷ ts) ≡ 1) (sizeFits (rectangle a b)) (λ e. absurd (outside (size-accepts a b .0 e)))
+    (λ e. fails 1 false ts refl)
 
 pub array-accepts : (a b B len : ℕ) → (refusal (arrayTests (rectangle a b) B len) ≡ 0)
     ↔ ((2 ≤ a) × (a ≤ 15) × (2 ≤ b) × (b ≤ 15) × (1 ≤ B) × (B ≤ 4096) × (len ≡ (a + 1) * (b + 1) * B))

@@ -1,5 +1,5 @@
--- The worked cases of paper 01, two data rows, two data columns and B = 1, and some with two rows and three columns, as one list:
--- what the definitions give, and what the paper says. They agree.
+-- The worked cases of paper 01, with two data rows and two data columns, and others, with sides of 2 and 3, as one list; blocks of
+-- one byte. What the definitions give, and what the paper says or what its rules come to by hand: they agree.
 -- Assumes nothing.
 use mathlib.Core.Path.{_≡_, refl}
 use mathlib.Core.List.{List, [], _∷_, _++_, map}
@@ -32,13 +32,19 @@ two = rectangle 2 2
 wide : Size
 wide = rectangle 2 3
 
+high : Size
+high = rectangle 3 2
+
 -- The paper's sealed array A.
 A : List ℕ
 A = 1 ∷ 2 ∷ 3 ∷ 4 ∷ 8 ∷ 12 ∷ 5 ∷ 10 ∷ 15 ∷ []
 
--- A sealed array with two rows and three columns of data.
+-- A sealed array with two data rows and three data columns, and one with three and two.
 W : List ℕ
 W = 1 ∷ 2 ∷ 4 ∷ 7 ∷ 8 ∷ 16 ∷ 32 ∷ 56 ∷ 9 ∷ 18 ∷ 36 ∷ 63 ∷ []
+
+H : List ℕ
+H = 1 ∷ 2 ∷ 3 ∷ 4 ∷ 8 ∷ 12 ∷ 16 ∷ 32 ∷ 48 ∷ 21 ∷ 42 ∷ 63 ∷ []
 
 -- Whatever stands in the sheet beforehand.
 before : List ℕ
@@ -57,13 +63,12 @@ restored z a m =
     ∷ rebuildArray z 1 a m before ++ rebuildSheet z 1 a m before
 
 -- What follow gives for an array, a map and a sheet: the number, the count, the array.
-followed : (a m sheet : List ℕ) → List ℕ
-unfolding two
-followed a m sheet =
-    outcomeStatus (followOutcome two 1 a m sheet) ∷ outcomeCount (followOutcome two 1 a m sheet) 99 ∷ followArray two 1 a m sheet
+followed : Size → (a m sheet : List ℕ) → List ℕ
+followed z a m sheet =
+    outcomeStatus (followOutcome z 1 a m sheet) ∷ outcomeCount (followOutcome z 1 a m sheet) 99 ∷ followArray z 1 a m sheet
 
 unfoldable pub cases : List Case
-unfolding two wide A W planned restored followed
+unfolding two wide high A W H planned restored followed
 cases =
     -- Data 1 2 / 4 8 seals to A, whatever stands in the parities' place.
     record {
@@ -145,16 +150,16 @@ cases =
     ∷ record {
       number = 0;
       computed =
-          followed (7 ∷ 2 ∷ 7 ∷ 4 ∷ 8 ∷ 12 ∷ 7 ∷ 10 ∷ 15 ∷ []) (1 ∷ 0 ∷ 1 ∷ 0 ∷ 0 ∷ 0 ∷ 1 ∷ 0 ∷ 0 ∷ [])
+          followed two (7 ∷ 2 ∷ 7 ∷ 4 ∷ 8 ∷ 12 ∷ 7 ∷ 10 ∷ 15 ∷ []) (1 ∷ 0 ∷ 1 ∷ 0 ∷ 0 ∷ 0 ∷ 1 ∷ 0 ∷ 0 ∷ [])
           (1 ∷ 3 ∷ 0 ∷ 0 ∷ 2 ∷ 6 ∷ 2 ∷ 0 ∷ 2 ∷ 18 ∷ 1 ∷ replicate 87 99)
-          ++ followed (7 ∷ 2 ∷ 7 ∷ 4 ∷ 8 ∷ 12 ∷ 7 ∷ 10 ∷ 15 ∷ []) (1 ∷ 0 ∷ 1 ∷ 0 ∷ 0 ∷ 0 ∷ 1 ∷ 0 ∷ 0 ∷ [])
+          ++ followed two (7 ∷ 2 ∷ 7 ∷ 4 ∷ 8 ∷ 12 ∷ 7 ∷ 10 ∷ 15 ∷ []) (1 ∷ 0 ∷ 1 ∷ 0 ∷ 0 ∷ 0 ∷ 1 ∷ 0 ∷ 0 ∷ [])
           (1 ∷ 3 ∷ 0 ∷ 0 ∷ 2 ∷ 6 ∷ 2 ∷ 3 ∷ 2 ∷ 18 ∷ 1 ∷ replicate 87 0)
-          ++ followed (7 ∷ 2 ∷ 7 ∷ 4 ∷ 8 ∷ 12 ∷ 7 ∷ 10 ∷ 15 ∷ []) (1 ∷ 0 ∷ 1 ∷ 0 ∷ 0 ∷ 0 ∷ 1 ∷ 0 ∷ 0 ∷ [])
+          ++ followed two (7 ∷ 2 ∷ 7 ∷ 4 ∷ 8 ∷ 12 ∷ 7 ∷ 10 ∷ 15 ∷ []) (1 ∷ 0 ∷ 1 ∷ 0 ∷ 0 ∷ 0 ∷ 1 ∷ 0 ∷ 0 ∷ [])
           (1 ∷ 3 ∷ 0 ∷ 0 ∷ 0 ∷ 6 ∷ 2 ∷ 0 ∷ 2 ∷ 18 ∷ 1 ∷ replicate 87 0);
       expected =
           0 ∷ 3 ∷ A ++ 10 ∷ 99 ∷ 7 ∷ 2 ∷ 7 ∷ 4 ∷ 8 ∷ 12 ∷ 7 ∷ 10 ∷ 15 ∷ 11 ∷ 99 ∷ 7 ∷ 2 ∷ 7 ∷ 4 ∷ 8 ∷ 12 ∷ 7 ∷ 10 ∷ 15 ∷ [];
     }
-    -- Two rows and three columns: data 1 2 4 / 8 16 32 seals to W; disks 0 to 3, 4 and 8, the full six, are restored.
+    -- Two data rows, three data columns: data 1 2 4 / 8 16 32 seals to W; disks 0 to 3, 4 and 8, the full six, are restored.
     ∷ record {
       number = 0;
       computed =
@@ -163,7 +168,7 @@ cases =
       expected =
           W ++ 0 ∷ 6 ∷ W ++ 1 ∷ 1 ∷ 1 ∷ 17 ∷ 2 ∷ 2 ∷ 18 ∷ 3 ∷ 3 ∷ 19 ∷ 4 ∷ 0 ∷ 0 ∷ 5 ∷ 4 ∷ 1 ∷ 6 ∷ 8 ∷ 2 ∷ 0 ∷ replicate 78 0;
     }
-    -- There the four corners are fatal: loop 0, 3, 11, 8 on stripes 0, 19, 2, 16. Disk 2 holds data, disk 3 does not.
+    -- There disks 0, 3, 8, 11, the corners, are fatal: loop 0, 3, 11, 8 on stripes 0, 19, 2, 16. Disk 2 holds data, disk 3 does not.
     ∷ record {
       number = 0;
       computed =
@@ -172,6 +177,30 @@ cases =
       expected =
           6 ∷ 4 ∷ 2 ∷ 1 ∷ 0 ∷ 0 ∷ 2 ∷ 3 ∷ 19 ∷ 3 ∷ 11 ∷ 2 ∷ 4 ∷ 8 ∷ 16 ∷ 0 ∷ replicate 84 0
           ++ 0 ∷ 8 ∷ 1 ∷ 2 ∷ 9 ∷ 10 ∷ 8 ∷ 16 ∷ 32 ∷ 56 ∷ 9 ∷ 18 ∷ 41 ∷ 50 ∷ [];
+    }
+    -- Three data rows, two data columns: data 1 2 / 4 8 / 16 32 seals to H; disks 0, 3, 8, 11 are restored, each by its row. Disk 3
+    -- holds data, disk 2 does not.
+    ∷ record {
+      number = 0;
+      computed =
+          sealArray high 1 (1 ∷ 2 ∷ 99 ∷ 4 ∷ 8 ∷ 9 ∷ 16 ∷ 32 ∷ 8 ∷ 7 ∷ 6 ∷ 5 ∷ [])
+          ++ restored high (7 ∷ 2 ∷ 3 ∷ 7 ∷ 8 ∷ 12 ∷ 16 ∷ 32 ∷ 7 ∷ 21 ∷ 42 ∷ 7 ∷ []) (1 ∷ 0 ∷ 0 ∷ 1 ∷ 0 ∷ 0 ∷ 0 ∷ 0 ∷ 1 ∷ 0 ∷ 0 ∷ 1 ∷ [])
+          ++ writeStatus high 1 H 2 (9 ∷ []) ∷ writeStatus high 1 H 3 (9 ∷ []) ∷ [];
+      expected =
+          H ++ 0 ∷ 4 ∷ H ++ 1 ∷ 1 ∷ 0 ∷ 0 ∷ 2 ∷ 3 ∷ 1 ∷ 3 ∷ 8 ∷ 2 ∷ 4 ∷ 11 ∷ 3 ∷ 0 ∷ replicate 84 0 ++ 8 ∷ 0 ∷ [];
+    }
+    -- The listing reads the rows first: the same map gives `repair 3`, `3 19`, `0 0`, `8 2` with two rows and `repair 3`, `0 0`, `3 1`,
+    -- `8 2` with three. With two rows follow takes its repairs in another order.
+    ∷ record {
+      number = 0;
+      computed =
+          listing (2 ∷ 3 ∷ 1 ∷ 0 ∷ 0 ∷ 1 ∷ 0 ∷ 0 ∷ 0 ∷ 0 ∷ 1 ∷ 0 ∷ 0 ∷ 0 ∷ []) ++ listing (3 ∷ 2 ∷ 1 ∷ 0 ∷ 0 ∷ 1 ∷ 0 ∷ 0 ∷ 0 ∷ 0 ∷ 1 ∷ 0 ∷ 0 ∷ 0 ∷ [])
+          ++ followed wide (7 ∷ 2 ∷ 4 ∷ 7 ∷ 8 ∷ 16 ∷ 32 ∷ 56 ∷ 7 ∷ 18 ∷ 36 ∷ 63 ∷ []) (1 ∷ 0 ∷ 0 ∷ 1 ∷ 0 ∷ 0 ∷ 0 ∷ 0 ∷ 1 ∷ 0 ∷ 0 ∷ 0 ∷ [])
+          (1 ∷ 1 ∷ 8 ∷ 2 ∷ 2 ∷ 0 ∷ 16 ∷ 3 ∷ 3 ∷ 0 ∷ 0 ∷ replicate 87 0);
+      expected =
+          114 ∷ 101 ∷ 112 ∷ 97 ∷ 105 ∷ 114 ∷ 32 ∷ 51 ∷ 10 ∷ 51 ∷ 32 ∷ 49 ∷ 57 ∷ 10 ∷ 48 ∷ 32 ∷ 48 ∷ 10 ∷ 56 ∷ 32 ∷ 50 ∷ 10
+          ∷ 114 ∷ 101 ∷ 112 ∷ 97 ∷ 105 ∷ 114 ∷ 32 ∷ 51 ∷ 10 ∷ 48 ∷ 32 ∷ 48 ∷ 10 ∷ 51 ∷ 32 ∷ 49 ∷ 10 ∷ 56 ∷ 32 ∷ 50 ∷ 10
+          ∷ 0 ∷ 3 ∷ W;
     }
     ∷ []
 

@@ -56,7 +56,7 @@ pub record Demand3 (z : Size) (B : ℕ) (a m : List ℕ) (r : Results) : Type 0 
   -- Both give the count of the disks that no repair reaches, and the same loop.
   pub lostCount : outcomeStatus (r .planned) ≡ 6
       → (r .planned ≡ Fatal (lost (gridOf z) (erasures m))) × (r .rebuilt ≡ r .planned) × (r .sheet ≡ r .planSheet)
-  -- Otherwise plan counts the erased disks, no more than the data rows and columns and one, and its sheet lists their repairs.
+  -- Otherwise plan counts the erased disks, no more than data rows plus data columns plus one, and its sheet lists their repairs.
   pub planRepairs : (Ambiguous (gridOf z) (whole B) (erasures m) → ⊥)
       → (r .planned ≡ Repairs (count (disks z) (erasures m))) × (count (disks z) (erasures m) ≤ rows z + columns z + 1)
       × RepairSheet (gridOf z) (erasures m) (r .planSheet)

@@ -9,14 +9,14 @@ use Rattle.model.specs.Fold.{every, tabulate}
 use Rattle.model.specs.Stripes.{Layout}
 use Rattle.model.specs.declared.Size.{Size}
 
--- r data rows and c data columns, with a parity disk to each and one in the corner. Disks are numbered by rows. Row i is
--- stripe i and column j is stripe base + j, the parity disks and the corner included.
-unfoldable pub grid : (r c base : ℕ) → Layout
-grid r c base =
+-- a data rows and b data columns, with a parity disk to each and one in the corner. Disks are numbered by rows. Row r is
+-- stripe r and column c is stripe base + c, the parity disks and the corner included.
+unfoldable pub grid : (a b base : ℕ) → Layout
+grid a b base =
     record {
-      disks = (r + 1) * (c + 1);
-      stripeBound = base + (c + 1);
-      through = λ d. (d / (c + 1)) ∷ (base + d % (c + 1)) ∷ [];
+      disks = (a + 1) * (b + 1);
+      stripeBound = base + (b + 1);
+      through = λ d. (d / (b + 1)) ∷ (base + d % (b + 1)) ∷ [];
     }
 
 -- The size with a data rows and b data columns.
@@ -34,7 +34,7 @@ columns z = z .columns
 unfoldable pub across : Size → ℕ
 across z = columns z + 1
 
--- The stripe system of a size: column j is stripe 16 + j.
+-- The stripe system of a size: column c is stripe 16 + c.
 unfoldable pub gridOf : Size → Layout
 gridOf z = grid (rows z) (columns z) 16
 
@@ -58,7 +58,7 @@ arrayBytes z B = disks z * B
 unfoldable pub arrayOf : Size → ℕ → (ℕ → ℕ → ℕ) → List ℕ
 arrayOf z B f = tabulate (arrayBytes z B) (λ i. f (i / B) (i % B))
 
--- What refusal 1 tests: 2 to 15 data rows, and as many data columns or another number from 2 to 15.
+-- What refusal 1 tests: data rows and data columns, each 2 to 15.
 unfoldable pub sideFits : ℕ → Bool
 sideFits n = leb 2 n && leb n 15
 

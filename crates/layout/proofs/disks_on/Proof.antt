@@ -1,12 +1,12 @@
 -- `layout::disks_on` meets its contract: a row below stripe 16, a column from there on.
 -- Assumes nothing.
-use mathlib.Core.Path.{_∙_, sym, ap, ap₂}
+use mathlib.Core.Path.{_∙_, sym, ap}
 use Prim.Native.Nat.{ℕ, _+_, _*_, _-_}
 use native.Mathlib.Nat.{mul-le-mul}
 use native.Mathlib.Omega.{arith}
 use borrow.Author.Needs.{needs}
 use borrow.Author.Tests.{lt-ltb, le-ltb}
-use Rattle.model.specs.Grid.{across, rows}
+use Rattle.model.specs.Grid.{rows}
 use Rattle.model.proofs.Grid.{size-fits, across-bound}
 use Rattle.layout.specs.Stripe.{disksOn}
 use Rattle.layout.proofs.disks_on.Statement.{statement}
@@ -15,34 +15,32 @@ use Rattle.layout.proofs.disks_on.Tie as tie
 across-requires : tie.Need-across-requires
 across-requires c κs = search needs
 
-mul-t5 : tie.Need-mul-t5
-mul-t5 c =
-    let s = c .before .before in
+add-height : tie.Need-add-height
+unfolding rows
+add-height c = let h = size-fits (c .before .before .args .size) (c .before .before .pre) .rowsHigh in omega arith
+
+mul-t6 : tie.Need-mul-t6
+mul-t6 c =
+    let s = c .before .before .before in
     let bound = across-bound (s .args .size) (size-fits (s .args .size) (s .pre)) in
-    let e = c .before .across .ensures in
+    let e = c .before .before .across .ensures in
     let low = c .if1 .taken in
-    let product = mul-le-mul {n₁ = s .args .stripe} {m₁ = c .before .across .result} {n₂ = 16} {m₂ = 16} (omega arith) (omega arith) in
+    let product = mul-le-mul {n₁ = s .args .stripe} {m₁ = c .before .before .across .result} {n₂ = 16} {m₂ = 16} (omega arith) (omega arith) in
     omega arith
 
 returns : tie.Need-returns
 unfolding disksOn
 returns c =
-    let s = c .before .before .args in
-    ap (λ (w : ℕ). record { first = s .stripe * w; step = 1; count = w }) (c .before .across .ensures)
+    let s = c .before .before .before .args in
+    ap (λ (w : ℕ). record { first = s .stripe * w; step = 1; count = w }) (c .before .before .across .ensures)
     ∙ sym (simp (lt-ltb (s .stripe) 16 (c .if1 .taken)))
 
-rows-requires : tie.Need-rows-requires
-rows-requires c κs = search needs
-
-add-t8 : tie.Need-add-t8
-add-t8 c = let h = size-fits (c .before .before .before .args .size) (c .before .before .before .pre) .rowsHigh in let e = c .rows .ensures in omega arith
-
 returns-2 : tie.Need-returns-2
-unfolding disksOn
+unfolding disksOn rows
 returns-2 c =
     let s = c .before .before .before .args in
-    ap₂ (λ (w n : ℕ). record { first = s .stripe - 16; step = w; count = n + 1 }) (c .before .before .across .ensures) (c .rows .ensures)
-    ∙ sym (simp (le-ltb (s .stripe) 16 (c .before .if1 .left)))
+    ap (λ (w : ℕ). record { first = s .stripe - 16; step = w; count = s .size .rows + 1 }) (c .before .before .across .ensures)
+    ∙ sym (simp (le-ltb (s .stripe) 16 (c .if1 .left)))
 
 pub disks-on-spec : {M : Type 1} → statement M
-disks-on-spec = tie.close (tie.spec across-requires mul-t5 returns rows-requires add-t8 returns-2)
+disks-on-spec = tie.close (tie.spec across-requires add-height mul-t6 returns returns-2)
