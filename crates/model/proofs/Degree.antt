@@ -92,6 +92,11 @@ unfolding total count
 count-total zero t = refl
 count-total (suc n) t = ap (λ (x : ℕ). x + bit (t n)) (count-total n t)
 
+-- Just one number equals k.
+total-equal : (n k : ℕ) → k < n → total n (λ s. bit (eqb s k)) ≡ 1
+unfolding bit
+total-equal n k l = total-only n k l (λ i h q. ap bit (ne-eqb i k q)) ∙ ap bit (eq-eqb k k refl)
+
 -- ---- counts of two
 
 -- Two different numbers count for two.
@@ -123,6 +128,36 @@ count-other n t i e l h =
       },
     )
 
+-- Counted by their values, all numbers below n are counted.
+total-values : (n m : ℕ) (f : ℕ → ℕ) → ((i : ℕ) → i < n → f i < m) → total m (λ v. count n (λ j. eqb v (f j))) ≡ n
+unfolding count
+total-values zero m f below = total-zero m (λ v l. refl)
+total-values (suc n) m f below =
+    let split = total-add m (λ v. count n (λ j. eqb v (f j))) (λ v. bit (eqb v (f n))) in
+    let before = total-values n m f (λ i l. below i (le-step l)) in
+    let here = total-equal m (f n) (below n (lt-suc-self n)) in
+    omega arith
+
+-- Where f takes each of its values twice, and they are below m, n is at most twice m.
+pub two-each : (n m : ℕ) (f : ℕ → ℕ) → ((i : ℕ) → i < n → f i < m) → ((i : ℕ) → i < n → count n (λ j. eqb (f i) (f j)) ≡ 2) → n ≤ 2 * m
+unfolding bit
+two-each n m f below two =
+    let all = total-values n m f below in
+    let most = total-mono m (λ v. count n (λ j. eqb v (f j))) (λ v. 2 * bit true) (λ v l. at-most v) in
+    let twice = total-times m 2 (λ v. bit true) in
+    let values = count-total m (λ v. true) in
+    let few = count-le m (λ v. true) in
+    omega arith
+  where
+    at-most : (v : ℕ) → count n (λ j. eqb v (f j)) ≤ 2
+    at-most v =
+        ⊎-elim
+        (λ some.
+        let (i, l, h) = count-found n (λ j. eqb v (f j)) some in
+        le-of-eq (ap (λ (x : ℕ). count n (λ j. eqb x (f j))) (eqb-true v (f i) h) ∙ two i l))
+        (λ none. omega arith)
+        (lt-or-le 0 (count n (λ j. eqb v (f j))))
+
 -- ---- disks on a stripe, stripes of a disk
 
 -- How many disks of c lie on stripe s.
@@ -152,11 +187,6 @@ bit-or : (a b : Bool) → (a ≡ true → b ≡ false) → bit (a || b) ≡ bit 
 unfolding bit
 bit-or true b h = sym (ap (λ (x : Bool). 1 + bit x) (h refl))
 bit-or false b h = sym (zero-add (bit b))
-
--- Just one number equals k.
-total-equal : (n k : ℕ) → k < n → total n (λ s. bit (eqb s k)) ≡ 1
-unfolding bit
-total-equal n k l = total-only n k l (λ i h q. ap bit (ne-eqb i k q)) ∙ ap bit (eq-eqb k k refl)
 
 module _ (L : Layout) (two : TwoStripes L) (d : ℕ) (inside : d < L .disks) where
   pub low-bound : two .low d < L .stripeBound

@@ -26,7 +26,7 @@ use Rattle.model.proofs.Peel.{Stuck, residual-stuck, order-free-all, re
 use Rattle.model.proofs.Degree.{grid-repairs}
 use Rattle.model.proofs.Core.{ambiguous}
 use Rattle.model.proofs.Trace.{cycle-fatal, shown}
-use Rattle.model.proofs.Loop.{grid-fatal-loop, loop-cycle, loop-bound}
+use Rattle.model.proofs.Loop.{grid-fatal-loop, loop-bound}
 use Rattle.model.proofs.Restore.{two-bounded, whole-inside, judge, restored-is, unique}
 use Rattle.model.proofs.Sheets.{sheet-is}
 use Rattle.model.proofs.Contents.{same-outcome, same-sheet, same-array}
@@ -110,12 +110,13 @@ module _ (L : Layout) (two : TwoStripes L) (e : ℕ → Bool) where
 pub fatal-loop : (z : Size) → sizeFits z ≡ true → (e : ℕ → Bool) → (fatal (gridOf z) e ≡ true) ↔ ((w : List Entry) × Loop z e w)
 fatal-loop = grid-fatal-loop
 
--- At most rows + columns + 1 repairs, of the data rows and columns, and at most one disk more in a loop.
+-- At most rows + columns + 1 repairs, of the data rows and columns.
 pub repairs-few : (z : Size) → sizeFits z ≡ true → (e : ℕ → Bool) (w : List Entry) → Peels (gridOf z) e w → length w ≤ rows z + columns z + 1
 repairs-few z fits e w peels = let few = grid-repairs z fits e w peels in omega arith
 
-pub loop-few : (z : Size) → sizeFits z ≡ true → (e : ℕ → Bool) (w : List Entry) → Loop z e w → length w ≤ rows z + columns z + 2
-loop-few z fits e w loop = let few = loop-bound z fits e w (loop-cycle z fits e w loop) in omega arith
+-- A loop has at most twice as many disks as the grid has rows, and as it has columns.
+pub loop-few : (z : Size) (e : ℕ → Bool) (w : List Entry) → Loop z e w → (length w ≤ 2 * (rows z + 1)) × (length w ≤ 2 * (columns z + 1))
+loop-few = loop-bound
 
 -- The bytes of a sheet of at most 32 records are those of paper 01.
 pub sheet-is-written : (kind : ℕ) (w : List Entry) → length w ≤ 32 → (s : List ℕ) → (s ≡ sheetOf kind w) ↔ SheetBytes kind w s

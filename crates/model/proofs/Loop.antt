@@ -1,25 +1,25 @@
--- Cycles in a grid and the loops of paper 01 are the same: rows and columns in turn, at least four disks. They have no more
--- disks than there are rows and columns.
+-- Cycles in a grid and the loops of paper 01 are the same: rows and columns in turn, at least four disks. They have at most
+-- twice as many disks as there are rows, and as there are columns.
 -- Assumes nothing.
 use mathlib.Core.Path.{_≡_, refl, sym, _∙_, ap, ap₂, subst}
 use mathlib.Core.Bool.{Bool, true, false}
 use mathlib.Core.Logic.{_↔_, _⊎_, inl, inr, ⊎-elim}
 use mathlib.Core.List.{List}
-use Prim.Native.Nat.{ℕ, zero, suc, _+_, _-_, _/_, _%_, _≤_, _<_}
+use Prim.Native.Nat.{ℕ, zero, suc, _+_, _-_, _*_, _/_, _%_, _≤_, _<_}
 use native.Mathlib.Nat.{le-of-suc-le, add-left-cancel, add-sub-of-le}
 use native.Mathlib.Omega.{arith}
 use borrow.Author.Tests.{eq-eqb, eqb-true, eqb-false}
-use lib.Dec.{eqb, ltb}
+use lib.Dec.{eqb}
 use lib.ListN.{length}
 use Rattle.model.specs.Fold.{count}
-use Rattle.model.specs.Stripes.{Layout, TwoStripes, on}
+use Rattle.model.specs.Stripes.{Layout, on}
 use Rattle.model.specs.Grid.{rows, columns, across, gridOf, disks, diskAt, sizeFits}
 use Rattle.model.specs.Repair.{Entry, fatal}
 use Rattle.model.specs.Cycle.{diskOf, stripeOf, following, Cycle, Loop, shownCycle}
 use Rattle.model.specs.declared.Size.{Size}
 use Rattle.model.proofs.Fold.{by-cases, lt-or-le, count-ext}
-use Rattle.model.proofs.Grid.{Fits, size-fits, grid-disks, gridOf-two, disk-is, row-within, on-row, on-column}
-use Rattle.model.proofs.Degree.{count-other, degree, touched, touches, on-bound, grid-touched}
+use Rattle.model.proofs.Grid.{Fits, size-fits, grid-disks, gridOf-two, disk-is, row-within, column-within, on-row, on-column}
+use Rattle.model.proofs.Degree.{two-each}
 use Rattle.model.proofs.Counts.{count-different}
 use Rattle.model.proofs.Trace.{following-last, following-inner, following-is, following-below, cycle-fatal, shown}
 
@@ -47,26 +47,6 @@ module _ (L : Layout) (e : ℕ → Bool) (w : List Entry) (y : Cycle L e w) wher
         next = ⊎-elim (λ h. absurd (y .turns i l (only k b (stripeOf w k) (y .here k b) h ∙ sym there))) (λ h. h) (either (stripeOf w k));
       }
 
-  -- No two of its disks are left along the same stripe: that would hold three of them, or be left as it was reached.
-  pub stripes-apart : (i j : ℕ) → i < length w → j < length w → stripeOf w i ≡ stripeOf w j → i ≡ j
-  stripes-apart i j l m q =
-      by-cases (λ (b : Bool). i ≡ j) (eqb i j) (eqb-true i j)
-      (λ d.
-      let k : ℕ = following w i in
-      let (a, o) = count-other (length w) (λ n. on L (diskOf w n) (stripeOf w i)) i (y .two i l (stripeOf w i) (y .here i l)) l (y .here i l) in
-      let second : j ≡ a = o .only j m (ap (on L (diskOf w j)) q ∙ y .here j m) (λ p. eqb-false i j d (sym p)) in
-      let next : k ≡ a = o .only k (following-below w i l) (y .there i l) (λ p. y .turns i l (ap (stripeOf w) p)) in
-      absurd (y .turns i l (ap (stripeOf w) (next ∙ sym second) ∙ sym q)))
-
-  -- So it has no more disks than stripes are touched.
-  pub cycle-touched : TwoStripes L → length w ≤ touched L e
-  unfolding touched
-  cycle-touched two =
-      count-different (length w) (L .stripeBound) (λ s. ltb 0 (degree L e s)) (stripeOf w)
-      (λ i l. on-bound L two (diskOf w i) (y .disk i l) (stripeOf w i) (y .here i l))
-      (λ i l. touches L e (diskOf w i) (stripeOf w i) (y .disk i l) (y .erased i l) (y .here i l))
-      stripes-apart
-
 -- ---- the stripes of a disk are its row and its column
 module _ (z : Size) (fits : sizeFits z ≡ true) (d : ℕ) (l : d < disks z) where
   -- Rows have numbers below 16.
@@ -87,6 +67,15 @@ module _ (z : Size) (fits : sizeFits z ≡ true) (d : ℕ) (l : d < disks z) whe
       let q : 16 + (s - 16) ≡ s = add-sub-of-le b in
       let c = eqb-true (s - 16) (d % across z) (sym (on-column z (size-fits z fits) d (s - 16) l) ∙ ap (on (gridOf z) d) q ∙ h) in
       omega arith
+
+-- ---- the rows and columns of a loop
+
+-- Each one touched holds two disks, so there are at most twice as many disks as rows, and as columns.
+pub loop-bound : (z : Size) (e : ℕ → Bool) (w : List Entry) → Loop z e w → (length w ≤ 2 * (rows z + 1)) × (length w ≤ 2 * (columns z + 1))
+loop-bound z e w y = (
+  two-each (length w) (rows z + 1) (λ i. diskOf w i / across z) (λ i l. let b = row-within z (diskOf w i) (y .disk i l) in omega arith) (y .twoInRow),
+  two-each (length w) (columns z + 1) (λ i. diskOf w i % across z) (λ i l. let b = column-within z (diskOf w i) in omega arith) (y .twoInColumn),
+)
 
 -- ---- a cycle of a grid is a loop: rows and columns in turn
 module _ (z : Size) (fits : sizeFits z ≡ true) (e : ℕ → Bool) (w : List Entry) (y : Cycle (gridOf z) e w) where
@@ -187,15 +176,9 @@ module _ (z : Size) (fits : sizeFits z ≡ true) (e : ℕ → Bool) (w : List En
         lowestFirst = y .lowestFirst;
       }
 
-  -- It has no more disks than there are rows and columns.
-  pub loop-bound : length w ≤ (rows z + 1) + (columns z + 1)
-  loop-bound =
-      let few = cycle-touched (gridOf z) e w y (gridOf-two z fits) in
-      let most = grid-touched z e in
-      omega arith
-
+  -- So its disks fit a sheet.
   pub loop-fits : length w ≤ 32
-  loop-fits = let f : Fits z = size-fits z fits in let b = loop-bound in omega arith
+  loop-fits = let f : Fits z = size-fits z fits in let b = loop-bound z e w loop-is .0 in omega arith
 
 -- ---- a loop is a cycle
 module _ (z : Size) (fits : sizeFits z ≡ true) (e : ℕ → Bool) (w : List Entry) (y : Loop z e w) where
