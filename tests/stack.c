@@ -1,8 +1,8 @@
 /*
- * How much stack each call takes, at the largest size and on its longest ways.
- * A call runs on a stack of its own that was filled with a pattern before; the
- * lowest byte that it has changed tells how deep it went. tests/archive builds
- * and runs this.
+ * How much stack each call takes, at the largest size and at the least square
+ * ones, on its longest ways. A call runs on a stack of its own that was filled
+ * with a pattern before; the lowest byte that it has changed tells how deep it
+ * went. tests/archive builds and runs this.
  *
  * usage: stack LIMIT. Prints a line for each run, with FAILED where it takes
  * LIMIT bytes or more, or answers something else than it should.
@@ -15,14 +15,19 @@
 
 #include "raid2d.h"
 
-enum { SIDE = RAID2D_SIDE_MAX, BLOCK = RAID2D_BLOCK_MAX, ACROSS = SIDE + 1 };
+enum { SIDE = RAID2D_SIDE_MAX, BLOCK = RAID2D_BLOCK_MAX };
 enum { STACK_BYTES = 1 << 16 };
 
-/* All that is lent, and where the answer is expected. */
-static uint8_t array[RAID2D_ARRAY_BYTES(SIDE, BLOCK)];
-static uint8_t map[RAID2D_DISKS(SIDE)];
+/* The size of the array that is lent. */
+static size_t rows, columns;
+
+/* All that is lent, with room for the largest size, the lengths that are
+   passed, and where the answer is expected. */
+static uint8_t array[RAID2D_ARRAY_BYTES(SIDE, SIDE, BLOCK)];
+static uint8_t map[RAID2D_DISKS(SIDE, SIDE)];
 static uint8_t sheet[RAID2D_SHEET_BYTES];
 static uint8_t data[BLOCK];
+static size_t disks, array_len;
 static size_t out;
 static size_t result;
 
@@ -36,39 +41,41 @@ static void nothing(void)
 
 static void seal(void)
 {
-    result = raid2d_seal(SIDE, BLOCK, array, sizeof array);
+    result = raid2d_seal(rows, columns, BLOCK, array, array_len);
 }
 
 static void check(void)
 {
-    result = raid2d_check(SIDE, BLOCK, array, sizeof array, &out);
+    result = raid2d_check(rows, columns, BLOCK, array, array_len, &out);
 }
 
 static void write(void)
 {
-    result = raid2d_write(SIDE, BLOCK, array, sizeof array, 0, data, BLOCK);
+    result = raid2d_write(rows, columns, BLOCK, array, array_len, 0, data,
+                          BLOCK);
 }
 
 static void look(void)
 {
-    result = raid2d_look(SIDE, BLOCK, array, sizeof array, map, sizeof map,
-                         RAID2D_DISKS(SIDE) - 1, &out);
+    result = raid2d_look(rows, columns, BLOCK, array, array_len, map, disks,
+                         disks - 1, &out);
 }
 
 static void plan(void)
 {
-    result = raid2d_plan(SIDE, map, sizeof map, sheet, sizeof sheet, &out);
+    result = raid2d_plan(rows, columns, map, disks, sheet, sizeof sheet,
+                         &out);
 }
 
 static void rebuild(void)
 {
-    result = raid2d_rebuild(SIDE, BLOCK, array, sizeof array, map, sizeof map,
-                            sheet, sizeof sheet, &out);
+    result = raid2d_rebuild(rows, columns, BLOCK, array, array_len, map,
+                            disks, sheet, sizeof sheet, &out);
 }
 
 static void follow(void)
 {
-    result = raid2d_follow(SIDE, BLOCK, array, sizeof array, map, sizeof map,
+    result = raid2d_follow(rows, columns, BLOCK, array, array_len, map, disks,
                            sheet, sizeof sheet, &out);
 }
 
@@ -85,7 +92,7 @@ static void prepare(void)
     memcpy(data, array + 7, sizeof data);
     memset(map, 0, sizeof map);
     memset(sheet, 0, sizeof sheet);
-    raid2d_seal(SIDE, BLOCK, array, sizeof array);
+    raid2d_seal(rows, columns, BLOCK, array, array_len);
 }
 
 static void sealed(void)
@@ -96,31 +103,32 @@ static void sealed(void)
    column are summed. */
 static void damaged(void)
 {
-    array[sizeof array - 1] ^= 1;
-    array[sizeof array - 1 - BLOCK] ^= 1;
+    array[array_len - 1] ^= 1;
+    array[array_len - 1 - BLOCK] ^= 1;
 }
 
 static void lose(size_t row, size_t column)
 {
-    map[row * ACROSS + column] = 1;
+    map[row * (columns + 1) + column] = 1;
 }
 
-/* Row 0 and column 0: 31 disks, the most that come back. */
+/* Row 0 and column 0: the most disks that come back, 31 at the largest size. */
 static void cross(void)
 {
     size_t i;
 
-    for (i = 0; i < ACROSS; i++) {
-        lose(0, i);
-        lose(i, 0);
-    }
+    for (i = 0; i <= rows + columns; i++)
+        if (i <= columns)
+            lose(0, i);
+        else
+            lose(i - columns, 0);
 }
 
 /* The sheet for the same loss, as from elsewhere. */
 static void cross_and_sheet(void)
 {
     cross();
-    raid2d_plan(SIDE, map, sizeof map, sheet, sizeof sheet, &out);
+    plan();
 }
 
 /* One disk, and survivors that contradict each other; the sheet for it. */
@@ -128,7 +136,7 @@ static void contradicted(void)
 {
     damaged();
     lose(0, 0);
-    raid2d_plan(SIDE, map, sizeof map, sheet, sizeof sheet, &out);
+    plan();
 }
 
 /* A sheet of 32 records that leads back to its first. */
@@ -141,14 +149,15 @@ static void ring(void)
         sheet[4 + 3 * k] = (uint8_t)((k + 1) % RAID2D_SHEET_RECORDS + 1);
 }
 
-/* The longest cycle: 32 disks, two in each stripe. */
+/* The longest cycle: two disks in each row and column of a square, 32 at the
+   largest size. */
 static void stairs(void)
 {
-    size_t i;
+    size_t steps = (rows < columns ? rows : columns) + 1, i;
 
-    for (i = 0; i < ACROSS; i++) {
+    for (i = 0; i < steps; i++) {
         lose(i, i);
-        lose(i, (i + 1) % ACROSS);
+        lose(i, (i + 1) % steps);
     }
 }
 
@@ -171,14 +180,14 @@ static const struct run runs[] = {
     { "check", check, "a damaged column", damaged, RAID2D_NOT_SEALED },
     { "write", write, "a data disk", sealed, RAID2D_OK },
     { "look", look, "the last disk", sealed, BLOCK },
-    { "plan", plan, "31 erased disks", cross, RAID2D_OK },
-    { "plan", plan, "a cycle of 32 disks", stairs, RAID2D_FATAL },
+    { "plan", plan, "a row and a column lost", cross, RAID2D_OK },
+    { "plan", plan, "the longest cycle", stairs, RAID2D_FATAL },
     { "plan", plan, "all disks erased", all_lost, RAID2D_FATAL },
-    { "rebuild", rebuild, "31 erased disks", cross, RAID2D_OK },
-    { "rebuild", rebuild, "a cycle of 32 disks", stairs, RAID2D_FATAL },
+    { "rebuild", rebuild, "a row and a column lost", cross, RAID2D_OK },
+    { "rebuild", rebuild, "the longest cycle", stairs, RAID2D_FATAL },
     { "rebuild", rebuild, "survivors that disagree", contradicted,
       RAID2D_ERR_SURVIVORS },
-    { "follow", follow, "31 records", cross_and_sheet, RAID2D_OK },
+    { "follow", follow, "the longest list", cross_and_sheet, RAID2D_OK },
     { "follow", follow, "a ring of 32 records", ring, RAID2D_ERR_CHAIN },
     { "follow", follow, "survivors that disagree", contradicted,
       RAID2D_ERR_SURVIVORS }
@@ -220,10 +229,10 @@ static size_t depth_of(const struct run *run)
     return depth;
 }
 
-int main(int argc, char **argv)
+/* Makes all runs at the size that is set. Empty is the stack that a function
+   takes which does nothing. Returns how many runs fail. */
+static int run_all(size_t limit, size_t empty)
 {
-    size_t limit = argc == 2 ? strtoul(argv[1], NULL, 10) : 0;
-    size_t empty = depth_over(nothing, 0x5a);
     int failed = 0;
     size_t i;
 
@@ -232,10 +241,29 @@ int main(int argc, char **argv)
         size_t depth = depth_of(run) - empty;
         int good = depth < limit && result == run->expected;
 
-        printf("%-8s %-24s %4zu bytes of stack%s\n", run->name, run->on, depth,
-               good ? "" : "  FAILED");
-        if (!good)
-            failed = 1;
+        printf("%2zu by %2zu %-8s %-24s %4zu bytes of stack%s\n", rows, columns,
+               run->name, run->on, depth, good ? "" : "  FAILED");
+        failed += !good;
     }
     return failed;
+}
+
+int main(int argc, char **argv)
+{
+    static const size_t sizes[][2] = {
+        { SIDE, SIDE }, { RAID2D_SIDE_MIN, SIDE }, { SIDE, RAID2D_SIDE_MIN }
+    };
+    size_t limit = argc == 2 ? strtoul(argv[1], NULL, 10) : 0;
+    size_t empty = depth_over(nothing, 0x5a);
+    int failed = 0;
+    size_t i;
+
+    for (i = 0; i < sizeof sizes / sizeof sizes[0]; i++) {
+        rows = sizes[i][0];
+        columns = sizes[i][1];
+        disks = RAID2D_DISKS(rows, columns);
+        array_len = RAID2D_ARRAY_BYTES(rows, columns, BLOCK);
+        failed += run_all(limit, empty);
+    }
+    return failed != 0;
 }

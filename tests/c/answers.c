@@ -7,40 +7,39 @@
 #include "raid2d.h"
 #include "suite.h"
 
-/* Stripes are numbered below this; the numbers from n+1 to 15 stand empty. */
+/* Stripes are numbered below this. Those of rows and columns that the grid
+   does not have stand empty. */
 #define STRIPES 32
 
-static uint8_t sum_of_stripe(uint8_t *array, size_t n, size_t block,
-                             size_t stripe, size_t place)
+static void sum_stripe(uint8_t *array, struct size s, size_t stripe,
+                       uint8_t *sum)
 {
-    int empty = stripe < 16 ? stripe > n : stripe - 16 > n;
-    uint8_t sum = 0;
-    size_t k;
+    int is_row = stripe < 16;
+    int empty = is_row ? stripe > s.rows : stripe - 16 > s.columns;
+    size_t last = is_row ? s.columns : s.rows, k;
 
-    for (k = 0; k <= n && !empty; k++)
-        sum ^= stripe < 16 ? *cell(array, n, block, stripe, k, place)
-                           : *cell(array, n, block, k, stripe - 16, place);
-    return sum;
+    memset(sum, 0, s.block);
+    for (k = 0; k <= last && !empty; k++)
+        add_block(sum, is_row ? cell(array, s, stripe, k, 0)
+                              : cell(array, s, k, stripe - 16, 0), s.block);
 }
 
 /* The sums of all stripes, one after the other. */
-static void sum_stripes(uint8_t *array, size_t n, size_t block, uint8_t *sums)
+static void sum_stripes(uint8_t *array, struct size s, uint8_t *sums)
 {
-    size_t stripe, place;
+    size_t stripe;
 
     for (stripe = 0; stripe < STRIPES; stripe++)
-        for (place = 0; place < block; place++)
-            sums[stripe * block + place] =
-                sum_of_stripe(array, n, block, stripe, place);
+        sum_stripe(array, s, stripe, sums + stripe * s.block);
 }
 
 /* ---- Seal ---- */
 
-static void seal_fills(size_t n, size_t block)
+static void seal_fills(struct size s)
 {
-    struct call c = fitting_call(SEAL, n, block);
+    struct call c = fitting_call(SEAL, s);
 
-    define_parities(c.array.expected, n, block);
+    define_parities(c.array.expected, s);
     expect_run(&c, 0, OUT_BEFORE, "seal fills the parities");
     expect_run(&c, 0, OUT_BEFORE, "seal keeps a sealed array");
     end_call(&c);
@@ -59,70 +58,71 @@ static void change_and_run(struct call *c, uint8_t *byte, uint8_t change,
 
 /* Equal changes at the corners of a rectangle, one after the other: they
    cancel in rows and in columns. */
-static void check_of_rectangle(size_t n, size_t block)
+static void check_of_rectangle(struct size s)
 {
-    struct call c = sealed_call(CHECK, n, block);
-    size_t r = below(n), low = r + 1 + below(n - r);
-    size_t k = below(n), right = k + 1 + below(n - k);
-    size_t place = below(block);
+    struct call c = sealed_call(CHECK, s);
+    size_t r = below(s.rows), low = r + 1 + below(s.rows - r);
+    size_t k = below(s.columns), right = k + 1 + below(s.columns - k);
+    size_t place = below(s.block);
     uint8_t change = (uint8_t)(1 + below(255));
 
     expect_run(&c, 0, OUT_BEFORE, "check of a sealed array");
-    change_and_run(&c, cell(c.array.bytes, n, block, low, right, place),
-                   change, 64, low, "one change shows in its row");
-    change_and_run(&c, cell(c.array.bytes, n, block, low, k, place),
-                   change, 64, 16 + k, "two in a row show in columns");
-    change_and_run(&c, cell(c.array.bytes, n, block, r, k, place),
-                   change, 64, r, "three show in the upper row");
-    change_and_run(&c, cell(c.array.bytes, n, block, r, right, place),
-                   change, 0, OUT_BEFORE, "four show nowhere");
+    change_and_run(&c, cell(c.array.bytes, s, low, right, place), change,
+                   64, low, "one change shows in its row");
+    change_and_run(&c, cell(c.array.bytes, s, low, k, place), change,
+                   64, 16 + k, "two in a row show in columns");
+    change_and_run(&c, cell(c.array.bytes, s, r, k, place), change,
+                   64, r, "three show in the upper row");
+    change_and_run(&c, cell(c.array.bytes, s, r, right, place), change,
+                   0, OUT_BEFORE, "four show nowhere");
     end_call(&c);
 }
 
 /* Two changes in a row that do not cancel: at different places, and of
    different bits at the same place. */
-static void check_of_row(size_t n, size_t block)
+static void check_of_row(struct size s)
 {
-    struct call c = sealed_call(CHECK, n, block);
-    uint8_t *first = cell(c.array.bytes, n, block, n, 0, 0);
-    uint8_t *second = cell(c.array.bytes, n, block, n, n, 0);
+    struct call c = sealed_call(CHECK, s);
+    uint8_t *first = cell(c.array.bytes, s, s.rows, 0, 0);
+    uint8_t *second = cell(c.array.bytes, s, s.rows, s.columns, 0);
 
-    change_and_run(&c, first, 6, 64, n, "one change in the last row");
-    change_and_run(&c, second, 2, 64, n, "two unequal changes");
+    change_and_run(&c, first, 6, 64, s.rows, "one change in the last row");
+    change_and_run(&c, second, 2, 64, s.rows, "two unequal changes");
     change_and_run(&c, second, 4, 64, 16, "two equal changes");
-    change_and_run(&c, second, 6, 64, n, "the second undone");
-    change_and_run(&c, second + block - 1, 6, 64,
-                   block == 1 ? 16 : n, "two equal changes, places apart");
+    change_and_run(&c, second, 6, 64, s.rows, "the second undone");
+    change_and_run(&c, second + s.block - 1, 6, 64,
+                   s.block == 1 ? 16 : s.rows,
+                   "two equal changes, places apart");
     end_call(&c);
 }
 
 /* Every bit of a sealed array changed by itself. */
-static void check_of_every_bit(size_t n, size_t block)
+static void check_of_every_bit(struct size s)
 {
-    struct call c = sealed_call(CHECK, n, block);
+    struct call c = sealed_call(CHECK, s);
     size_t i, bit;
 
     for (i = 0; i < c.array.len; i++)
         for (bit = 0; bit < 8; bit++) {
             change_and_run(&c, &c.array.bytes[i], (uint8_t)(1 << bit), 64,
-                           i / block / (n + 1), "every bit");
+                           i / s.block / (s.columns + 1), "every bit");
             c.array.bytes[i] ^= (uint8_t)(1 << bit);
         }
     end_call(&c);
 }
 
 /* Equal changes on two disks of a row, for every row and pair of columns. */
-static void check_of_every_pair(size_t n, size_t block)
+static void check_of_every_pair(struct size s)
 {
-    struct call c = sealed_call(CHECK, n, block);
+    struct call c = sealed_call(CHECK, s);
     size_t r, k, right;
 
-    for (r = 0; r <= n; r++)
-        for (k = 0; k < n; k++)
-            for (right = k + 1; right <= n; right++) {
-                uint8_t *first = cell(c.array.bytes, n, block, r, k, block - 1);
+    for (r = 0; r <= s.rows; r++)
+        for (k = 0; k < s.columns; k++)
+            for (right = k + 1; right <= s.columns; right++) {
+                uint8_t *first = cell(c.array.bytes, s, r, k, s.block - 1);
                 uint8_t *second =
-                    cell(c.array.bytes, n, block, r, right, block - 1);
+                    cell(c.array.bytes, s, r, right, s.block - 1);
 
                 *first ^= 129;
                 change_and_run(&c, second, 129, 64, 16 + k, "every pair");
@@ -137,56 +137,57 @@ static void check_of_every_pair(size_t n, size_t block)
 /* Changes a block's expected bytes by the difference of old data and new. */
 static void expect_difference(struct call *c, size_t disk)
 {
-    const uint8_t *old = c->array.bytes + c->disk * c->block;
-    uint8_t *expected = c->array.expected + disk * c->block;
-    size_t place;
+    size_t block = c->size.block, place;
+    const uint8_t *old = c->array.bytes + c->disk * block;
+    uint8_t *expected = c->array.expected + disk * block;
 
-    for (place = 0; place < c->block; place++)
+    for (place = 0; place < block; place++)
         expected[place] ^= old[place] ^ c->data.bytes[place];
 }
 
 /* On arbitrary bytes: four blocks change, and no stripe's sum does. */
-static void write_keeps_sums(size_t n, size_t block, size_t r, size_t k)
+static void write_keeps_sums(struct size s, size_t r, size_t k)
 {
     static uint8_t before[STRIPES * RAID2D_BLOCK_MAX];
     static uint8_t after[STRIPES * RAID2D_BLOCK_MAX];
-    struct call c = fitting_call(WRITE, n, block);
+    struct call c = fitting_call(WRITE, s);
 
-    c.disk = r * (n + 1) + k;
+    c.disk = disk_at(s, r, k);
     expect_difference(&c, c.disk);
-    expect_difference(&c, r * (n + 1) + n);
-    expect_difference(&c, n * (n + 1) + k);
-    expect_difference(&c, n * (n + 1) + n);
-    sum_stripes(c.array.bytes, n, block, before);
+    expect_difference(&c, disk_at(s, r, s.columns));
+    expect_difference(&c, disk_at(s, s.rows, k));
+    expect_difference(&c, disk_at(s, s.rows, s.columns));
+    sum_stripes(c.array.bytes, s, before);
     expect_run(&c, 0, OUT_BEFORE, "write on arbitrary bytes");
-    sum_stripes(c.array.bytes, n, block, after);
-    expect(memcmp(before, after, STRIPES * block) == 0,
-           "sums of stripes after write, n %zu, block %zu, disk %zu", n, block,
-           c.disk);
+    sum_stripes(c.array.bytes, s, after);
+    expect(memcmp(before, after, STRIPES * s.block) == 0,
+           "sums of stripes after write, %zu rows, %zu columns, block %zu, "
+           "disk %zu", s.rows, s.columns, s.block, c.disk);
     end_call(&c);
 }
 
 /* On a sealed array: write is what seal makes of the changed data. */
-static void write_is_seal(size_t n, size_t block, size_t r, size_t k)
+static void write_is_seal(struct size s, size_t r, size_t k)
 {
-    struct call c = sealed_call(WRITE, n, block);
+    struct call c = sealed_call(WRITE, s);
 
-    c.disk = r * (n + 1) + k;
-    memcpy(c.array.expected + c.disk * block, c.data.bytes, block);
-    expect(raid2d_seal(n, block, c.array.expected, c.array.len) == 0,
+    c.disk = disk_at(s, r, k);
+    memcpy(c.array.expected + c.disk * s.block, c.data.bytes, s.block);
+    expect(raid2d_seal(s.rows, s.columns, s.block, c.array.expected,
+                       c.array.len) == 0,
            "seal of the changed data");
     expect_run(&c, 0, OUT_BEFORE, "write on a sealed array");
     end_call(&c);
 }
 
-static void write_on_every_disk(size_t n, size_t block)
+static void write_on_every_disk(struct size s)
 {
     size_t r, k;
 
-    for (r = 0; r < n; r++)
-        for (k = 0; k < n; k++) {
-            write_keeps_sums(n, block, r, k);
-            write_is_seal(n, block, r, k);
+    for (r = 0; r < s.rows; r++)
+        for (k = 0; k < s.columns; k++) {
+            write_keeps_sums(s, r, k);
+            write_is_seal(s, r, k);
         }
 }
 
@@ -196,15 +197,15 @@ static void write_on_every_disk(size_t n, size_t block)
    where all others are, and where another's byte of the map is wrong. */
 static void look_at(struct call *c, size_t disk)
 {
-    size_t present = disk * c->block;
+    size_t block = c->size.block, present = disk * block;
 
     c->disk = disk;
     memset(c->map.bytes, 0, c->map.len);
     expect_as_now(c);
-    expect_run(c, c->block, present, "look, all present");
+    expect_run(c, block, present, "look, all present");
     change_and_run(c, &c->map.bytes[disk], 1, 0, OUT_BEFORE, "look, erased");
     memset(c->map.bytes, 1, c->map.len);
-    change_and_run(c, &c->map.bytes[disk], 1, c->block, present,
+    change_and_run(c, &c->map.bytes[disk], 1, block, present,
                    "look, all others erased");
     c->map.bytes[(disk + 1) % c->map.len] = 0;
     change_and_run(c, &c->map.bytes[(disk + 1) % c->map.len],
@@ -212,9 +213,9 @@ static void look_at(struct call *c, size_t disk)
                    "look, another's byte wrong");
 }
 
-static void look_at_every_disk(size_t n, size_t block)
+static void look_at_every_disk(struct size s)
 {
-    struct call c = fitting_call(LOOK, n, block);
+    struct call c = fitting_call(LOOK, s);
     size_t disk;
 
     for (disk = 0; disk < c.map.len; disk++)
@@ -222,34 +223,45 @@ static void look_at_every_disk(size_t n, size_t block)
     end_call(&c);
 }
 
-static void look_at_last_disk(size_t n, size_t block)
+static void look_at_last_disk(struct size s)
 {
-    struct call c = fitting_call(LOOK, n, block);
+    struct call c = fitting_call(LOOK, s);
 
     look_at(&c, c.map.len - 1);
     end_call(&c);
 }
 
-/* ---- The cases of paper 01, n = 2 and block = 1 ---- */
+/* ---- Worked cases: those of paper 01, and some that are not square ---- */
 
-/* Its array A, which is sealed. */
-static const uint8_t sealed[9] = { 1, 2, 3, 4, 8, 12, 5, 10, 15 };
-
-/* The call turns one array into another, which check then finds sealed. */
-static void expect_change(enum function function, uint8_t data,
-                          const uint8_t *before, const uint8_t *after,
-                          const char *what)
+/* The call turns an array into another, which check then finds sealed. */
+static void expect_change(struct call *c, const uint8_t *before,
+                          const uint8_t *after, const char *what)
 {
-    struct call c = fitting_call(function, 2, 1);
+    memcpy(c->array.bytes, before, c->array.len);
+    expect_as_now(c);
+    memcpy(c->array.expected, after, c->array.len);
+    expect_run(c, 0, OUT_BEFORE, what);
+    c->function = CHECK;
+    expect_run(c, 0, OUT_BEFORE, what);
+    end_call(c);
+}
 
-    memcpy(c.array.bytes, before, 9);
+static void expect_seal(const struct known *known, const uint8_t *before,
+                        const char *what)
+{
+    struct call c = fitting_call(SEAL, known->size);
+
+    expect_change(&c, before, known->sealed, what);
+}
+
+static void expect_write(const struct known *known, size_t disk, uint8_t data,
+                         const uint8_t *after, const char *what)
+{
+    struct call c = fitting_call(WRITE, known->size);
+
+    c.disk = disk;
     c.data.bytes[0] = data;
-    expect_as_now(&c);
-    memcpy(c.array.expected, after, 9);
-    expect_run(&c, 0, OUT_BEFORE, what);
-    c.function = CHECK;
-    expect_run(&c, 0, OUT_BEFORE, what);
-    end_call(&c);
+    expect_change(&c, known->sealed, after, what);
 }
 
 static void cases_1_and_9(void)
@@ -257,24 +269,49 @@ static void cases_1_and_9(void)
     static const uint8_t data[9] = { 1, 2, 200, 4, 8, 201, 202, 203, 204 };
     static const uint8_t written[9] = { 9, 2, 11, 4, 8, 12, 13, 10, 7 };
 
-    expect_change(SEAL, 0, data, sealed, "case 1");
-    expect_change(WRITE, 9, sealed, written, "case 9");
+    expect_seal(&array_a, data, "case 1");
+    expect_write(&array_a, 0, 9, written, "case 9");
 }
 
-/* The limits of n and block for seal, check and write. */
+static void seal_and_write_unequal(void)
+{
+    static const uint8_t wide_data[12] = {
+        1, 2, 4, 200, 8, 16, 32, 201, 202, 203, 204, 205
+    };
+    static const uint8_t wide_written[12] = {
+        1, 2, 9, 10, 8, 16, 32, 56, 9, 18, 41, 50
+    };
+    static const uint8_t high_data[12] = {
+        1, 8, 200, 2, 16, 201, 4, 32, 202, 203, 204, 205
+    };
+    static const uint8_t high_written[12] = {
+        1, 8, 9, 9, 16, 25, 4, 32, 36, 12, 56, 52
+    };
+
+    expect_seal(&array_wide, wide_data, "seal of 2 by 3");
+    expect_write(&array_wide, 2, 9, wide_written, "write to 2 by 3");
+    expect_seal(&array_high, high_data, "seal of 3 by 2");
+    expect_write(&array_high, 3, 9, high_written, "write to 3 by 2");
+}
+
+/* The limits of rows, columns and block for seal, check and write. */
 static void case_10(void)
 {
     static const struct {
-        size_t n, block, status;
-    } sizes[] = { { 1, 1, 1 }, { 16, 1, 1 }, { 2, 0, 2 }, { 2, 4097, 2 } };
+        struct size size;
+        size_t status;
+    } sizes[] = {
+        { { 1, 1, 1 }, 1 }, { { 1, 2, 1 }, 1 }, { { 2, 1, 1 }, 1 },
+        { { 16, 16, 1 }, 1 }, { { 16, 15, 1 }, 1 }, { { 15, 16, 1 }, 1 },
+        { { 2, 2, 0 }, 2 }, { { 2, 2, 4097 }, 2 }
+    };
     const enum function functions[] = { SEAL, CHECK, WRITE };
-    struct call c = sealed_call(SEAL, 15, 4096);
+    struct call c = sealed_call(SEAL, (struct size){ 15, 15, 4096 });
     size_t i, k;
 
     for (i = 0; i < 3; i++) {
         for (k = 0; k < sizeof sizes / sizeof sizes[0]; k++) {
-            struct call wrong =
-                fitting_call(functions[i], sizes[k].n, sizes[k].block);
+            struct call wrong = fitting_call(functions[i], sizes[k].size);
 
             expect_run(&wrong, sizes[k].status, OUT_BEFORE, "case 10, wrong");
             end_call(&wrong);
@@ -288,52 +325,69 @@ static void case_10(void)
     end_call(&c);
 }
 
+/* The first row parity is no data disk. */
+static void write_to_row_parity(const struct known *known, const char *what)
+{
+    struct call c = fitting_call(WRITE, known->size);
+
+    c.disk = known->size.columns;
+    expect_run(&c, 8, OUT_BEFORE, what);
+    end_call(&c);
+}
+
 static void case_11(void)
 {
-    struct call write = fitting_call(WRITE, 2, 1);
-    struct call look = fitting_call(LOOK, 2, 1);
+    struct call look = fitting_call(LOOK, array_a.size);
 
-    write.disk = 2;
-    expect_run(&write, 8, OUT_BEFORE, "case 11, write");
+    write_to_row_parity(&array_a, "case 11, write to disk 2");
+    write_to_row_parity(&array_wide, "write to disk 3 of 2 by 3");
+    write_to_row_parity(&array_high, "write to disk 2 of 3 by 2");
     change_and_run(&look, &look.map.bytes[4], 2, 0, OUT_BEFORE,
                    "case 11, look");
     change_and_run(&look, &look.map.bytes[4], 2, 1, 0,
                    "case 11, the byte undone");
-    end_call(&write);
     end_call(&look);
 }
 
-/* Every n with lengths on both sides of what the library sums at a time. */
-static void every_size(void)
-{
-    static const size_t blocks[] = {
-        1, 2, 15, 16, 17, 127, 128, 129, 255, 256, 4095, 4096
-    };
-    size_t n, i;
+/* ---- All of it ---- */
 
-    for (n = RAID2D_SIDE_MIN; n <= RAID2D_SIDE_MAX; n++)
-        for (i = 0; i < sizeof blocks / sizeof blocks[0]; i++) {
-            seal_fills(n, blocks[i]);
-            check_of_rectangle(n, blocks[i]);
-            check_of_row(n, blocks[i]);
-            write_keeps_sums(n, blocks[i], below(n), below(n));
-            write_is_seal(n, blocks[i], n - 1, n - 1);
-            look_at_last_disk(n, blocks[i]);
-        }
+static void at_size(struct size s)
+{
+    seal_fills(s);
+    check_of_rectangle(s);
+    check_of_row(s);
+    write_keeps_sums(s, below(s.rows), below(s.columns));
+    write_is_seal(s, 0, 0);
+    write_is_seal(s, s.rows - 1, s.columns - 1);
+    look_at_last_disk(s);
+}
+
+static void on_every_disk(void)
+{
+    static const struct size sizes[] = {
+        { 2, 2, 3 }, { 2, 3, 1 }, { 3, 2, 17 }, { 2, 15, 1 }, { 15, 2, 3 },
+        { 15, 15, 1 }
+    };
+    size_t i;
+
+    for (i = 0; i < sizeof sizes / sizeof sizes[0]; i++) {
+        check_of_every_bit(sizes[i]);
+        check_of_every_pair(sizes[i]);
+        write_on_every_disk(sizes[i]);
+        look_at_every_disk(sizes[i]);
+    }
 }
 
 void test_answers(void)
 {
     cases_1_and_9();
+    seal_and_write_unequal();
     case_10();
     case_11();
-    every_size();
-    check_of_every_bit(2, 3);
-    check_of_every_pair(2, 3);
-    check_of_every_pair(15, 1);
-    write_on_every_disk(2, 3);
-    write_on_every_disk(15, 1);
-    look_at_every_disk(2, 1);
-    look_at_every_disk(3, 17);
-    look_at_every_disk(15, 4096);
+    at_every_size(at_size);
+    on_every_disk();
+    look_at_every_disk((struct size){ 2, 2, 1 });
+    look_at_every_disk((struct size){ 3, 3, 17 });
+    look_at_every_disk((struct size){ 15, 15, 4096 });
+    look_at_every_disk((struct size){ 2, 15, 4096 });
 }

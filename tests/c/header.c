@@ -10,7 +10,8 @@
 #include "suite.h"
 
 /* The largest array, as a static one. */
-static uint8_t largest[RAID2D_ARRAY_BYTES(RAID2D_SIDE_MAX, RAID2D_BLOCK_MAX)];
+static uint8_t largest[RAID2D_ARRAY_BYTES(RAID2D_SIDE_MAX, RAID2D_SIDE_MAX,
+                                          RAID2D_BLOCK_MAX)];
 
 static const uint32_t statuses[] = {
     0, 1, 2, 3, 4, 5, 6, 7, 8, 9, 10, 11, 64
@@ -20,14 +21,17 @@ static const uint32_t statuses[] = {
 
 static void limits_and_sizes(void)
 {
-    expect(RAID2D_SIDE_MIN == 2 && RAID2D_SIDE_MAX == 15, "range of n");
+    expect(RAID2D_SIDE_MIN == 2 && RAID2D_SIDE_MAX == 15, "range of a side");
     expect(RAID2D_BLOCK_MIN == 1 && RAID2D_BLOCK_MAX == 4096, "range of block");
     expect(sizeof largest == 1048576 && largest[0] == 0,
            "bytes of the largest array");
     expect(RAID2D_COLUMN_STRIPE == 16, "stripe of column 0");
-    expect(RAID2D_DISKS(2) == 9 && RAID2D_DISKS(15) == 256, "disks");
-    expect(RAID2D_DISKS(1 + 1) == 9, "disks, from an expression");
-    expect(RAID2D_ARRAY_BYTES(1 + 1, 1 + 2) == 27, "bytes, from expressions");
+    expect(RAID2D_DISKS(2, 2) == 9 && RAID2D_DISKS(15, 15) == 256
+               && RAID2D_DISKS(2, 15) == 48 && RAID2D_DISKS(15, 2) == 48,
+           "disks");
+    expect(RAID2D_DISKS(1 + 1, 1 + 2) == 12, "disks, from expressions");
+    expect(RAID2D_ARRAY_BYTES(1 + 1, 1 + 2, 2 + 3) == 60,
+           "bytes, from expressions");
     expect(RAID2D_SHEET_BYTES == 98, "bytes of a sheet");
     expect(RAID2D_SHEET_RECORDS == 32, "records of a sheet");
     expect(RAID2D_SHEET_REPAIRS == 1 && RAID2D_SHEET_CYCLE == 2, "kinds");
@@ -45,7 +49,7 @@ static void version(void)
 static void numbers_of_statuses(void)
 {
     expect(RAID2D_OK == 0, "number of success");
-    expect(RAID2D_ERR_SIDE == 1, "number of a wrong n");
+    expect(RAID2D_ERR_SIDE == 1, "number of wrong rows or columns");
     expect(RAID2D_ERR_BLOCK == 2, "number of a wrong block");
     expect(RAID2D_ERR_ARRAY_LENGTH == 3, "number of a wrong array length");
     expect(RAID2D_ERR_MAP == 4, "number of a wrong map");

@@ -9,7 +9,7 @@
 #include "suite.h"
 
 /* No grid has more disks. */
-#define DISKS RAID2D_DISKS(RAID2D_SIDE_MAX)
+#define DISKS RAID2D_DISKS(RAID2D_SIDE_MAX, RAID2D_SIDE_MAX)
 
 /* ---- Losses ---- */
 
@@ -17,41 +17,43 @@
    bytes expected after the call stay. */
 static void lose(struct call *c, size_t r, size_t k)
 {
-    size_t disk = r * (c->n + 1) + k;
+    size_t disk = disk_at(c->size, r, k), block = c->size.block;
 
     c->map.bytes[disk] = c->map.expected[disk] = 1;
-    fill(c->array.bytes + disk * c->block, c->block);
+    fill(c->array.bytes + disk * block, block);
 }
 
-/* Row 0 and column 0: 2n+1 disks, the most that can be restored. */
+/* Row 0 and column 0: as many disks as can be restored. */
 static void lose_cross(struct call *c)
 {
-    size_t k;
+    size_t columns = c->size.columns, i;
 
-    for (k = 0; k <= c->n; k++) {
-        lose(c, 0, k);
-        lose(c, k, 0);
-    }
+    for (i = 0; i < most_repairs(c->size); i++)
+        if (i <= columns)
+            lose(c, 0, i);
+        else
+            lose(c, i - columns, 0);
 }
 
-/* Steps of a stair: disks (0,0) (0,1) (1,1) (1,2) .. (n,n) (n,0). The whole
-   stair of 2n+2 is a cycle; a part of it is not. */
-static size_t stair_row(size_t step)
+/* As many again: a stair from disk (0,0) to the superparity, by steps to the
+   right and down that are as even as can be: (0,0) (0,1) (1,1) (1,2) .. in a
+   square. The first step is to the right, the last one down. */
+static size_t stair_row(struct size s, size_t step)
 {
-    return step / 2;
+    return step * s.rows / (s.rows + s.columns);
 }
 
-static size_t stair_column(size_t n, size_t step)
+static size_t stair_column(struct size s, size_t step)
 {
-    return (step + 1) / 2 % (n + 1);
+    return step - stair_row(s, step);
 }
 
-static void lose_stair(struct call *c, size_t steps)
+static void lose_stair(struct call *c)
 {
     size_t i;
 
-    for (i = 0; i < steps; i++)
-        lose(c, stair_row(i), stair_column(c->n, i));
+    for (i = 0; i < most_repairs(c->size); i++)
+        lose(c, stair_row(c->size, i), stair_column(c->size, i));
 }
 
 /* ---- What is expected ---- */
@@ -71,13 +73,13 @@ static void expect_record(struct call *c, size_t k, size_t disk, size_t stripe)
     c->sheet.expected[3 * k] = (uint8_t)stripe;
 }
 
-static size_t erased_on(const uint8_t *map, size_t n, size_t stripe)
+static size_t erased_on(const uint8_t *map, struct size s, size_t stripe)
 {
-    size_t count = 0, k;
+    size_t last = stripe < 16 ? s.columns : s.rows, count = 0, k;
 
-    for (k = 0; k <= n; k++)
-        count += map[stripe < 16 ? stripe * (n + 1) + k
-                                 : k * (n + 1) + stripe - 16];
+    for (k = 0; k <= last; k++)
+        count += map[stripe < 16 ? disk_at(s, stripe, k)
+                                 : disk_at(s, k, stripe - 16)];
     return count;
 }
 
@@ -85,16 +87,16 @@ static size_t erased_on(const uint8_t *map, size_t n, size_t stripe)
    if that is allowed, else by its column. Returns the number of repairs. */
 static size_t expect_repairs(struct call *c)
 {
+    size_t across = c->size.columns + 1, disk = 0, count = 0;
     uint8_t map[DISKS];
-    size_t disk = 0, count = 0;
 
     memcpy(map, c->map.bytes, c->map.len);
     expect_kind(c, RAID2D_SHEET_REPAIRS);
     while (disk < c->map.len) {
-        size_t row = disk / (c->n + 1), column = 16 + disk % (c->n + 1);
-        int by_row = erased_on(map, c->n, row) == 1;
+        size_t row = disk / across, column = 16 + disk % across;
+        int by_row = erased_on(map, c->size, row) == 1;
 
-        if (map[disk] && (by_row || erased_on(map, c->n, column) == 1)) {
+        if (map[disk] && (by_row || erased_on(map, c->size, column) == 1)) {
             expect_record(c, ++count, disk, by_row ? row : column);
             map[disk] = 0;
             disk = 0;
@@ -108,18 +110,19 @@ static size_t expect_repairs(struct call *c)
 /* With 7 the erased blocks are zero. */
 static void expect_zero_blocks(struct call *c)
 {
-    size_t disk;
+    size_t block = c->size.block, disk;
 
     for (disk = 0; disk < c->map.len; disk++)
         if (c->map.bytes[disk])
-            memset(c->array.expected + disk * c->block, 0, c->block);
+            memset(c->array.expected + disk * block, 0, block);
 }
 
 /* Plan on the call's map answers this, with the sheet expected of the call. */
 static void expect_plan(const struct call *c, size_t status, size_t count,
                         const char *what)
 {
-    struct call plan = fitting_call(PLAN, c->n, 1);
+    const struct size size = { c->size.rows, c->size.columns, 1 };
+    struct call plan = fitting_call(PLAN, size);
 
     memcpy(plan.map.bytes, c->map.bytes, plan.map.len);
     expect_as_now(&plan);
@@ -133,7 +136,7 @@ static void expect_plan(const struct call *c, size_t status, size_t count,
 static void expect_follow(const struct call *c, size_t status, size_t count,
                           const char *what)
 {
-    struct call follow = fitting_call(FOLLOW, c->n, c->block);
+    struct call follow = fitting_call(FOLLOW, c->size);
 
     memcpy(follow.array.bytes, c->array.bytes, follow.array.len);
     memcpy(follow.map.bytes, c->map.bytes, follow.map.len);
@@ -180,102 +183,103 @@ static void expect_contradiction(struct call *c, const char *what)
 
 /* ---- Losses that are restored ---- */
 
-static void restore_nothing(size_t n, size_t block)
+static void restore_nothing(struct size s)
 {
-    struct call c = sealed_call(REBUILD, n, block);
+    struct call c = sealed_call(REBUILD, s);
 
     expect_restored(&c, 0, "no disk erased");
     end_call(&c);
 }
 
-static void restore_cross(size_t n, size_t block)
+static void restore_cross(struct size s)
 {
-    struct call c = sealed_call(REBUILD, n, block);
+    struct call c = sealed_call(REBUILD, s);
 
     lose_cross(&c);
-    expect_restored(&c, 2 * n + 1, "row 0 and column 0");
+    expect_restored(&c, most_repairs(s), "row 0 and column 0");
     end_call(&c);
 }
 
-/* One step short of a cycle. */
-static void restore_stair(size_t n, size_t block)
+/* One disk short of a cycle. */
+static void restore_stair(struct size s)
 {
-    struct call c = sealed_call(REBUILD, n, block);
+    struct call c = sealed_call(REBUILD, s);
 
-    lose_stair(&c, 2 * n + 1);
-    expect_restored(&c, 2 * n + 1, "a stair");
+    lose_stair(&c);
+    expect_restored(&c, most_repairs(s), "a stair");
     end_call(&c);
 }
 
 /* Any data disk with both its parities: the superparity brings it back. */
-static void restore_three(size_t n, size_t block, size_t r, size_t k)
+static void restore_three(struct size s, size_t r, size_t k)
 {
-    struct call c = sealed_call(REBUILD, n, block);
+    struct call c = sealed_call(REBUILD, s);
 
     lose(&c, r, k);
-    lose(&c, r, n);
-    lose(&c, n, k);
+    lose(&c, r, s.columns);
+    lose(&c, s.rows, k);
     expect_restored(&c, 3, "a data disk with its parities");
     end_call(&c);
 }
 
-static void restore_one(size_t n, size_t block, size_t r, size_t k)
+static void restore_one(struct size s, size_t r, size_t k)
 {
-    struct call c = sealed_call(REBUILD, n, block);
+    struct call c = sealed_call(REBUILD, s);
 
     lose(&c, r, k);
     expect_restored(&c, 1, "one disk");
     end_call(&c);
 }
 
-static void restore_on_every_disk(size_t n, size_t block)
+static void restore_on_every_disk(struct size s)
 {
     size_t r, k;
 
-    for (r = 0; r <= n; r++)
-        for (k = 0; k <= n; k++) {
-            restore_one(n, block, r, k);
-            if (r < n && k < n)
-                restore_three(n, block, r, k);
+    for (r = 0; r <= s.rows; r++)
+        for (k = 0; k <= s.columns; k++) {
+            restore_one(s, r, k);
+            if (r < s.rows && k < s.columns)
+                restore_three(s, r, k);
         }
 }
 
-/* The sum of row r, or of column k, but for its first disk, goes there. */
-static void sum_row(struct call *c, size_t r, size_t place)
+/* The first disk of each row but row 0 is the sum of the others. */
+static void sum_rows(uint8_t *array, struct size s)
 {
-    uint8_t *first = cell(c->array.expected, c->n, c->block, r, 0, place);
-    size_t k;
+    size_t r, k;
 
-    *first = 0;
-    for (k = 1; k <= c->n; k++)
-        *first ^= *cell(c->array.expected, c->n, c->block, r, k, place);
+    for (r = 1; r <= s.rows; r++) {
+        uint8_t *first = cell(array, s, r, 0, 0);
+
+        memset(first, 0, s.block);
+        for (k = 1; k <= s.columns; k++)
+            add_block(first, cell(array, s, r, k, 0), s.block);
+    }
 }
 
-static void sum_column(struct call *c, size_t k, size_t place)
+/* The first disk of each column is the sum of the others. */
+static void sum_columns(uint8_t *array, struct size s)
 {
-    uint8_t *first = cell(c->array.expected, c->n, c->block, 0, k, place);
-    size_t r;
+    size_t r, k;
 
-    *first = 0;
-    for (r = 1; r <= c->n; r++)
-        *first ^= *cell(c->array.expected, c->n, c->block, r, k, place);
+    for (k = 0; k <= s.columns; k++) {
+        uint8_t *first = cell(array, s, 0, k, 0);
+
+        memset(first, 0, s.block);
+        for (r = 1; r <= s.rows; r++)
+            add_block(first, cell(array, s, r, k, 0), s.block);
+    }
 }
 
 /* Without row 0 and column 0 any survivors belong to a sealed array. */
-static void restore_from_arbitrary_bytes(size_t n, size_t block)
+static void restore_from_arbitrary_bytes(struct size s)
 {
-    struct call c = fitting_call(REBUILD, n, block);
-    size_t k, place;
+    struct call c = fitting_call(REBUILD, s);
 
     lose_cross(&c);
-    for (place = 0; place < block; place++) {
-        for (k = 1; k <= n; k++) {
-            sum_row(&c, k, place);
-            sum_column(&c, k, place);
-        }
-        sum_row(&c, 0, place);
-    }
-    expect_restored(&c, 2 * n + 1, "arbitrary survivors");
+    sum_rows(c.array.expected, s);
+    sum_columns(c.array.expected, s);
+    expect_restored(&c, most_repairs(s), "arbitrary survivors");
     c.function = CHECK;
     expect_run(&c, 0, OUT_BEFORE, "arbitrary survivors, then check");
     end_call(&c);
@@ -283,41 +287,65 @@ static void restore_from_arbitrary_bytes(size_t n, size_t block)
 
 /* ---- Fatal losses ---- */
 
-/* The whole stair: with n = 15 the sheet has no record left. */
-static void lose_all_of_stair(size_t n, size_t block)
+/* Whether a stair goes to the right after so many steps, and whether it turns
+   there. Its two ends turn to the disk that closes it. */
+static int goes_right(struct size s, size_t step)
 {
-    struct call c = sealed_call(REBUILD, n, block);
-    size_t i;
+    return stair_row(s, step + 1) == stair_row(s, step);
+}
 
-    lose_stair(&c, 2 * n + 2);
+static int turns(struct size s, size_t step)
+{
+    return step == 0 || step == s.rows + s.columns
+           || goes_right(s, step - 1) != goes_right(s, step);
+}
+
+/* A stair, and the disk that closes it to a cycle, the first of the last row.
+   The cycle goes from turn to turn and cannot be longer: it has two disks of
+   each row, or of each column where these are fewer. The other disks can be
+   repaired. At 15 by 15 the sheet has no record left. */
+static void lose_closed_stair(struct size s)
+{
+    size_t shorter = s.rows < s.columns ? s.rows : s.columns;
+    struct call c = sealed_call(REBUILD, s);
+    size_t records = 0, i;
+
+    lose_stair(&c);
+    lose(&c, s.rows, 0);
     expect_kind(&c, RAID2D_SHEET_CYCLE);
-    for (i = 0; i < 2 * n + 2; i++) {
-        size_t r = stair_row(i), k = stair_column(n, i);
+    for (i = 0; i < most_repairs(s); i++)
+        if (turns(s, i)) {
+            size_t r = stair_row(s, i), k = stair_column(s, i);
+            int by_row = r == s.rows || goes_right(s, i);
 
-        expect_record(&c, i + 1, r * (n + 1) + k, i % 2 == 0 ? r : 16 + k);
-    }
-    expect_fatal(&c, 2 * n + 2, "a cycle as long as can be");
+            expect_record(&c, ++records, disk_at(s, r, k),
+                          by_row ? r : 16 + k);
+        }
+    expect_record(&c, ++records, disk_at(s, s.rows, 0), 16);
+    expect(records == 2 * (shorter + 1),
+           "disks of the longest cycle, %zu rows, %zu columns", s.rows,
+           s.columns);
+    expect_fatal(&c, records, "a cycle as long as can be");
     end_call(&c);
 }
 
 /* The corners of a rectangle, and two disks that can be repaired: they are
    erased but not lost, though disk 0 is the lowest of all. */
-static void lose_rectangle(size_t n, size_t block)
+static void lose_rectangle(struct size s)
 {
-    struct call c = sealed_call(REBUILD, n, block);
-    size_t last_row = n * (n + 1);
+    struct call c = sealed_call(REBUILD, s);
 
     lose(&c, 0, 0);
     lose(&c, 1, 0);
     lose(&c, 0, 1);
-    lose(&c, 0, n);
-    lose(&c, n, 1);
-    lose(&c, n, n);
+    lose(&c, 0, s.columns);
+    lose(&c, s.rows, 1);
+    lose(&c, s.rows, s.columns);
     expect_kind(&c, RAID2D_SHEET_CYCLE);
     expect_record(&c, 1, 1, 0);
-    expect_record(&c, 2, n, 16 + n);
-    expect_record(&c, 3, last_row + n, n);
-    expect_record(&c, 4, last_row + 1, 17);
+    expect_record(&c, 2, s.columns, 16 + s.columns);
+    expect_record(&c, 3, disk_at(s, s.rows, s.columns), s.rows);
+    expect_record(&c, 4, disk_at(s, s.rows, 1), 17);
     expect_fatal(&c, 4, "a rectangle and two more");
     end_call(&c);
 }
@@ -325,15 +353,16 @@ static void lose_rectangle(size_t n, size_t block)
 /* Every disk: which cycle is shown is left open, so that only its kind is
    expected, and the same sheet of plan and of rebuild. The survivors, none,
    belong to any sealed array. */
-static void lose_all(size_t n, size_t block)
+static void lose_all(struct size s)
 {
-    struct call c = fitting_call(REBUILD, n, block);
+    struct call c = fitting_call(REBUILD, s);
 
     memset(c.map.bytes, 1, c.map.len);
     expect_as_now(&c);
     c.function = PLAN;
     expect(run(&c) == 6 && c.sheet.bytes[0] == RAID2D_SHEET_CYCLE,
-           "plan for a loss of all disks, n %zu", n);
+           "plan for a loss of all disks, %zu rows, %zu columns", s.rows,
+           s.columns);
     c.function = REBUILD;
     memcpy(c.sheet.expected, c.sheet.bytes, c.sheet.len);
     fill(c.sheet.bytes, c.sheet.len);
@@ -347,110 +376,143 @@ static void lose_all(size_t n, size_t block)
 static void damage(struct call *c, size_t r, size_t k, size_t place,
                    uint8_t change)
 {
-    *cell(c->array.bytes, c->n, c->block, r, k, place) ^= change;
-    *cell(c->array.expected, c->n, c->block, r, k, place) ^= change;
+    *cell(c->array.bytes, c->size, r, k, place) ^= change;
+    *cell(c->array.expected, c->size, r, k, place) ^= change;
 }
 
 /* With all disks present, rebuild finds what check finds. */
-static void contradiction_without_loss(size_t n, size_t block)
+static void contradiction_without_loss(struct size s)
 {
-    struct call c = sealed_call(REBUILD, n, block);
+    struct call c = sealed_call(REBUILD, s);
 
-    damage(&c, below(n + 1), below(n + 1), below(block), 1);
+    damage(&c, below(s.rows + 1), below(s.columns + 1), below(s.block), 1);
     expect_contradiction(&c, "no disk erased, one change");
     end_call(&c);
 }
 
 /* Three disks are never all of a cycle: with two of them erased the third
    has to be what the others say. */
-static void contradiction_of_one(size_t n, size_t block)
+static void contradiction_of_one(struct size s)
 {
-    struct call c = sealed_call(REBUILD, n, block);
-    size_t r = below(n + 1), k = below(n + 1);
+    struct call c = sealed_call(REBUILD, s);
+    size_t r = below(s.rows + 1), k = below(s.columns + 1);
+    size_t other_row = (r + 1 + below(s.rows)) % (s.rows + 1);
+    size_t other_column = (k + 1 + below(s.columns)) % (s.columns + 1);
 
     lose(&c, r, k);
-    lose(&c, (r + 1 + below(n)) % (n + 1), below(n + 1));
-    damage(&c, r, (k + 1 + below(n)) % (n + 1), block - 1, 128);
+    lose(&c, other_row, below(s.columns + 1));
+    damage(&c, r, other_column, s.block - 1, 128);
     expect_contradiction(&c, "one change");
     end_call(&c);
 }
 
 /* Two equal changes in a row show only in columns, two in a column only in
    rows. The erased disk is in another row and column, or in the same row. */
-static void contradiction_of_two(size_t n, size_t block, int in_row, int apart)
+static void contradiction_of_two(struct size s, int in_row, int apart)
 {
-    struct call c = sealed_call(REBUILD, n, block);
-    size_t r = below(n), k = below(n), place = below(block);
+    struct call c = sealed_call(REBUILD, s);
+    size_t r = below(s.rows), k = below(s.columns), place = below(s.block);
 
-    if (apart)
-        lose(&c, (r + 2) % (n + 1), (k + 2) % (n + 1));
-    else
-        lose(&c, r, (k + 2) % (n + 1));
+    lose(&c, apart ? (r + 2) % (s.rows + 1) : r, (k + 2) % (s.columns + 1));
     damage(&c, r, k, place, 33);
     damage(&c, in_row ? r : r + 1, in_row ? k + 1 : k, place, 33);
     expect_contradiction(&c, "two equal changes");
     end_call(&c);
 }
 
-/* ---- The cases of paper 01, n = 2 and block = 1 ---- */
+/* ---- Worked cases: those of paper 01, and some that are not square ---- */
 
-/* Its array A, which is sealed. */
-static const uint8_t sealed[9] = { 1, 2, 3, 4, 8, 12, 5, 10, 15 };
-
-struct paper_case {
+struct worked_case {
     const char *what;
-    size_t status, count;    /* rebuild's; plan never says 7 */
-    uint8_t erased[9];       /* the map */
-    uint8_t superparity;     /* card 8 of A, else as in A */
-    uint8_t sheet[2 + 3 * 5]; /* plan's, as far as it has records */
+    const struct known *known;
+    size_t status, count;     /* rebuild's; plan never says 7 */
+    uint8_t erased[12];       /* the map */
+    uint8_t superparity;      /* where it is present */
+    uint8_t sheet[2 + 3 * 6]; /* plan's, as far as it has records */
 };
 
-static const struct paper_case cases[] = {
-    { "case 2", 0, 0, { 0, 0, 0, 0, 0, 0, 0, 0, 0 }, 15, { 1 } },
-    { "case 3", 0, 3, { 1, 0, 1, 0, 0, 0, 1, 0, 0 }, 15,
+static const struct worked_case cases[] = {
+    { "case 2", &array_a, 0, 0, { 0, 0, 0, 0, 0, 0, 0, 0, 0 }, 15, { 1 } },
+    { "case 3", &array_a, 0, 3, { 1, 0, 1, 0, 0, 0, 1, 0, 0 }, 15,
       { 1, 1, 2, 18, 2, 0, 0, 3, 6, 2, 0 } },
-    { "case 4", 6, 4, { 1, 0, 1, 0, 0, 0, 1, 0, 1 }, 15,
+    { "case 4", &array_a, 6, 4, { 1, 0, 1, 0, 0, 0, 1, 0, 1 }, 15,
       { 2, 1, 0, 0, 2, 2, 18, 3, 8, 2, 4, 6, 16, 0 } },
-    { "case 5", 6, 4, { 1, 1, 0, 1, 1, 0, 0, 0, 0 }, 15,
+    { "case 5", &array_a, 6, 4, { 1, 1, 0, 1, 1, 0, 0, 0, 0 }, 15,
       { 2, 1, 0, 0, 2, 1, 17, 3, 4, 1, 4, 3, 16, 0 } },
-    { "case 6", 0, 3, { 1, 0, 0, 0, 1, 0, 0, 0, 1 }, 15,
+    { "case 6", &array_a, 0, 3, { 1, 0, 0, 0, 1, 0, 0, 0, 1 }, 15,
       { 1, 1, 0, 0, 2, 4, 1, 3, 8, 2, 0 } },
-    { "case 7", 0, 5, { 1, 1, 1, 1, 0, 0, 1, 0, 0 }, 15,
+    { "case 7", &array_a, 0, 5, { 1, 1, 1, 1, 0, 0, 1, 0, 0 }, 15,
       { 1, 1, 1, 17, 2, 2, 18, 3, 0, 0, 4, 3, 1, 5, 6, 2, 0 } },
-    { "case 8", 7, 1, { 1, 0, 0, 0, 0, 0, 0, 0, 0 }, 14,
-      { 1, 1, 0, 0, 0 } }
+    { "case 8", &array_a, 7, 1, { 1, 0, 0, 0, 0, 0, 0, 0, 0 }, 14,
+      { 1, 1, 0, 0, 0 } },
+    { "2 by 3, nothing", &array_wide, 0, 0,
+      { 0, 0, 0, 0, 0, 0, 0, 0, 0, 0, 0, 0 }, 63, { 1 } },
+    { "2 by 3, a row and a column", &array_wide, 0, 6,
+      { 1, 1, 1, 1, 1, 0, 0, 0, 1, 0, 0, 0 }, 63,
+      { 1, 1, 1, 17, 2, 2, 18, 3, 3, 19, 4, 0, 0, 5, 4, 1, 6, 8, 2, 0 } },
+    { "2 by 3, disk 2 and its parities", &array_wide, 0, 3,
+      { 0, 0, 1, 1, 0, 0, 0, 0, 0, 0, 1, 0 }, 63,
+      { 1, 1, 3, 19, 2, 2, 0, 3, 10, 2, 0 } },
+    { "2 by 3, the corners", &array_wide, 6, 4,
+      { 1, 0, 0, 1, 0, 0, 0, 0, 1, 0, 0, 1 }, 63,
+      { 2, 1, 0, 0, 2, 3, 19, 3, 11, 2, 4, 8, 16, 0 } },
+    { "2 by 3, six in a cycle", &array_wide, 6, 6,
+      { 1, 1, 0, 0, 0, 1, 0, 1, 1, 0, 0, 1 }, 63,
+      { 2, 1, 0, 0, 2, 1, 17, 3, 5, 1, 4, 7, 19, 5, 11, 2, 6, 8, 16, 0 } },
+    { "2 by 3, contradicted", &array_wide, 7, 1,
+      { 0, 0, 0, 1, 0, 0, 0, 0, 0, 0, 0, 0 }, 62, { 1, 1, 3, 0, 0 } },
+    { "3 by 2, a row and a column", &array_high, 0, 6,
+      { 1, 1, 1, 1, 0, 0, 1, 0, 0, 1, 0, 0 }, 63,
+      { 1, 1, 1, 17, 2, 2, 18, 3, 0, 0, 4, 3, 1, 5, 6, 2, 6, 9, 3, 0 } },
+    { "3 by 2, disk 3 and its parities", &array_high, 0, 3,
+      { 0, 0, 0, 1, 0, 1, 0, 0, 0, 1, 0, 0 }, 63,
+      { 1, 1, 5, 18, 2, 3, 1, 3, 9, 3, 0 } },
+    { "3 by 2, the corners", &array_high, 6, 4,
+      { 1, 0, 1, 0, 0, 0, 0, 0, 0, 1, 0, 1 }, 63,
+      { 2, 1, 0, 0, 2, 2, 18, 3, 11, 3, 4, 9, 16, 0 } },
+    { "3 by 2, six in a cycle", &array_high, 6, 6,
+      { 1, 1, 0, 0, 1, 1, 0, 0, 0, 1, 0, 1 }, 63,
+      { 2, 1, 0, 0, 2, 1, 17, 3, 4, 1, 4, 5, 18, 5, 11, 3, 6, 9, 16, 0 } },
+    { "3 by 2, contradicted", &array_high, 7, 1,
+      { 0, 0, 1, 0, 0, 0, 0, 0, 0, 0, 0, 0 }, 62, { 1, 1, 2, 0, 0 } }
 };
 
-/* The erased cards hold arbitrary bytes. */
-static void run_case(const struct paper_case *paper)
+/* The survivors of a worked case; the erased disks hold arbitrary bytes. */
+static struct call call_of(const struct worked_case *w)
 {
-    struct call c = fitting_call(REBUILD, 2, 1);
-    size_t disk;
+    struct call c = fitting_call(REBUILD, w->known->size);
+    size_t disk, last = c.map.len - 1;
 
-    memcpy(c.map.bytes, paper->erased, 9);
-    for (disk = 0; disk < 9; disk++)
-        if (!paper->erased[disk])
-            c.array.bytes[disk] = sealed[disk];
-    if (!paper->erased[8])
-        c.array.bytes[8] = paper->superparity;
+    memcpy(c.map.bytes, w->erased, c.map.len);
+    for (disk = 0; disk < last; disk++)
+        if (!w->erased[disk])
+            c.array.bytes[disk] = w->known->sealed[disk];
+    if (!w->erased[last])
+        c.array.bytes[last] = w->superparity;
     expect_as_now(&c);
+    return c;
+}
+
+static void run_case(const struct worked_case *w)
+{
+    struct call c = call_of(w);
+
     expect_kind(&c, 0);
-    memcpy(c.sheet.expected, paper->sheet, sizeof paper->sheet);
-    expect_plan(&c, paper->status == 6 ? 6 : 0, paper->count, paper->what);
-    if (paper->status == 0)
-        memcpy(c.array.expected, sealed, 9);
-    if (paper->status == 7)
+    memcpy(c.sheet.expected, w->sheet, sizeof w->sheet);
+    expect_plan(&c, w->status == 6 ? 6 : 0, w->count, w->what);
+    if (w->status == 0)
+        memcpy(c.array.expected, w->known->sealed, c.array.len);
+    if (w->status == 7)
         expect_zero_blocks(&c);
-    expect_follow(&c, paper->status == 6 ? 10 : paper->status,
-                  paper->status == 0 ? paper->count : OUT_BEFORE, paper->what);
-    if (paper->status == 7)
+    expect_follow(&c, w->status == 6 ? 10 : w->status,
+                  w->status == 0 ? w->count : OUT_BEFORE, w->what);
+    if (w->status == 7)
         memset(c.sheet.expected, 0, c.sheet.len);
-    expect_run(&c, paper->status,
-               paper->status == 7 ? OUT_BEFORE : paper->count, paper->what);
+    expect_run(&c, w->status, w->status == 7 ? OUT_BEFORE : w->count, w->what);
     end_call(&c);
 }
 
-static void cases_2_to_8(void)
+static void worked_cases(void)
 {
     size_t i;
 
@@ -458,103 +520,115 @@ static void cases_2_to_8(void)
         run_case(&cases[i]);
 }
 
-/* The limits of n and block; a map byte of 2. That n = 15 with block = 4096
-   works is part of every_size. */
+/* The limits of rows, columns and block; a map byte of 2. That 15 by 15 with
+   4096 bytes works is part of at_every_size. */
 static void cases_10_and_11(void)
 {
     static const struct {
         enum function function;
-        size_t n, block, status;
-    } sizes[] = {
-        { PLAN, 1, 1, 1 }, { PLAN, 16, 1, 1 }, { REBUILD, 1, 1, 1 },
-        { REBUILD, 16, 1, 1 }, { REBUILD, 2, 0, 2 }, { REBUILD, 2, 4097, 2 },
-        { FOLLOW, 1, 1, 1 }, { FOLLOW, 16, 1, 1 }, { FOLLOW, 2, 0, 2 },
-        { FOLLOW, 2, 4097, 2 },
-        { PLAN, 2, 1, 4 }, { REBUILD, 2, 1, 4 }, { FOLLOW, 2, 1, 4 }
+        struct size size;
+        size_t status;
+    } calls[] = {
+        { PLAN, { 1, 1, 1 }, 1 }, { PLAN, { 16, 16, 1 }, 1 },
+        { PLAN, { 1, 2, 1 }, 1 }, { PLAN, { 15, 16, 1 }, 1 },
+        { REBUILD, { 1, 1, 1 }, 1 }, { REBUILD, { 16, 16, 1 }, 1 },
+        { REBUILD, { 2, 1, 1 }, 1 }, { REBUILD, { 16, 15, 1 }, 1 },
+        { REBUILD, { 2, 2, 0 }, 2 }, { REBUILD, { 2, 2, 4097 }, 2 },
+        { FOLLOW, { 1, 1, 1 }, 1 }, { FOLLOW, { 16, 16, 1 }, 1 },
+        { FOLLOW, { 1, 2, 1 }, 1 }, { FOLLOW, { 15, 16, 1 }, 1 },
+        { FOLLOW, { 2, 2, 0 }, 2 }, { FOLLOW, { 2, 2, 4097 }, 2 },
+        { PLAN, { 2, 2, 1 }, 4 }, { REBUILD, { 2, 2, 1 }, 4 },
+        { FOLLOW, { 2, 2, 1 }, 4 }
     };
     size_t i;
 
-    for (i = 0; i < sizeof sizes / sizeof sizes[0]; i++) {
-        struct call c =
-            fitting_call(sizes[i].function, sizes[i].n, sizes[i].block);
+    for (i = 0; i < sizeof calls / sizeof calls[0]; i++) {
+        struct call c = fitting_call(calls[i].function, calls[i].size);
 
-        c.map.bytes[3] = sizes[i].status == 4 ? 2 : 1;
+        c.map.bytes[3] = calls[i].status == 4 ? 2 : 1;
         expect_as_now(&c);
-        expect_run(&c, sizes[i].status, OUT_BEFORE, "cases 10 and 11");
+        expect_run(&c, calls[i].status, OUT_BEFORE, "cases 10 and 11");
         end_call(&c);
     }
 }
 
 /* How many of the sets with so many disks more, all from disk `from` on, are
    fatal together with those that the map has erased. */
-static size_t fatal_sets(uint8_t *map, size_t n, size_t from, size_t more)
+static size_t fatal_sets(uint8_t *map, struct size s, size_t from, size_t more)
 {
     uint8_t sheet[RAID2D_SHEET_BYTES];
     size_t count = 0, fatal = 0, disk;
 
     if (more == 0)
-        return raid2d_plan(n, map, RAID2D_DISKS(n), sheet, sizeof sheet,
-                           &count) == RAID2D_FATAL;
-    for (disk = from; disk < RAID2D_DISKS(n); disk++) {
+        return raid2d_plan(s.rows, s.columns, map, disks_of(s), sheet,
+                           sizeof sheet, &count) == RAID2D_FATAL;
+    for (disk = from; disk < disks_of(s); disk++) {
         map[disk] = 1;
-        fatal += fatal_sets(map, n, disk + 1, more - 1);
+        fatal += fatal_sets(map, s, disk + 1, more - 1);
         map[disk] = 0;
     }
     return fatal;
 }
 
-static void case_12(void)
+/* Two rows and two columns of the grid make a fatal set of four. */
+static void case_12(struct size s)
 {
+    size_t pairs_of_rows = s.rows * (s.rows + 1) / 2;
+    size_t pairs_of_columns = s.columns * (s.columns + 1) / 2;
     uint8_t map[DISKS] = { 0 };
-    size_t n;
 
-    for (n = 2; n <= 4; n++) {
-        expect(fatal_sets(map, n, 0, 4) == n * n * (n + 1) * (n + 1) / 4,
-               "case 12, sets of four, n %zu", n);
-        expect(fatal_sets(map, n, 0, 3) == 0, "case 12, three, n %zu", n);
-    }
+    expect(fatal_sets(map, s, 0, 4) == pairs_of_rows * pairs_of_columns,
+           "case 12, sets of four, %zu rows, %zu columns", s.rows, s.columns);
+    expect(fatal_sets(map, s, 0, 3) == 0,
+           "case 12, three, %zu rows, %zu columns", s.rows, s.columns);
+}
+
+static void case_12_up_to_4(void)
+{
+    struct size s = { 0, 0, 1 };
+
+    for (s.rows = 2; s.rows <= 4; s.rows++)
+        for (s.columns = 2; s.columns <= 4; s.columns++)
+            case_12(s);
 }
 
 /* ---- All of it ---- */
 
-static void at_size(size_t n, size_t block)
+static void at_size(struct size s)
 {
-    restore_nothing(n, block);
-    restore_cross(n, block);
-    restore_stair(n, block);
-    restore_three(n, block, below(n), below(n));
-    restore_from_arbitrary_bytes(n, block);
-    lose_all_of_stair(n, block);
-    lose_rectangle(n, block);
-    lose_all(n, block);
-    contradiction_without_loss(n, block);
-    contradiction_of_one(n, block);
-    contradiction_of_two(n, block, 0, 0);
-    contradiction_of_two(n, block, 0, 1);
-    contradiction_of_two(n, block, 1, 0);
-    contradiction_of_two(n, block, 1, 1);
+    restore_nothing(s);
+    restore_cross(s);
+    restore_stair(s);
+    restore_three(s, below(s.rows), below(s.columns));
+    restore_from_arbitrary_bytes(s);
+    lose_closed_stair(s);
+    lose_rectangle(s);
+    lose_all(s);
+    contradiction_without_loss(s);
+    contradiction_of_one(s);
+    contradiction_of_two(s, 0, 0);
+    contradiction_of_two(s, 0, 1);
+    contradiction_of_two(s, 1, 0);
+    contradiction_of_two(s, 1, 1);
 }
 
-/* Every n with lengths on both sides of what the library sums at a time. */
-static void every_size(void)
+static void on_every_disk(void)
 {
-    static const size_t blocks[] = {
-        1, 2, 15, 16, 17, 127, 128, 129, 4095, 4096
+    static const struct size sizes[] = {
+        { 2, 2, 3 }, { 3, 3, 1 }, { 15, 15, 1 }, { 2, 3, 1 }, { 3, 2, 3 },
+        { 2, 15, 3 }, { 15, 2, 1 }
     };
-    size_t n, i;
+    size_t i;
 
-    for (n = RAID2D_SIDE_MIN; n <= RAID2D_SIDE_MAX; n++)
-        for (i = 0; i < sizeof blocks / sizeof blocks[0]; i++)
-            at_size(n, blocks[i]);
+    for (i = 0; i < sizeof sizes / sizeof sizes[0]; i++)
+        restore_on_every_disk(sizes[i]);
 }
 
 void test_losses(void)
 {
-    cases_2_to_8();
+    worked_cases();
     cases_10_and_11();
-    case_12();
-    every_size();
-    restore_on_every_disk(2, 3);
-    restore_on_every_disk(3, 1);
-    restore_on_every_disk(15, 1);
+    case_12_up_to_4();
+    at_every_size(at_size);
+    on_every_disk();
 }

@@ -1,8 +1,8 @@
 /*
  * Refusals: every wrong argument alone, and every pair of them, from calls
- * that are otherwise right. Of a pair the one that comes first in the order's
- * list is returned. Nothing that is lent may change, but for what the order
- * says of 6 and 7.
+ * that are otherwise right; wrong rows with wrong columns count as one. Of a
+ * pair the one that comes first in the order's list is returned. Nothing that
+ * is lent may change, but for what the order says of 6 and 7.
  */
 #include <string.h>
 
@@ -20,7 +20,7 @@
 
 /* What can be wrong with a call. */
 enum argument {
-    SIDE, BLOCK, ARRAY_LENGTH,
+    ROWS, COLUMNS, BLOCK, ARRAY_LENGTH,
     PARITY_DISK, DATA_LENGTH,              /* write only */
     MAP_LENGTH, MAP_BYTE,                  /* from look on */
     NO_DISK, ERASED,                       /* look only */
@@ -33,7 +33,7 @@ enum argument {
 /* A value for each, and the size of the array that the call starts from. */
 struct arguments {
     size_t of[ARGUMENTS];
-    size_t n, block;
+    struct size size;
 };
 
 /* The values that one argument is tried with: a right one, then wrong ones. */
@@ -53,25 +53,24 @@ struct tests {
     struct {
         enum argument argument;
         size_t status;
-    } test[10];
+    } test[11];
 };
 
+/* Tests that several calls make. */
+#define SIZE_TESTS { ROWS, 1 }, { COLUMNS, 1 }
+#define ARRAY_TESTS SIZE_TESTS, { BLOCK, 2 }, { ARRAY_LENGTH, 3 }
+#define MAP_TESTS { MAP_LENGTH, 4 }, { MAP_BYTE, 4 }, { SHEET_LENGTH, 5 }
+
 static const struct tests tests[] = {
-    { SEAL, 0, 3, { { SIDE, 1 }, { BLOCK, 2 }, { ARRAY_LENGTH, 3 } } },
-    { CHECK, 64, 3, { { SIDE, 1 }, { BLOCK, 2 }, { ARRAY_LENGTH, 3 } } },
-    { WRITE, 0, 5, { { SIDE, 1 }, { BLOCK, 2 }, { ARRAY_LENGTH, 3 },
-                     { PARITY_DISK, 8 }, { DATA_LENGTH, 9 } } },
-    { LOOK, 0, 7, { { SIDE, 0 }, { BLOCK, 0 }, { ARRAY_LENGTH, 0 },
-                    { MAP_LENGTH, 0 }, { MAP_BYTE, 0 }, { NO_DISK, 0 },
-                    { ERASED, 0 } } },
-    { PLAN, 0, 5, { { SIDE, 1 }, { MAP_LENGTH, 4 }, { MAP_BYTE, 4 },
-                    { SHEET_LENGTH, 5 }, { LOSS, 6 } } },
-    { REBUILD, 0, 8, { { SIDE, 1 }, { BLOCK, 2 }, { ARRAY_LENGTH, 3 },
-                       { MAP_LENGTH, 4 }, { MAP_BYTE, 4 },
-                       { SHEET_LENGTH, 5 }, { LOSS, 6 }, { DAMAGE, 7 } } },
-    { FOLLOW, 0, 10, { { SIDE, 1 }, { BLOCK, 2 }, { ARRAY_LENGTH, 3 },
-                       { MAP_LENGTH, 4 }, { MAP_BYTE, 4 },
-                       { SHEET_LENGTH, 5 }, { CHAIN, 10 }, { STEP, 11 },
+    { SEAL, 0, 4, { ARRAY_TESTS } },
+    { CHECK, 64, 4, { ARRAY_TESTS } },
+    { WRITE, 0, 6, { ARRAY_TESTS, { PARITY_DISK, 8 }, { DATA_LENGTH, 9 } } },
+    { LOOK, 0, 8, { { ROWS, 0 }, { COLUMNS, 0 }, { BLOCK, 0 },
+                    { ARRAY_LENGTH, 0 }, { MAP_LENGTH, 0 }, { MAP_BYTE, 0 },
+                    { NO_DISK, 0 }, { ERASED, 0 } } },
+    { PLAN, 0, 6, { SIZE_TESTS, MAP_TESTS, { LOSS, 6 } } },
+    { REBUILD, 0, 9, { ARRAY_TESTS, MAP_TESTS, { LOSS, 6 }, { DAMAGE, 7 } } },
+    { FOLLOW, 0, 11, { ARRAY_TESTS, MAP_TESTS, { CHAIN, 10 }, { STEP, 11 },
                        { LOSS, 11 }, { DAMAGE, 7 } } }
 };
 
@@ -88,7 +87,7 @@ static const struct sheet_byte wrong_chain[] = {
     { 97, 32 }, { 97, 33 }, { 97, 255 }
 };
 
-/* In its step: a present disk, one outside of the grid but for n = 15, and
+/* In its step: a present disk, one outside of the grid but for the largest, and
    stripes that do not go through disk 1. */
 static const struct sheet_byte wrong_step[] = {
     { 95, 0 }, { 95, 255 }, { 96, 1 }, { 96, 16 }, { 96, 32 }, { 96, 255 }
@@ -102,18 +101,35 @@ static void add(struct values *v, size_t value)
     v->value[v->count++] = value;
 }
 
-/* The right n, and wrong ones. From 256 on they would be right, or would give
-   an array of the right length, if they were shortened or could wrap. */
-static struct values sides(size_t n)
+/* The right rows or columns, and wrong ones. From 256 on they would be right,
+   or would give an array of the right length, if they were shortened or could
+   wrap. */
+static struct values sides(size_t side)
 {
     const struct values v = { 14, {
-        n, 0, 1, 16, 17, 255,
-        n + 256, n + 65536, n + TWO_TO(32), n + TWO_TO(63),
-        TWO_TO(32) - 1,   /* (n+1)^2 wraps to 0 */
-        SIZE_MAX - n - 1, /* (n+1)^2 wraps to the right number */
+        side, 0, 1, 16, 17, 255,
+        side + 256, side + 65536, side + TWO_TO(32), side + TWO_TO(63),
+        TWO_TO(32) - 1,      /* rows and columns: 0 disks */
+        SIZE_MAX - side - 1, /* rows and columns: the right number of disks */
         SIZE_MAX - 1, SIZE_MAX
     } };
 
+    return v;
+}
+
+/* The same for columns. Beside wrong rows only the wrong columns of the same
+   line above, so that numbers that wrap together are tried together. */
+static struct values columns_beside(struct size s, size_t rows)
+{
+    struct values v = sides(s.columns), of_rows = sides(s.rows);
+    size_t k = 0;
+
+    if (rows == s.rows)
+        return v;
+    while (of_rows.value[k] != rows)
+        k++;
+    v.value[1] = v.value[k];
+    v.count = 2;
     return v;
 }
 
@@ -145,21 +161,22 @@ static struct values lengths(size_t right)
 
 /* The first and the last of each kind of parity disk, then numbers that are
    outside of the grid. */
-static struct values parity_disks(size_t n)
+static struct values parity_disks(struct size s)
 {
     const struct values v = { 12, {
-        0, n, n * (n + 1) - 1, n * (n + 1), (n + 1) * (n + 1) - 2,
-        (n + 1) * (n + 1) - 1, (n + 1) * (n + 1), 256, 65536,
+        0, disk_at(s, 0, s.columns), disk_at(s, s.rows - 1, s.columns),
+        disk_at(s, s.rows, 0), disk_at(s, s.rows, s.columns - 1),
+        disk_at(s, s.rows, s.columns), disks_of(s), 256, 65536,
         TWO_TO(32), TWO_TO(63), SIZE_MAX
     } };
 
     return v;
 }
 
-static struct values no_disks(size_t n)
+static struct values no_disks(struct size s)
 {
     const struct values v = { 7, {
-        0, (n + 1) * (n + 1), 256, 65536, TWO_TO(32), TWO_TO(63), SIZE_MAX
+        0, disks_of(s), 256, 65536, TWO_TO(32), TWO_TO(63), SIZE_MAX
     } };
 
     return v;
@@ -190,36 +207,39 @@ static struct values numbered(size_t wrong)
     return v;
 }
 
-/* The length that fits n and block, as numbers that wrap give it; where so
-   much can't be lent, the one that fits the size the call started from. */
+/* The length that fits rows, columns and block, as numbers that wrap give it;
+   where so much can't be lent, the one that fits the size the call started
+   from. */
 static size_t fitting(const struct arguments *a, size_t block, size_t base)
 {
-    size_t across = a->of[SIDE] + 1;
-    size_t length = across * across * block;
+    size_t length = (a->of[ROWS] + 1) * (a->of[COLUMNS] + 1) * block;
 
-    return length <= LENDABLE ? length : (a->n + 1) * (a->n + 1) * base;
+    return length <= LENDABLE ? length : disks_of(a->size) * base;
 }
 
 static struct values values_of(enum argument argument,
                                const struct arguments *a)
 {
     switch (argument) {
-    case SIDE:
-        return sides(a->n);
+    case ROWS:
+        return sides(a->size.rows);
+    case COLUMNS:
+        return columns_beside(a->size, a->of[ROWS]);
     case BLOCK:
-        return blocks(a->block);
+        return blocks(a->size.block);
     case ARRAY_LENGTH:
-        return lengths(fitting(a, a->of[BLOCK], a->block));
+        return lengths(fitting(a, a->of[BLOCK], a->size.block));
     case PARITY_DISK:
-        return parity_disks(a->n);
+        return parity_disks(a->size);
     case DATA_LENGTH:
-        return lengths(a->of[BLOCK] <= LENDABLE ? a->of[BLOCK] : a->block);
+        return lengths(a->of[BLOCK] <= LENDABLE ? a->of[BLOCK]
+                                                : a->size.block);
     case MAP_LENGTH:
         return lengths(fitting(a, 1, 1));
     case MAP_BYTE:
         return map_bytes(a->of[MAP_LENGTH]);
     case NO_DISK:
-        return no_disks(a->n);
+        return no_disks(a->size);
     case SHEET_LENGTH:
         return lengths(RAID2D_SHEET_BYTES);
     case CHAIN:
@@ -234,43 +254,46 @@ static struct values values_of(enum argument argument,
 }
 
 /* Erases a disk and puts arbitrary bytes there, where the buffers have it. */
-static void lose(struct call *c, const struct arguments *a, size_t disk)
+static void lose(struct call *c, struct size s, size_t r, size_t k)
 {
+    size_t disk = disk_at(s, r, k);
+
     if (disk < c->map.len)
         c->map.bytes[disk] = 1;
-    if (disk < c->array.len / a->block)
-        fill(c->array.bytes + disk * a->block, a->block);
+    if (disk < c->array.len / s.block)
+        fill(c->array.bytes + disk * s.block, s.block);
 }
 
 /* A change on a survivor in row 1, the same there and on another survivor of
    the row, or the same there and on another survivor of the column. */
 static void damage(struct call *c, const struct arguments *a)
 {
-    size_t place = a->block - 1;
+    struct size s = a->size;
+    size_t place = s.block - 1;
 
-    *cell(c->array.bytes, a->n, a->block, 1, 1, place) ^= 64;
+    *cell(c->array.bytes, s, 1, 1, place) ^= 64;
     if (a->of[DAMAGE] == 2)
-        *cell(c->array.bytes, a->n, a->block, 1, a->n, place) ^= 64;
+        *cell(c->array.bytes, s, 1, s.columns, place) ^= 64;
     if (a->of[DAMAGE] == 3)
-        *cell(c->array.bytes, a->n, a->block, a->n, 1, place) ^= 64;
+        *cell(c->array.bytes, s, s.rows, 1, place) ^= 64;
 }
 
 /* What plan, rebuild and follow are tried on: a sealed array that has lost
    disk 1, or the four corners of the grid, which is fatal. */
 static void prepare_loss(struct call *c, const struct arguments *a)
 {
-    size_t last_row = a->n * (a->n + 1);
-    int fits = c->array.len == RAID2D_ARRAY_BYTES(a->n, a->block);
+    struct size s = a->size;
+    int fits = c->array.len == disks_of(s) * s.block;
 
     if (fits)
-        define_parities(c->array.bytes, a->n, a->block);
+        define_parities(c->array.bytes, s);
     if (a->of[LOSS]) {
-        lose(c, a, 0);
-        lose(c, a, a->n);
-        lose(c, a, last_row);
-        lose(c, a, last_row + a->n);
+        lose(c, s, 0, 0);
+        lose(c, s, 0, s.columns);
+        lose(c, s, s.rows, 0);
+        lose(c, s, s.rows, s.columns);
     } else {
-        lose(c, a, 1);
+        lose(c, s, 0, 1);
     }
     if (fits && a->of[DAMAGE])
         damage(c, a);
@@ -302,16 +325,15 @@ static void prepare_sheet(struct call *c, const struct arguments *a)
 /* With 6 the sheet lists the corners; with 7 the erased disk 1 is zero, and
    the sheet but for follow. Returns what the out-parameter is expected to
    be. */
-static size_t expect_refusal(struct call *c, const struct arguments *a,
-                             size_t status)
+static size_t expect_refusal(struct call *c, struct size s, size_t status)
 {
-    uint8_t n = (uint8_t)a->n, last_row = (uint8_t)(n * (n + 1));
+    uint8_t rows = (uint8_t)s.rows, columns = (uint8_t)s.columns;
     const uint8_t corners[] = {
         2, 1,
         0, 0, 2,
-        n, (uint8_t)(16 + n), 3,
-        (uint8_t)(last_row + n), n, 4,
-        last_row, 16, 0
+        columns, (uint8_t)(16 + columns), 3,
+        (uint8_t)disk_at(s, s.rows, s.columns), rows, 4,
+        (uint8_t)disk_at(s, s.rows, 0), 16, 0
     };
 
     if ((status == 6 || status == 7) && c->function != FOLLOW)
@@ -319,15 +341,16 @@ static size_t expect_refusal(struct call *c, const struct arguments *a,
     if (status == 6)
         memcpy(c->sheet.expected, corners, sizeof corners);
     if (status == 7)
-        memset(c->array.expected + c->block, 0, c->block);
+        memset(c->array.expected + s.block, 0, s.block);
     return status == 6 ? 4 : OUT_BEFORE;
 }
 
 static struct call call_with(enum function function, const struct arguments *a)
 {
-    struct call c = new_call(function, a->of[SIDE], a->of[BLOCK],
-                             a->of[ARRAY_LENGTH], a->of[MAP_LENGTH],
-                             a->of[DATA_LENGTH], a->of[SHEET_LENGTH]);
+    const struct size size = { a->of[ROWS], a->of[COLUMNS], a->of[BLOCK] };
+    struct call c = new_call(function, size, a->of[ARRAY_LENGTH],
+                             a->of[MAP_LENGTH], a->of[DATA_LENGTH],
+                             a->of[SHEET_LENGTH]);
 
     c.disk = function == WRITE ? a->of[PARITY_DISK] : a->of[NO_DISK];
     if (a->of[ERASED] && c.disk < c.map.len)
@@ -347,14 +370,21 @@ static void try_call(const struct tests *t, const struct arguments *a,
                      size_t wrong, size_t status)
 {
     struct call c = call_with(t->function, a);
-    size_t accepted = t->function == LOOK ? a->block : t->accepted;
+    size_t accepted = t->function == LOOK ? a->size.block : t->accepted;
 
     if (wrong > 0)
-        expect_run(&c, status, expect_refusal(&c, a, status), "refusal");
+        expect_run(&c, status, expect_refusal(&c, a->size, status), "refusal");
     else
-        expect(run(&c) == accepted, "call %d with nothing wrong",
-               (int)t->function);
+        expect(run(&c) == accepted,
+               "call %d with nothing wrong, %zu rows, %zu columns",
+               (int)t->function, c.size.rows, c.size.columns);
     end_call(&c);
+}
+
+/* How many are wrong with one more: columns count with rows that are wrong. */
+static size_t count_wrong(enum argument argument, size_t wrong)
+{
+    return argument == COLUMNS ? 1 : wrong + 1;
 }
 
 /* Tries the call with each value of its arguments from number i on, so that
@@ -362,6 +392,7 @@ static void try_call(const struct tests *t, const struct arguments *a,
 static void try_from(const struct tests *t, size_t i, struct arguments a,
                      size_t wrong, size_t status)
 {
+    enum argument argument;
     struct values v;
     size_t k;
 
@@ -369,70 +400,108 @@ static void try_from(const struct tests *t, size_t i, struct arguments a,
         try_call(t, &a, wrong, status);
         return;
     }
-    v = values_of(t->test[i].argument, &a);
-    a.of[t->test[i].argument] = v.value[0];
+    argument = t->test[i].argument;
+    v = values_of(argument, &a);
+    a.of[argument] = v.value[0];
     try_from(t, i + 1, a, wrong, status);
     for (k = 1; k < v.count && wrong < 2; k++) {
-        a.of[t->test[i].argument] = v.value[k];
-        try_from(t, i + 1, a, wrong + 1,
+        a.of[argument] = v.value[k];
+        try_from(t, i + 1, a, count_wrong(argument, wrong),
                  wrong == 0 ? t->test[i].status : status);
     }
 }
 
-static void one_and_two_wrong(size_t n, size_t block)
+static void one_and_two_wrong(struct size size)
 {
-    struct arguments start = { { 0 }, 0, 0 };
+    struct arguments start = { { 0 }, { 0, 0, 0 } };
     size_t i;
 
-    start.n = n;
-    start.block = block;
+    start.size = size;
     for (i = 0; i < sizeof tests / sizeof tests[0]; i++)
         try_from(&tests[i], 0, start, 0, 0);
 }
 
-/* All calls with the same sizes. They refuse with the status, but look, which
-   returns 0. Plan takes no block: it is called where n is wrong. */
-static void all_refuse(size_t n, size_t block, size_t array_len,
-                       size_t status, const char *what)
+/* A size of which one number is wrong, or more, and lengths that would fit it
+   if numbers were shortened or could wrap. */
+struct wrapped {
+    const char *what;
+    struct size size;
+    size_t disks, array_len, status;
+};
+
+/* All calls with the same size. They refuse with the status, but look, which
+   returns 0. Plan takes no block: it is called where a side is wrong. */
+static void all_refuse(const struct wrapped *w, struct size size)
 {
     const enum function functions[] = {
         SEAL, CHECK, WRITE, LOOK, REBUILD, FOLLOW, PLAN
     };
     size_t i;
 
-    for (i = 0; i < (status == 1 ? 7 : 6); i++) {
-        struct call c = new_call(functions[i], n, block, array_len, 9, 1,
-                                 RAID2D_SHEET_BYTES);
+    for (i = 0; i < (w->status == 1 ? 7 : 6); i++) {
+        struct call c = new_call(functions[i], size, w->array_len, w->disks,
+                                 1, RAID2D_SHEET_BYTES);
 
-        expect_run(&c, functions[i] == LOOK ? 0 : status, OUT_BEFORE, what);
+        expect_run(&c, functions[i] == LOOK ? 0 : w->status, OUT_BEFORE,
+                   w->what);
         end_call(&c);
     }
 }
 
-/* Sizes whose (n+1)^2 * block, taken modulo 2^64, is the length passed. */
+/* These times 3 and times 9 are 1 modulo 2^64. */
+#define THIRD ((size_t)UINT64_C(0xaaaaaaaaaaaaaaab))
+#define NINTH ((size_t)UINT64_C(0x8e38e38e38e38e39))
+
+static const struct wrapped wrapped[] = {
+    { "0 rows in all", { SIZE_MAX, 2, 1 }, 0, 0, 1 },
+    { "0 rows in all", { SIZE_MAX, 15, 4096 }, 0, 0, 1 },
+    { "0 rows, 0 columns", { SIZE_MAX, SIZE_MAX, 1 }, 0, 0, 1 },
+    { "-1 rows, -1 columns", { SIZE_MAX - 1, SIZE_MAX - 1, 7 }, 1, 7, 1 },
+    { "-3 rows, -3 columns", { SIZE_MAX - 3, SIZE_MAX - 3, 1 }, 9, 9, 1 },
+    { "-3 rows, -4 columns", { SIZE_MAX - 3, SIZE_MAX - 4, 1 }, 12, 12, 1 },
+    { "3 + 2^63 rows", { TWO_TO(63) + 2, 3, 1 }, 12, 12, 1 },
+    { "3 + 2^60 rows", { TWO_TO(60) + 2, 15, 5 }, 48, 240, 1 },
+    { "3 + 2^63 rows and columns", { TWO_TO(63) + 2, TWO_TO(63) + 2, 1 },
+      9, 9, 1 },
+    { "2^60 rows", { TWO_TO(60) - 1, 15, 4096 }, 0, 0, 1 },
+    { "2^32 rows and columns", { TWO_TO(32) - 1, TWO_TO(32) - 1, 4096 },
+      0, 0, 1 },
+    { "ten thirds of a row", { 10 * THIRD - 1, 2, 1 }, 10, 10, 1 },
+    { "256 blocks of 2^56", { 15, 15, TWO_TO(56) }, 256, 0, 2 },
+    { "256 blocks of 2^56 + 1", { 15, 15, TWO_TO(56) + 1 }, 256, 256, 2 },
+    { "64 blocks of 2^58 + 3", { 7, 7, TWO_TO(58) + 3 }, 64, 192, 2 },
+    { "64 blocks of 2^58 + 3", { 3, 15, TWO_TO(58) + 3 }, 64, 192, 2 },
+    { "9 blocks of a ninth", { 2, 2, NINTH }, 9, 1, 2 },
+    { "9 blocks of ten ninths", { 2, 2, 10 * NINTH }, 9, 10, 2 },
+    { "12 blocks of a third", { 2, 3, THIRD }, 12, 4, 2 },
+    { "rows shortened to 8 bits", { 258, 2, 1 }, 9, 9, 1 },
+    { "rows shortened to 8 bits", { 258, 3, 1 }, 12, 12, 1 },
+    { "both shortened to 8 bits", { 258, 258, 1 }, 9, 9, 1 },
+    { "both shortened to 8 bits", { 258, 259, 1 }, 12, 12, 1 },
+    { "rows shortened to 32 bits", { TWO_TO(32) + 2, 2, 1 }, 9, 9, 1 },
+    { "rows shortened to 32 bits", { TWO_TO(32) + 2, 3, 1 }, 12, 12, 1 },
+    { "both shortened to 32 bits", { TWO_TO(32) + 2, TWO_TO(32) + 2, 1 },
+      9, 9, 1 },
+    { "block shortened to 32 bits", { 2, 2, TWO_TO(32) + 1 }, 9, 9, 2 },
+    { "block shortened to 32 bits", { 2, 3, TWO_TO(32) + 1 }, 12, 12, 2 }
+};
+
+/* The grid has one more row and one more column than are passed. Each size is
+   passed as it stands, and with rows and columns exchanged. */
 static void lengths_that_wrap(void)
 {
-    /* 9 times this is 1 modulo 2^64. */
-    const size_t ninth = (size_t)UINT64_C(0x8e38e38e38e38e39);
+    size_t i;
 
-    all_refuse(SIZE_MAX, 1, 0, 1, "n+1 is 0");
-    all_refuse(SIZE_MAX, 4096, 0, 1, "n+1 is 0");
-    all_refuse(SIZE_MAX - 1, 7, 7, 1, "n+1 is -1");
-    all_refuse(SIZE_MAX - 3, 1, 9, 1, "n+1 is -3");
-    all_refuse(TWO_TO(63) + 2, 1, 9, 1, "n+1 is 3 + 2^63");
-    all_refuse(TWO_TO(32) - 1, 4096, 0, 1, "n+1 is 2^32");
-    all_refuse(15, TWO_TO(56), 0, 2, "256 blocks of 2^56");
-    all_refuse(15, TWO_TO(56) + 1, 256, 2, "256 blocks of 2^56 + 1");
-    all_refuse(7, TWO_TO(58) + 3, 192, 2, "64 blocks of 2^58 + 3");
-    all_refuse(2, ninth, 1, 2, "9 blocks of a ninth");
-    all_refuse(2, 10 * ninth, 10, 2, "9 blocks of ten ninths");
-    all_refuse(258, 1, 9, 1, "n shortened to 8 bits");
-    all_refuse(TWO_TO(32) + 2, 1, 9, 1, "n shortened to 32 bits");
-    all_refuse(2, TWO_TO(32) + 1, 9, 2, "block shortened to 32 bits");
+    for (i = 0; i < sizeof wrapped / sizeof wrapped[0]; i++) {
+        struct size s = wrapped[i].size;
+
+        all_refuse(&wrapped[i], s);
+        all_refuse(&wrapped[i], (struct size){ s.columns, s.rows, s.block });
+    }
 }
 
 /* A length of 0 is refused like any other, with NULL and without. */
-static void empty_buffers(void)
+static void empty_buffers(struct size size)
 {
     static const struct {
         enum function function;
@@ -445,7 +514,7 @@ static void empty_buffers(void)
 
     for (i = 0; i < sizeof calls / sizeof calls[0]; i++)
         for (null = 0; null < 2; null++) {
-            struct call c = new_call(calls[i].function, 2, 1, 0, 0, 0, 0);
+            struct call c = new_call(calls[i].function, size, 0, 0, 0, 0);
 
             if (!null) {
                 c.array.bytes = c.array.place;
@@ -460,9 +529,15 @@ static void empty_buffers(void)
 
 void test_refusals(void)
 {
-    one_and_two_wrong(2, 1);
-    one_and_two_wrong(3, 17);
-    one_and_two_wrong(15, 2);
+    static const struct size sizes[] = {
+        { 2, 2, 1 }, { 3, 3, 17 }, { 15, 15, 2 }, { 2, 3, 1 }, { 3, 2, 5 },
+        { 2, 15, 2 }, { 15, 2, 1 }
+    };
+    size_t i;
+
+    for (i = 0; i < sizeof sizes / sizeof sizes[0]; i++) {
+        one_and_two_wrong(sizes[i]);
+        empty_buffers(sizes[i]);
+    }
     lengths_that_wrap();
-    empty_buffers();
 }

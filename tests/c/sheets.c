@@ -1,13 +1,12 @@
 /*
- * What follow makes of sheets from elsewhere, with their exact bytes: n = 2,
- * block = 1, and the sealed array A of paper 01.
+ * What follow makes of sheets from elsewhere, with their exact bytes, on sealed
+ * arrays with one byte in a block: the array A of paper 01, one that is wider
+ * than high and one that is higher than wide.
  */
 #include <string.h>
 
 #include "raid2d.h"
 #include "suite.h"
-
-static const uint8_t sealed[9] = { 1, 2, 3, 4, 8, 12, 5, 10, 15 };
 
 /* What off the chain and on the erased disks counts for nothing. */
 #define NOTHING 201
@@ -16,14 +15,18 @@ static const uint8_t sealed[9] = { 1, 2, 3, 4, 8, 12, 5, 10, 15 };
 struct example {
     const char *what;
     size_t status, count;
-    uint8_t erased[9];
-    uint8_t begins[2 + 3 * 4];
+    const struct known *known;
+    uint8_t erased[12];
+    uint8_t begins[2 + 3 * 6];
     uint8_t record_32[3];
 };
 
-/* Disks 0, 2 and 6 are erased, as in case 3, or none, or others. */
-#define CASE_3 { 1, 0, 1, 0, 0, 0, 1, 0, 0 }
-#define NO_DISK { 0, 0, 0, 0, 0, 0, 0, 0, 0 }
+/* Disks 0, 2 and 6 of A are erased, as in case 3, or none; or row 0 and column
+   0 of another array; or others. */
+#define CASE_3 &array_a, { 1, 0, 1, 0, 0, 0, 1, 0, 0 }
+#define NO_DISK &array_a, { 0, 0, 0, 0, 0, 0, 0, 0, 0 }
+#define WIDE_CROSS &array_wide, { 1, 1, 1, 1, 1, 0, 0, 0, 1, 0, 0, 0 }
+#define HIGH_CROSS &array_high, { 1, 1, 1, 1, 0, 0, 1, 0, 0, 1, 0, 0 }
 
 static const struct example examples[] = {
     { "case 3's sheet", 0, 3, CASE_3,
@@ -67,21 +70,72 @@ static const struct example examples[] = {
       { 1, 1, 2, 18, 2, 0, 0, 3, 6, 2, 4, 6, 2, 0 }, { 0, 0, 0 } },
     { "a disk outside of the grid", 11, 0, CASE_3,
       { 1, 1, 9, 3, 2, 0, 0, 3, 6, 2, 0 }, { 0, 0, 0 } },
+    { "one more disk outside of the grid", 11, 0, CASE_3,
+      { 1, 1, 2, 18, 2, 0, 0, 3, 6, 2, 32 }, { 9, 3, 0 } },
     { "a disk left over", 11, 0, CASE_3,
       { 1, 1, 2, 18, 2, 0, 0, 0, 6, 2, 0 }, { 0, 0, 0 } },
     { "no repair for three disks", 11, 0, CASE_3, { 1, 0 }, { 0, 0, 0 } },
-    { "a fatal loss", 11, 0, { 1, 0, 1, 0, 0, 0, 1, 0, 1 },
-      { 1, 1, 2, 18, 2, 0, 0, 3, 6, 2, 4, 8, 2, 0 }, { 0, 0, 0 } }
+    { "a fatal loss", 11, 0, &array_a, { 1, 0, 1, 0, 0, 0, 1, 0, 1 },
+      { 1, 1, 2, 18, 2, 0, 0, 3, 6, 2, 4, 8, 2, 0 }, { 0, 0, 0 } },
+    { "2 by 3, plan's sheet", 0, 6, WIDE_CROSS,
+      { 1, 1, 1, 17, 2, 2, 18, 3, 3, 19, 4, 0, 0, 5, 4, 1, 6, 8, 2, 0 },
+      { 0, 0, 0 } },
+    { "2 by 3, another order", 0, 6, WIDE_CROSS,
+      { 1, 32, 4, 1, 2, 0, 16, 3, 1, 17, 4, 2, 18, 5, 3, 0, 0 },
+      { 8, 2, 1 } },
+    { "2 by 3, a column for each disk of row 0", 0, 4,
+      &array_wide, { 1, 1, 1, 1, 0, 0, 0, 0, 0, 0, 0, 0 },
+      { 1, 1, 3, 19, 2, 2, 18, 3, 1, 17, 4, 0, 16, 0 }, { 0, 0, 0 } },
+    { "2 by 3, the column beside the disk's", 11, 0, WIDE_CROSS,
+      { 1, 1, 1, 17, 2, 2, 19, 3, 3, 19, 4, 0, 0, 5, 4, 1, 6, 8, 2, 0 },
+      { 0, 0, 0 } },
+    { "2 by 3, a row that is not there", 11, 0, WIDE_CROSS,
+      { 1, 1, 1, 17, 2, 2, 18, 3, 3, 19, 4, 0, 0, 5, 4, 1, 6, 8, 3, 0 },
+      { 0, 0, 0 } },
+    { "2 by 3, a column that is not there", 11, 0, WIDE_CROSS,
+      { 1, 1, 1, 17, 2, 2, 18, 3, 3, 20, 4, 0, 0, 5, 4, 1, 6, 8, 2, 0 },
+      { 0, 0, 0 } },
+    { "2 by 3, one more disk outside of the grid", 11, 0, WIDE_CROSS,
+      { 1, 1, 1, 17, 2, 2, 18, 3, 3, 19, 4, 0, 0, 5, 4, 1, 6, 8, 2, 32 },
+      { 12, 3, 0 } },
+    { "2 by 3, a disk left over", 11, 0, WIDE_CROSS,
+      { 1, 1, 1, 17, 2, 2, 18, 3, 3, 19, 4, 0, 0, 5, 4, 1, 0, 8, 2, 0 },
+      { 0, 0, 0 } },
+    { "3 by 2, plan's sheet", 0, 6, HIGH_CROSS,
+      { 1, 1, 1, 17, 2, 2, 18, 3, 0, 0, 4, 3, 1, 5, 6, 2, 6, 9, 3, 0 },
+      { 0, 0, 0 } },
+    { "3 by 2, another order", 0, 6, HIGH_CROSS,
+      { 1, 32, 6, 2, 2, 3, 1, 3, 0, 16, 4, 1, 17, 5, 2, 0, 0 },
+      { 9, 3, 1 } },
+    { "3 by 2, a row for each disk of column 0", 0, 4,
+      &array_high, { 1, 0, 0, 1, 0, 0, 1, 0, 0, 1, 0, 0 },
+      { 1, 1, 9, 3, 2, 6, 2, 3, 3, 1, 4, 0, 0, 0 }, { 0, 0, 0 } },
+    { "3 by 2, the row below the disk's", 11, 0, HIGH_CROSS,
+      { 1, 1, 1, 17, 2, 2, 18, 3, 0, 0, 4, 3, 1, 5, 6, 3, 6, 9, 3, 0 },
+      { 0, 0, 0 } },
+    { "3 by 2, a row that is not there", 11, 0, HIGH_CROSS,
+      { 1, 1, 1, 17, 2, 2, 18, 3, 0, 0, 4, 3, 1, 5, 6, 2, 6, 9, 4, 0 },
+      { 0, 0, 0 } },
+    { "3 by 2, a column that is not there", 11, 0, HIGH_CROSS,
+      { 1, 1, 1, 17, 2, 2, 19, 3, 0, 0, 4, 3, 1, 5, 6, 2, 6, 9, 3, 0 },
+      { 0, 0, 0 } },
+    { "3 by 2, one more disk outside of the grid", 11, 0, HIGH_CROSS,
+      { 1, 1, 1, 17, 2, 2, 18, 3, 0, 0, 4, 3, 1, 5, 6, 2, 6, 9, 3, 32 },
+      { 12, 4, 0 } },
+    { "3 by 2, a disk left over", 11, 0, HIGH_CROSS,
+      { 1, 1, 1, 17, 2, 2, 18, 3, 0, 0, 4, 3, 1, 5, 6, 2, 0, 9, 3, 0 },
+      { 0, 0, 0 } }
 };
 
 static struct call call_of(const struct example *e)
 {
-    struct call c = fitting_call(FOLLOW, 2, 1);
+    struct call c = fitting_call(FOLLOW, e->known->size);
     size_t disk;
 
-    memcpy(c.map.bytes, e->erased, 9);
-    for (disk = 0; disk < 9; disk++)
-        c.array.bytes[disk] = e->erased[disk] ? NOTHING : sealed[disk];
+    memcpy(c.map.bytes, e->erased, c.map.len);
+    for (disk = 0; disk < c.map.len; disk++)
+        c.array.bytes[disk] =
+            e->erased[disk] ? NOTHING : e->known->sealed[disk];
     memset(c.sheet.bytes, NOTHING, c.sheet.len);
     memcpy(c.sheet.bytes, e->begins, sizeof e->begins);
     memcpy(c.sheet.bytes + 95, e->record_32, sizeof e->record_32);
@@ -94,9 +148,16 @@ static void run_example(const struct example *e)
     struct call c = call_of(e);
 
     if (e->status == 0)
-        memcpy(c.array.expected, sealed, 9);
+        memcpy(c.array.expected, e->known->sealed, c.array.len);
     expect_run(&c, e->status, e->status == 0 ? e->count : OUT_BEFORE, e->what);
     end_call(&c);
+}
+
+/* With the most disks erased that can be repaired, no survivors contradict each
+   other. */
+static int can_contradict(const struct example *e)
+{
+    return e->status == 0 && e->count < most_repairs(e->known->size);
 }
 
 /* A sheet that can be followed, on survivors that contradict each other. */
@@ -106,7 +167,7 @@ static void run_contradiction(const struct example *e)
     size_t disk;
 
     c.array.bytes[4] = c.array.expected[4] = 9;
-    for (disk = 0; disk < 9; disk++)
+    for (disk = 0; disk < c.map.len; disk++)
         if (e->erased[disk])
             c.array.expected[disk] = 0;
     expect_run(&c, 7, OUT_BEFORE, e->what);
@@ -119,7 +180,7 @@ void test_sheets(void)
 
     for (i = 0; i < sizeof examples / sizeof examples[0]; i++) {
         run_example(&examples[i]);
-        if (examples[i].status == 0)
+        if (can_contradict(&examples[i]))
             run_contradiction(&examples[i]);
     }
 }

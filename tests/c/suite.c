@@ -15,6 +15,16 @@
 #include "raid2d.h"
 #include "suite.h"
 
+const struct known array_a = {
+    { 2, 2, 1 }, { 1, 2, 3, 4, 8, 12, 5, 10, 15 }
+};
+const struct known array_wide = {
+    { 2, 3, 1 }, { 1, 2, 4, 7, 8, 16, 32, 56, 9, 18, 36, 63 }
+};
+const struct known array_high = {
+    { 3, 2, 1 }, { 1, 8, 9, 2, 16, 18, 4, 32, 36, 7, 56, 63 }
+};
+
 /* Bytes in a guard. An odd number, so that no buffer is aligned; the
    out-parameter has to be. */
 #define GUARD 61
@@ -90,6 +100,27 @@ static int has_fence(void)
     return placement == BEFORE || placement == BEHIND;
 }
 
+/* Small fenced memory is kept for the next calls: to map it takes longer than
+   most calls do. */
+#define SMALL 4096
+#define SPARES 8
+
+static struct fenced spare[SPARES];
+static size_t spares;
+
+static struct fenced take_fenced(size_t least)
+{
+    return least <= SMALL && spares > 0 ? spare[--spares] : make_fenced(least);
+}
+
+static void leave_fenced(struct fenced *f)
+{
+    if (f->room == SMALL && spares < SPARES)
+        spare[spares++] = *f;
+    else
+        end_fenced(f);
+}
+
 static struct lent lend(size_t len, size_t guard)
 {
     size_t before = placement == GUARDS || placement == BEFORE ? guard : 0;
@@ -99,7 +130,7 @@ static struct lent lend(size_t len, size_t guard)
     l.len = len;
     l.memory_len = before + len + after;
     if (has_fence()) {
-        l.fenced = make_fenced(l.memory_len);
+        l.fenced = take_fenced(l.memory_len);
         l.memory = l.fenced.pages;
         if (placement == BEFORE)
             l.memory += l.fenced.room - l.memory_len;
@@ -129,7 +160,7 @@ static int lent_is_as_expected(const struct lent *l)
 static void end_lent(struct lent *l)
 {
     if (has_fence())
-        end_fenced(&l->fenced);
+        leave_fenced(&l->fenced);
     else
         free(l->memory);
     free(l->expected_memory);
@@ -148,15 +179,14 @@ static void clear_map(struct lent *map)
         memset(low, 0, (size_t)(high - low));
 }
 
-struct call new_call(enum function function, size_t n, size_t block,
+struct call new_call(enum function function, struct size size,
                      size_t array_len, size_t map_len, size_t data_len,
                      size_t sheet_len)
 {
     struct call c;
 
     c.function = function;
-    c.n = n;
-    c.block = block;
+    c.size = size;
     c.disk = 0;
     c.array = lend(array_len, GUARD);
     c.map = lend(map_len, GUARD);
@@ -168,51 +198,89 @@ struct call new_call(enum function function, size_t n, size_t block,
     return c;
 }
 
-struct call fitting_call(enum function function, size_t n, size_t block)
+struct call fitting_call(enum function function, struct size size)
 {
-    return new_call(function, n, block, (n + 1) * (n + 1) * block,
-                    (n + 1) * (n + 1), block, RAID2D_SHEET_BYTES);
+    size_t disks = disks_of(size);
+
+    return new_call(function, size, disks * size.block, disks, size.block,
+                    RAID2D_SHEET_BYTES);
 }
 
-struct call sealed_call(enum function function, size_t n, size_t block)
+struct call sealed_call(enum function function, struct size size)
 {
-    struct call c = fitting_call(function, n, block);
+    struct call c = fitting_call(function, size);
 
-    define_parities(c.array.bytes, n, block);
+    define_parities(c.array.bytes, size);
     expect_as_now(&c);
     return c;
 }
 
-uint8_t *cell(uint8_t *array, size_t n, size_t block,
-              size_t r, size_t c, size_t place)
+size_t disks_of(struct size size)
 {
-    return &array[(r * (n + 1) + c) * block + place];
+    return (size.rows + 1) * (size.columns + 1);
 }
 
-static void add_block(uint8_t *sum, const uint8_t *bytes, size_t block)
+size_t most_repairs(struct size size)
 {
+    return size.rows + size.columns + 1;
+}
+
+size_t disk_at(struct size size, size_t r, size_t c)
+{
+    return r * (size.columns + 1) + c;
+}
+
+uint8_t *cell(uint8_t *array, struct size size, size_t r, size_t c,
+              size_t place)
+{
+    return &array[disk_at(size, r, c) * size.block + place];
+}
+
+void add_block(uint8_t *sum, const uint8_t *bytes, size_t block)
+{
+    const size_t word = sizeof(uint64_t);
     size_t place;
 
-    for (place = 0; place < block; place++)
+    for (place = 0; place + word <= block; place += word) {
+        uint64_t old, added;
+
+        memcpy(&old, sum + place, word);
+        memcpy(&added, bytes + place, word);
+        old ^= added;
+        memcpy(sum + place, &old, word);
+    }
+    for (; place < block; place++)
         sum[place] ^= bytes[place];
 }
 
+static int is_data(struct size s, size_t disk)
+{
+    return disk < disk_at(s, s.rows, 0)
+           && disk % (s.columns + 1) < s.columns;
+}
+
+static void clear_parities(uint8_t *array, struct size s)
+{
+    size_t disk;
+
+    for (disk = 0; disk < disks_of(s); disk++)
+        if (!is_data(s, disk))
+            memset(array + disk * s.block, 0, s.block);
+}
+
 /* The superparity is the sum of all data. */
-void define_parities(uint8_t *array, size_t n, size_t block)
+void define_parities(uint8_t *array, struct size s)
 {
     size_t r, c;
 
-    for (r = 0; r <= n; r++) {
-        memset(cell(array, n, block, r, n, 0), 0, block);
-        memset(cell(array, n, block, n, r, 0), 0, block);
-    }
-    for (r = 0; r < n; r++)
-        for (c = 0; c < n; c++) {
-            const uint8_t *data = cell(array, n, block, r, c, 0);
+    clear_parities(array, s);
+    for (r = 0; r < s.rows; r++)
+        for (c = 0; c < s.columns; c++) {
+            const uint8_t *data = cell(array, s, r, c, 0);
 
-            add_block(cell(array, n, block, r, n, 0), data, block);
-            add_block(cell(array, n, block, n, c, 0), data, block);
-            add_block(cell(array, n, block, n, n, 0), data, block);
+            add_block(cell(array, s, r, s.columns, 0), data, s.block);
+            add_block(cell(array, s, s.rows, c, 0), data, s.block);
+            add_block(cell(array, s, s.rows, s.columns, 0), data, s.block);
         }
 }
 
@@ -227,61 +295,49 @@ void expect_as_now(struct call *c)
 
 static size_t call_library(struct call *c, size_t *out)
 {
+    size_t rows = c->size.rows, columns = c->size.columns;
+    size_t block = c->size.block;
+
     switch (c->function) {
     case SEAL:
-        return raid2d_seal(c->n, c->block, c->array.bytes, c->array.len);
+        return raid2d_seal(rows, columns, block, c->array.bytes, c->array.len);
     case CHECK:
-        return raid2d_check(c->n, c->block, c->array.bytes, c->array.len,
-                            out);
+        return raid2d_check(rows, columns, block, c->array.bytes,
+                            c->array.len, out);
     case WRITE:
-        return raid2d_write(c->n, c->block, c->array.bytes, c->array.len,
-                            c->disk, c->data.bytes, c->data.len);
+        return raid2d_write(rows, columns, block, c->array.bytes,
+                            c->array.len, c->disk, c->data.bytes, c->data.len);
     case LOOK:
-        return raid2d_look(c->n, c->block, c->array.bytes, c->array.len,
+        return raid2d_look(rows, columns, block, c->array.bytes, c->array.len,
                            c->map.bytes, c->map.len, c->disk, out);
     case PLAN:
-        return raid2d_plan(c->n, c->map.bytes, c->map.len, c->sheet.bytes,
-                           c->sheet.len, out);
+        return raid2d_plan(rows, columns, c->map.bytes, c->map.len,
+                           c->sheet.bytes, c->sheet.len, out);
     case REBUILD:
-        return raid2d_rebuild(c->n, c->block, c->array.bytes, c->array.len,
-                              c->map.bytes, c->map.len, c->sheet.bytes,
-                              c->sheet.len, out);
+        return raid2d_rebuild(rows, columns, block, c->array.bytes,
+                              c->array.len, c->map.bytes, c->map.len,
+                              c->sheet.bytes, c->sheet.len, out);
     default:
-        return raid2d_follow(c->n, c->block, c->array.bytes, c->array.len,
-                             c->map.bytes, c->map.len, c->sheet.bytes,
-                             c->sheet.len, out);
+        return raid2d_follow(rows, columns, block, c->array.bytes,
+                             c->array.len, c->map.bytes, c->map.len,
+                             c->sheet.bytes, c->sheet.len, out);
     }
 }
 
-static void allow(const struct lent *l, int writes)
-{
-    if (writes)
-        allow_writes(&l->fenced);
-    else
-        forbid_writes(&l->fenced);
-}
-
-/* With a fence, what the function may not write is protected. */
-static void protect(const struct call *c)
+/* With a fence, sets the access to what the function may not write. */
+static void set_access(const struct call *c,
+                       void (*set)(const struct fenced *fenced))
 {
     enum function f = c->function;
 
     if (!has_fence())
         return;
-    allow(&c->array, f == SEAL || f == WRITE || f == REBUILD || f == FOLLOW);
-    allow(&c->map, 0);
-    allow(&c->data, 0);
-    allow(&c->sheet, f == PLAN || f == REBUILD);
-}
-
-static void end_protection(const struct call *c)
-{
-    if (!has_fence())
-        return;
-    allow(&c->array, 1);
-    allow(&c->map, 1);
-    allow(&c->data, 1);
-    allow(&c->sheet, 1);
+    if (f == CHECK || f == LOOK || f == PLAN)
+        set(&c->array.fenced);
+    set(&c->map.fenced);
+    set(&c->data.fenced);
+    if (f != PLAN && f != REBUILD)
+        set(&c->sheet.fenced);
 }
 
 size_t run(struct call *c)
@@ -289,9 +345,9 @@ size_t run(struct call *c)
     size_t before = OUT_BEFORE, result;
 
     memcpy(c->out.bytes, &before, sizeof before);
-    protect(c);
+    set_access(c, forbid_writes);
     result = call_library(c, (size_t *)(void *)c->out.bytes);
-    end_protection(c);
+    set_access(c, allow_writes);
     return result;
 }
 
@@ -308,12 +364,13 @@ void expect_run(struct call *c, size_t result, size_t out, const char *what)
     memcpy(&actual_out, c->out.bytes, sizeof actual_out);
     memcpy(c->out.expected, &out, sizeof out);
     expect(actual == result && lent_is_as_expected(&c->out) && bytes,
-           "%s: %s with n %zu, block %zu, disk %zu, lengths %zu (array), "
-           "%zu (map), %zu (data), %zu (sheet): result %zu for %zu, "
-           "out-parameter %zu for %zu, bytes %s",
-           what, names[c->function], c->n, c->block, c->disk, c->array.len,
-           c->map.len, c->data.len, c->sheet.len, actual, result, actual_out,
-           out, bytes ? "as expected" : "NOT as expected");
+           "%s: %s with %zu rows, %zu columns, block %zu, disk %zu, lengths "
+           "%zu (array), %zu (map), %zu (data), %zu (sheet): result %zu for "
+           "%zu, out-parameter %zu for %zu, bytes %s",
+           what, names[c->function], c->size.rows, c->size.columns,
+           c->size.block, c->disk, c->array.len, c->map.len, c->data.len,
+           c->sheet.len, actual, result, actual_out, out,
+           bytes ? "as expected" : "NOT as expected");
 }
 
 void end_call(struct call *c)
@@ -323,6 +380,41 @@ void end_call(struct call *c)
     end_lent(&c->data);
     end_lent(&c->sheet);
     end_lent(&c->out);
+}
+
+/* Every length at squares and at the two sizes that are the least square; else
+   one in six, in turn. */
+static int is_tried(size_t rows, size_t columns, size_t length)
+{
+    size_t most = RAID2D_SIDE_MAX - RAID2D_SIDE_MIN;
+
+    return rows == columns || rows == columns + most || columns == rows + most
+           || (rows + columns + length) % 6 == 0;
+}
+
+static void at_every_length(void (*test)(struct size size), size_t rows,
+                            size_t columns)
+{
+    static const size_t blocks[] = {
+        1, 2, 15, 16, 17, 127, 128, 129, 255, 256, 4095, 4096
+    };
+    size_t i;
+
+    for (i = 0; i < sizeof blocks / sizeof blocks[0]; i++)
+        if (is_tried(rows, columns, i)) {
+            const struct size size = { rows, columns, blocks[i] };
+
+            test(size);
+        }
+}
+
+void at_every_size(void (*test)(struct size size))
+{
+    size_t rows, columns;
+
+    for (rows = RAID2D_SIDE_MIN; rows <= RAID2D_SIDE_MAX; rows++)
+        for (columns = RAID2D_SIDE_MIN; columns <= RAID2D_SIDE_MAX; columns++)
+            at_every_length(test, rows, columns);
 }
 
 /* Where lent bytes are to stand, by the argument. */

@@ -25,13 +25,30 @@ struct lent {
     struct fenced fenced;
 };
 
+/* What an array's size is made of: data rows, data columns and the bytes in a
+   block. */
+struct size {
+    size_t rows, columns, block;
+};
+
+/* A size with one byte in a block, and a sealed array of it. */
+struct known {
+    struct size size;
+    uint8_t sealed[12];
+};
+
+/* The array A of paper 01; one that is wider than high; and the same with its
+   rows for columns, so that it is higher than wide. */
+extern const struct known array_a, array_wide, array_high;
+
 enum function { SEAL, CHECK, WRITE, LOOK, PLAN, REBUILD, FOLLOW };
 
 /* A call: its numbers, what it is lent, and its out-parameter, a size_t that
    is lent too. Calls pass over what they have no parameter for. */
 struct call {
     enum function function;
-    size_t n, block, disk;
+    struct size size;
+    size_t disk;
     struct lent array, map, data, sheet, out;
 };
 
@@ -42,22 +59,29 @@ struct call {
 /* A call lent buffers of these lengths. The array, the data and the sheet are
    filled with arbitrary bytes, the same in every run; the map says that all
    disks are present. */
-struct call new_call(enum function function, size_t n, size_t block,
+struct call new_call(enum function function, struct size size,
                      size_t array_len, size_t map_len, size_t data_len,
                      size_t sheet_len);
 
-/* The same, with the lengths that n and block ask for. */
-struct call fitting_call(enum function function, size_t n, size_t block);
+/* The same, with the lengths that the size asks for. */
+struct call fitting_call(enum function function, struct size size);
 
 /* The same, on an array that is sealed by its definition. */
-struct call sealed_call(enum function function, size_t n, size_t block);
+struct call sealed_call(enum function function, struct size size);
 
-/* The byte at a place of the disk in row r and column c. */
-uint8_t *cell(uint8_t *array, size_t n, size_t block,
-              size_t r, size_t c, size_t place);
+/* The number of disks; how many of them can be restored at most; the number of
+   the disk in row r and column c; and the byte at a place of its block. */
+size_t disks_of(struct size size);
+size_t most_repairs(struct size size);
+size_t disk_at(struct size size, size_t r, size_t c);
+uint8_t *cell(uint8_t *array, struct size size, size_t r, size_t c,
+              size_t place);
+
+/* Adds a block to a sum. */
+void add_block(uint8_t *sum, const uint8_t *bytes, size_t block);
 
 /* Sets the parities of an array, straight from their definitions. */
-void define_parities(uint8_t *array, size_t n, size_t block);
+void define_parities(uint8_t *array, struct size size);
 
 /* Fills a buffer with arbitrary bytes, the same in every run. */
 void fill(uint8_t *bytes, size_t len);
@@ -76,6 +100,10 @@ size_t run(struct call *call);
 void expect_run(struct call *call, size_t result, size_t out, const char *what);
 
 void end_call(struct call *call);
+
+/* Runs a test at every number of rows and of columns, with block lengths on
+   both sides of what the library sums at a time. */
+void at_every_size(void (*test)(struct size size));
 
 /* The parts of the suite, one to a file. */
 void test_header(void);
