@@ -3,7 +3,8 @@
 
 #include "input.h"
 
-/* Numbers that are wrong for n, most of them right if they were shortened. */
+/* Numbers that are wrong for rows and columns, most of them right if they were
+   shortened. */
 static const size_t sides[] = {
     255, 256, 258, 271, (size_t)1 << 16 | 3, ((size_t)1 << 31 << 1) + 2,
     SIZE_MAX / 2 + 3, SIZE_MAX - 1, SIZE_MAX
@@ -70,15 +71,22 @@ static size_t changed_length(size_t length, uint8_t by)
     return length < 256u - by ? 0 : length - (256u - by);
 }
 
+static size_t small_side(size_t side)
+{
+    return side <= SIDE_CODES ? side : side % 16;
+}
+
 static void read_lengths(struct input *in, const uint8_t *head)
 {
     size_t disks;
 
-    in->n = side_of(head[AT_SIDE]);
-    in->side = in->n <= SIDE_CODES ? in->n : in->n % 16;
+    in->grid.rows = side_of(head[AT_ROWS]);
+    in->grid.columns = side_of(head[AT_COLUMNS]);
+    in->small.rows = small_side(in->grid.rows);
+    in->small.columns = small_side(in->grid.columns);
     in->block = block_of(head[AT_BLOCK]);
     in->block_len = in->block <= 4098 ? in->block : in->block % 4096;
-    disks = (in->side + 1) * (in->side + 1);
+    disks = disks_of(in->small);
     in->array_len = changed_length(disks * in->block_len, head[AT_ARRAY_LEN]);
     in->map_len = changed_length(disks, head[AT_MAP_LEN]);
     in->sheet_len = changed_length(98, head[AT_SHEET_LEN]);
@@ -104,23 +112,36 @@ void read_input(struct input *in, const uint8_t *data, size_t size)
     memcpy(in->map, all + AT_MAP, INPUT_MAX - AT_MAP);
 }
 
-/* Sets the parities at one byte place by their definitions. */
-static void seal_place(uint8_t *array, size_t n, size_t block, size_t place)
+/* The sum of so many bytes, each so far behind the one before. */
+static uint8_t sum_of(const uint8_t *bytes, size_t count, size_t step)
 {
-    size_t r, c, side = n + 1;
+    uint8_t sum = 0;
+    size_t i;
 
-#define CELL(r, c) array[((r) * side + (c)) * block + place]
-    for (r = 0; r <= n; r++) {
-        CELL(r, n) = 0;
-        CELL(n, r) = 0;
-    }
-    for (r = 0; r < n; r++)
-        for (c = 0; c < n; c++) {
-            CELL(r, n) ^= CELL(r, c);
-            CELL(n, c) ^= CELL(r, c);
-            CELL(n, n) ^= CELL(r, c);
-        }
-#undef CELL
+    for (i = 0; i < count; i++)
+        sum ^= bytes[i * step];
+    return sum;
+}
+
+/* Sets the parities at one byte place by their definitions: first the rows',
+   then the columns', and with the last column the superparity. */
+static void seal_place(uint8_t *array, struct grid g, size_t block,
+                       size_t place)
+{
+    size_t right = block, down = (g.columns + 1) * block, row, column;
+
+    array += place;
+    for (row = 0; row < g.rows; row++)
+        array[row * down + g.columns * right] =
+            sum_of(array + row * down, g.columns, right);
+    for (column = 0; column <= g.columns; column++)
+        array[g.rows * down + column * right] =
+            sum_of(array + column * right, g.rows, down);
+}
+
+size_t disk_around(struct grid g, size_t row, size_t column)
+{
+    return disk_at(g, row % (g.rows + 1), column % (g.columns + 1));
 }
 
 /* Changes one byte of a disk. Which place and how comes from the seed, so it
@@ -128,8 +149,7 @@ static void seal_place(uint8_t *array, size_t n, size_t block, size_t place)
 static void change(const struct input *in, uint8_t *array,
                    size_t row, size_t column)
 {
-    size_t side = in->side + 1;
-    size_t disk = row % side * side + column % side;
+    size_t disk = disk_around(in->small, row, column);
 
     array[disk * in->block_len + in->seed % in->block_len] ^=
         (uint8_t)(1u << in->seed % 8);
@@ -137,19 +157,20 @@ static void change(const struct input *in, uint8_t *array,
 
 static void damage(const struct input *in, uint8_t *array)
 {
-    size_t side = in->side + 1;
-    size_t row = in->disk / side, column = in->disk % side;
-    size_t down = 1 + in->seed % (side - 1);
+    size_t row = in->disk / (in->small.columns + 1);
+    size_t column = in->disk % (in->small.columns + 1);
+    size_t down = 1 + in->seed % in->small.rows;
+    size_t right = 1 + in->seed % in->small.columns;
 
     if (in->contents == SEALED || in->contents == ARBITRARY)
         return;
     change(in, array, row, column);
     if (in->contents == ROW_CHANGED || in->contents == CORNERS_CHANGED)
-        change(in, array, row, column + down);
+        change(in, array, row, column + right);
     if (in->contents == COLUMN_CHANGED || in->contents == CORNERS_CHANGED)
         change(in, array, row + down, column);
     if (in->contents == CORNERS_CHANGED)
-        change(in, array, row + down, column + down);
+        change(in, array, row + down, column + right);
 }
 
 /* Arbitrary bytes on the erased disks, others than before. */
@@ -165,14 +186,15 @@ static void spoil_erased(const struct input *in, uint8_t *array, size_t disks)
 
 void fill_array(const struct input *in, uint8_t *array)
 {
-    size_t disks = (in->side + 1) * (in->side + 1), place;
+    size_t disks = disks_of(in->small), place;
 
     fill_arbitrary(in->seed, array, in->array_len);
-    if (in->side < 2 || in->array_len < disks * in->block_len ||
-        in->block_len == 0 || in->contents == ARBITRARY)
+    if (in->small.rows < 2 || in->small.columns < 2 ||
+        in->array_len < disks * in->block_len || in->block_len == 0 ||
+        in->contents == ARBITRARY)
         return;
     for (place = 0; place < in->block_len; place++)
-        seal_place(array, in->side, in->block_len, place);
+        seal_place(array, in->small, in->block_len, place);
     damage(in, array);
     spoil_erased(in, array, disks);
 }

@@ -5,12 +5,13 @@
  *   byte 0       bit 0: follow, else plan. Bit 1: what is lent begins right
  *                behind a page without access, else it ends right before one.
  *                Bit 2: NULL is passed for what is empty.
- *   bytes 1, 2   n and block: small numbers as they are, others by a table
- *   bytes 3..5   how much longer the array, the map and the sheet are than n
- *                and block ask for, from -128 to 127
- *   byte 6       what the array holds: one of enum contents
- *   byte 7       the disk that is damaged
- *   bytes 8..11  the seed of all arbitrary bytes
+ *   bytes 1..3   rows, columns and block: small numbers as they are, others
+ *                by a table
+ *   bytes 4..6   how much longer the array, the map and the sheet are than
+ *                rows, columns and block ask for, from -128 to 127
+ *   byte 7       what the array holds: one of enum contents
+ *   byte 8       the disk that is damaged
+ *   bytes 9..12  the seed of all arbitrary bytes
  *   98 bytes     the sheet that follow reads
  *   the rest     the map
  *
@@ -22,17 +23,20 @@
 #include <stddef.h>
 #include <stdint.h>
 
+#include "model.h"
+
 enum {
     AT_FLAGS = 0,
-    AT_SIDE = 1,
-    AT_BLOCK = 2,
-    AT_ARRAY_LEN = 3,
-    AT_MAP_LEN = 4,
-    AT_SHEET_LEN = 5,
-    AT_CONTENTS = 6,
-    AT_DISK = 7,
-    AT_SEED = 8,
-    AT_SHEET = 12,
+    AT_ROWS = 1,
+    AT_COLUMNS = 2,
+    AT_BLOCK = 3,
+    AT_ARRAY_LEN = 4,
+    AT_MAP_LEN = 5,
+    AT_SHEET_LEN = 6,
+    AT_CONTENTS = 7,
+    AT_DISK = 8,
+    AT_SEED = 9,
+    AT_SHEET = 13,
     AT_MAP = AT_SHEET + 98,
     INPUT_MAX = AT_MAP + 18 * 18
 };
@@ -47,7 +51,7 @@ enum contents {
     ARBITRARY, CONTENTS
 };
 
-/* Numbers up to these stand for themselves in bytes 1 and 2. */
+/* Numbers up to these stand for themselves in bytes 1 to 3. */
 enum { SIDE_CODES = 17, BLOCK_CODES = 64 };
 
 /* The most bytes that an input can ask for. */
@@ -59,9 +63,10 @@ enum {
 
 struct input {
     int follow, behind, pass_null;
-    size_t n, block;
-    size_t side;       /* n where it is small: the grid has side + 1 rows */
-    size_t block_len;  /* likewise for block */
+    struct grid grid;   /* as it is passed */
+    struct grid small;  /* the same, with small numbers for great ones */
+    size_t block;
+    size_t block_len;   /* likewise for block */
     size_t array_len, map_len, sheet_len;
     enum contents contents;
     size_t disk;
@@ -74,6 +79,9 @@ void read_input(struct input *in, const uint8_t *data, size_t size);
 
 /* Fills an array of the input's length as the input says. */
 void fill_array(const struct input *in, uint8_t *array);
+
+/* The disk in this row and column, both counted around the grid. */
+size_t disk_around(struct grid g, size_t row, size_t column);
 
 /* Numbers that look arbitrary, the same from the same seed. */
 struct numbers {

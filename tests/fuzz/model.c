@@ -20,43 +20,83 @@ enum {
     NOT_ALLOWED = 11
 };
 
+/* ---- the grid */
+
+int grid_fits(struct grid g)
+{
+    return g.rows >= 2 && g.rows <= SIDE_MAX &&
+           g.columns >= 2 && g.columns <= SIDE_MAX;
+}
+
+size_t disks_of(struct grid g)
+{
+    return (g.rows + 1) * (g.columns + 1);
+}
+
+size_t disk_at(struct grid g, size_t row, size_t column)
+{
+    return row * (g.columns + 1) + column;
+}
+
+size_t row_of(struct grid g, size_t disk)
+{
+    return disk / (g.columns + 1);
+}
+
+size_t column_of(struct grid g, size_t disk)
+{
+    return COLUMN_STRIPE + disk % (g.columns + 1);
+}
+
+int on_stripe(struct grid g, size_t disk, size_t stripe)
+{
+    if (stripe < COLUMN_STRIPE)
+        return row_of(g, disk) == stripe;
+    return column_of(g, disk) == stripe;
+}
+
+static int has_stripe(struct grid g, size_t stripe)
+{
+    if (stripe < COLUMN_STRIPE)
+        return stripe <= g.rows;
+    return stripe - COLUMN_STRIPE <= g.columns;
+}
+
+/* The disks of a stripe: how many, the first, and how far it is from each to
+   the next. */
+struct stripe {
+    size_t length, first, step;
+};
+
+/* A row has a disk for each column, and a column one for each row. */
+static struct stripe stripe_of(struct grid g, size_t number)
+{
+    struct stripe row = {g.columns + 1, disk_at(g, number, 0), 1};
+    struct stripe column = {g.rows + 1, number - COLUMN_STRIPE, g.columns + 1};
+
+    return number < COLUMN_STRIPE ? row : column;
+}
+
+/* ---- sheets, maps and repairs */
+
 size_t record_at(size_t k)
 {
     return 2 + 3 * (k - 1);
 }
 
-static size_t disks_of(size_t n)
+int may_repair(struct grid g, const uint8_t *work, size_t disk, size_t stripe)
 {
-    return (n + 1) * (n + 1);
-}
-
-int on_stripe(size_t n, size_t disk, size_t stripe)
-{
-    if (stripe < COLUMNS)
-        return disk / (n + 1) == stripe;
-    return disk % (n + 1) == stripe - COLUMNS;
-}
-
-/* The disk at place i of a stripe of the grid. */
-static size_t disk_on(size_t n, size_t stripe, size_t i)
-{
-    if (stripe < COLUMNS)
-        return stripe * (n + 1) + i;
-    return i * (n + 1) + (stripe - COLUMNS);
-}
-
-int may_repair(size_t n, const uint8_t *work, size_t disk, size_t stripe)
-{
+    struct stripe s = stripe_of(g, stripe);
     size_t i;
 
-    if (disk >= disks_of(n))
+    if (disk >= disks_of(g))
         return 0;
     if (work[disk] != 1)
         return 0;
-    if (!on_stripe(n, disk, stripe))
+    if (!on_stripe(g, disk, stripe))
         return 0;
-    for (i = 0; i <= n; i++) {
-        size_t other = disk_on(n, stripe, i);
+    for (i = 0; i < s.length; i++) {
+        size_t other = s.first + i * s.step;
 
         if (other != disk && work[other] == 1)
             return 0;
@@ -73,11 +113,11 @@ size_t count_erased(const uint8_t *map, size_t disks)
     return count;
 }
 
-static int map_fits(size_t n, const uint8_t *map, size_t map_len)
+static int map_fits(struct grid g, const uint8_t *map, size_t map_len)
 {
     size_t disk;
 
-    if (map_len != disks_of(n))
+    if (map_len != disks_of(g))
         return 0;
     for (disk = 0; disk < map_len; disk++)
         if (map[disk] != 0 && map[disk] != 1)
@@ -89,32 +129,32 @@ static int map_fits(size_t n, const uint8_t *map, size_t map_len)
 
 /* The lowest disk that can be repaired, and its stripe: the row if that is
    allowed, else the column. 0 if there is none. */
-static int next_repair(size_t n, const uint8_t *work,
+static int next_repair(struct grid g, const uint8_t *work,
                        size_t *disk, size_t *stripe)
 {
     size_t d;
 
-    for (d = 0; d < disks_of(n); d++) {
+    for (d = 0; d < disks_of(g); d++) {
         if (work[d] != 1)
             continue;
         *disk = d;
-        *stripe = d / (n + 1);
-        if (may_repair(n, work, d, *stripe))
+        *stripe = row_of(g, d);
+        if (may_repair(g, work, d, *stripe))
             return 1;
-        *stripe = COLUMNS + d % (n + 1);
-        if (may_repair(n, work, d, *stripe))
+        *stripe = column_of(g, d);
+        if (may_repair(g, work, d, *stripe))
             return 1;
     }
     return 0;
 }
 
-size_t plan_repairs(size_t n, uint8_t *work, uint8_t *sheet)
+size_t plan_repairs(struct grid g, uint8_t *work, uint8_t *sheet)
 {
     size_t disk, stripe, count = 0;
 
     memset(sheet, 0, SHEET_BYTES);
     sheet[0] = 1;
-    while (next_repair(n, work, &disk, &stripe)) {
+    while (next_repair(g, work, &disk, &stripe)) {
         work[disk] = 0;
         count++;
         if (count == 1)
@@ -146,14 +186,15 @@ static size_t loop_length(const uint8_t *sheet)
 }
 
 /* Each stripe holds none or two of a loop's disks. */
-static int two_on_each_stripe(size_t n, const uint8_t *sheet, size_t length)
+static int two_on_each_stripe(struct grid g, const uint8_t *sheet,
+                              size_t length)
 {
     size_t stripe, k, count;
 
     for (stripe = 0; stripe < STRIPES; stripe++) {
         count = 0;
         for (k = 1; k <= length; k++)
-            count += on_stripe(n, sheet[record_at(k)], stripe) ? 1 : 0;
+            count += on_stripe(g, sheet[record_at(k)], stripe) ? 1 : 0;
         if (count != 0 && count != 2)
             return 0;
     }
@@ -170,13 +211,14 @@ static const char *judge_loop_record(const struct planned *p, size_t k,
     size_t stripe = p->sheet[record_at(k) + 1];
     size_t after = p->sheet[record_at(next)];
 
-    if (disk >= disks_of(p->n) || p->map[disk] != 1)
+    if (disk >= disks_of(p->grid) || p->map[disk] != 1)
         return "a loop has a disk that is not erased";
     if (k > 1 && disk <= p->sheet[record_at(1)])
         return "a loop does not begin with its lowest disk";
-    if ((k % 2 == 1) != (stripe < COLUMNS))
+    if ((k % 2 == 1) != (stripe < COLUMN_STRIPE))
         return "a loop's rows and columns do not take turns";
-    if (!on_stripe(p->n, disk, stripe) || !on_stripe(p->n, after, stripe))
+    if (!on_stripe(p->grid, disk, stripe) ||
+        !on_stripe(p->grid, after, stripe))
         return "a loop's disk does not share its stripe with the next";
     return NULL;
 }
@@ -196,7 +238,7 @@ static const char *judge_loop(const struct planned *p)
             if (p->sheet[record_at(other)] == p->sheet[record_at(k)])
                 return "a loop has a disk twice";
     }
-    if (!two_on_each_stripe(p->n, p->sheet, length))
+    if (!two_on_each_stripe(p->grid, p->sheet, length))
         return "a loop's stripe does not hold two of its disks";
     return NULL;
 }
@@ -219,7 +261,7 @@ static const char *judge_outcome(const struct planned *p)
     size_t repairs, lost;
 
     memcpy(work, p->map, p->map_len);
-    repairs = plan_repairs(p->n, work, sheet);
+    repairs = plan_repairs(p->grid, work, sheet);
     lost = count_erased(work, p->map_len);
     if (p->status != (lost > 0 ? FATAL : DONE))
         return "plan and the model differ on whether the loss is fatal";
@@ -234,9 +276,9 @@ static const char *judge_outcome(const struct planned *p)
 
 const char *judge_plan(const struct planned *p)
 {
-    if (p->n < 2 || p->n > SIDE_MAX)
+    if (!grid_fits(p->grid))
         return judge_refusal(p, WRONG_SIDE);
-    if (!map_fits(p->n, p->map, p->map_len))
+    if (!map_fits(p->grid, p->map, p->map_len))
         return judge_refusal(p, WRONG_MAP);
     if (p->sheet_len != SHEET_BYTES)
         return judge_refusal(p, WRONG_SHEET);
@@ -264,32 +306,33 @@ int read_chain(const uint8_t *sheet, uint8_t order[RECORDS])
 }
 
 /* Each step is an allowed repair at its turn, and no disk remains erased. */
-static int steps_allowed(size_t n, const uint8_t *map, const uint8_t *sheet,
-                         const uint8_t *order, int count)
+static int steps_allowed(struct grid g, const uint8_t *map,
+                         const uint8_t *sheet, const uint8_t *order, int count)
 {
     uint8_t work[DISKS_MAX];
     int i;
 
-    memcpy(work, map, disks_of(n));
+    memcpy(work, map, disks_of(g));
     for (i = 0; i < count; i++) {
         const uint8_t *record = sheet + record_at(order[i]);
 
-        if (!may_repair(n, work, record[0], record[1]))
+        if (!may_repair(g, work, record[0], record[1]))
             return 0;
         work[record[0]] = 0;
     }
-    return count_erased(work, disks_of(n)) == 0;
+    return count_erased(work, disks_of(g)) == 0;
 }
 
 /* The sum of a stripe's disks at one byte place, but for one disk. */
-static uint8_t sum_without(size_t n, size_t block, const uint8_t *array,
+static uint8_t sum_without(struct grid g, size_t block, const uint8_t *array,
                            size_t stripe, size_t place, size_t but)
 {
+    struct stripe s = stripe_of(g, stripe);
     uint8_t sum = 0;
     size_t i;
 
-    for (i = 0; i <= n; i++) {
-        size_t disk = disk_on(n, stripe, i);
+    for (i = 0; i < s.length; i++) {
+        size_t disk = s.first + i * s.step;
 
         if (disk != but)
             sum ^= array[disk * block + place];
@@ -297,29 +340,35 @@ static uint8_t sum_without(size_t n, size_t block, const uint8_t *array,
     return sum;
 }
 
-static int is_sealed(size_t n, size_t block, const uint8_t *array)
+int stripe_is_sealed(struct grid g, size_t block, const uint8_t *array,
+                     size_t stripe)
 {
-    size_t line, place;
+    size_t place;
 
-    for (line = 0; line <= n; line++)
-        for (place = 0; place < block; place++) {
-            if (sum_without(n, block, array, line, place, SIZE_MAX) != 0)
-                return 0;
-            if (sum_without(n, block, array, COLUMNS + line, place,
-                            SIZE_MAX) != 0)
-                return 0;
-        }
+    for (place = 0; has_stripe(g, stripe) && place < block; place++)
+        if (sum_without(g, block, array, stripe, place, SIZE_MAX) != 0)
+            return 0;
     return 1;
 }
 
-static void make_repair(size_t n, size_t block, uint8_t *array,
-                        const uint8_t *record)
+static int is_sealed(struct grid g, size_t block, const uint8_t *array)
+{
+    size_t stripe;
+
+    for (stripe = 0; stripe < STRIPES; stripe++)
+        if (!stripe_is_sealed(g, block, array, stripe))
+            return 0;
+    return 1;
+}
+
+void make_repair(struct grid g, size_t block, uint8_t *array,
+                 const uint8_t *record)
 {
     size_t disk = record[0], place;
 
     for (place = 0; place < block; place++)
         array[disk * block + place] =
-            sum_without(n, block, array, record[1], place, disk);
+            sum_without(g, block, array, record[1], place, disk);
 }
 
 static void zero_erased(size_t block, uint8_t *array,
@@ -332,7 +381,7 @@ static void zero_erased(size_t block, uint8_t *array,
             memset(array + disk * block, 0, block);
 }
 
-uint32_t model_follow(size_t n, size_t block,
+uint32_t model_follow(struct grid g, size_t block,
                       uint8_t *array, size_t array_len,
                       const uint8_t *map, size_t map_len,
                       const uint8_t *sheet, size_t sheet_len,
@@ -341,24 +390,24 @@ uint32_t model_follow(size_t n, size_t block,
     uint8_t order[RECORDS];
     int steps, i;
 
-    if (n < 2 || n > SIDE_MAX)
+    if (!grid_fits(g))
         return WRONG_SIDE;
     if (block < 1 || block > 4096)
         return WRONG_BLOCK;
-    if (array_len != disks_of(n) * block)
+    if (array_len != disks_of(g) * block)
         return WRONG_ARRAY;
-    if (!map_fits(n, map, map_len))
+    if (!map_fits(g, map, map_len))
         return WRONG_MAP;
     if (sheet_len != SHEET_BYTES)
         return WRONG_SHEET;
     steps = read_chain(sheet, order);
     if (steps < 0)
         return BROKEN_CHAIN;
-    if (!steps_allowed(n, map, sheet, order, steps))
+    if (!steps_allowed(g, map, sheet, order, steps))
         return NOT_ALLOWED;
     for (i = 0; i < steps; i++)
-        make_repair(n, block, array, sheet + record_at(order[i]));
-    if (!is_sealed(n, block, array)) {
+        make_repair(g, block, array, sheet + record_at(order[i]));
+    if (!is_sealed(g, block, array)) {
         zero_erased(block, array, map, map_len);
         return CONTRADICTION;
     }

@@ -12,21 +12,39 @@
 enum {
     SIDE_MAX = 15,
     DISKS_MAX = 256,
-    COLUMNS = 16, /* the stripe number of column 0 */
+    COLUMN_STRIPE = 16, /* the stripe number of column 0 */
     STRIPES = 32,
     SHEET_BYTES = 98,
     RECORDS = 32
 };
 
+/* The size of an array: its data rows and data columns. The grid of all disks
+   has one more of each. */
+struct grid {
+    size_t rows, columns;
+};
+
+/* Both numbers are 2 to 15. */
+int grid_fits(struct grid g);
+
+size_t disks_of(struct grid g);
+
+/* The disk in this row and column. */
+size_t disk_at(struct grid g, size_t row, size_t column);
+
+/* The stripes of a disk: the number of its row, and of its column. */
+size_t row_of(struct grid g, size_t disk);
+size_t column_of(struct grid g, size_t disk);
+
+/* The disk is on the stripe. */
+int on_stripe(struct grid g, size_t disk, size_t stripe);
+
 /* Where record k of a sheet begins: its disk, its stripe, the next number. */
 size_t record_at(size_t k);
 
-/* The disk is on the stripe. */
-int on_stripe(size_t n, size_t disk, size_t stripe);
-
 /* The disk, which the working map says is erased, may be repaired by the
    stripe now. Any numbers are allowed. */
-int may_repair(size_t n, const uint8_t *work, size_t disk, size_t stripe);
+int may_repair(struct grid g, const uint8_t *work, size_t disk, size_t stripe);
 
 /*
  * Plan's order on a working map, until no repair is allowed. Writes the sheet
@@ -34,7 +52,7 @@ int may_repair(size_t n, const uint8_t *work, size_t disk, size_t stripe);
  * the number of repairs: at most 32, since no stripe is used twice. What is
  * left on the map are the lost disks.
  */
-size_t plan_repairs(size_t n, uint8_t *work, uint8_t *sheet);
+size_t plan_repairs(struct grid g, uint8_t *work, uint8_t *sheet);
 
 /* How many disks a map says are erased. */
 size_t count_erased(const uint8_t *map, size_t disks);
@@ -46,8 +64,18 @@ size_t count_erased(const uint8_t *map, size_t disks);
  */
 int read_chain(const uint8_t *sheet, uint8_t order[RECORDS]);
 
+/* Sets the disk of a sheet's record to the sum of the other disks of the
+   record's stripe. */
+void make_repair(struct grid g, size_t block, uint8_t *array,
+                 const uint8_t *record);
+
+/* The stripe's sum is zero at every byte place, or the grid has no such
+   stripe. */
+int stripe_is_sealed(struct grid g, size_t block, const uint8_t *array,
+                     size_t stripe);
+
 /* What raid2d_follow must do, with its parameters. */
-uint32_t model_follow(size_t n, size_t block,
+uint32_t model_follow(struct grid g, size_t block,
                       uint8_t *array, size_t array_len,
                       const uint8_t *map, size_t map_len,
                       const uint8_t *sheet, size_t sheet_len,
@@ -55,7 +83,7 @@ uint32_t model_follow(size_t n, size_t block,
 
 /* A call of raid2d_plan: what it was lent, and what it left and returned. */
 struct planned {
-    size_t n;
+    struct grid grid;
     const uint8_t *map;
     size_t map_len;
     const uint8_t *sheet_before, *sheet;

@@ -17,7 +17,8 @@ size_t LLVMFuzzerCustomMutator(uint8_t *data, size_t size, size_t max_size,
 struct draft {
     uint8_t bytes[INPUT_MAX];
     uint8_t *sheet, *map;
-    size_t n, disks;
+    struct grid grid;
+    size_t disks;
     struct numbers random;
 };
 
@@ -26,13 +27,17 @@ static int one_in(struct draft *d, uint32_t bound)
     return draw(&d->random, bound) == 0;
 }
 
-/* The grid that the input's n asks for, kept to what the library takes. */
+static size_t kept_in_range(uint8_t side)
+{
+    return side < 2 || side > SIDE_MAX ? 2 : side;
+}
+
+/* The grid that the input asks for, kept to what the library takes. */
 static void read_grid(struct draft *d)
 {
-    d->n = d->bytes[AT_SIDE];
-    if (d->n < 2 || d->n > SIDE_MAX)
-        d->n = 2;
-    d->disks = (d->n + 1) * (d->n + 1);
+    d->grid.rows = kept_in_range(d->bytes[AT_ROWS]);
+    d->grid.columns = kept_in_range(d->bytes[AT_COLUMNS]);
+    d->disks = disks_of(d->grid);
 }
 
 /* ---- losses */
@@ -43,8 +48,8 @@ static void read_grid(struct draft *d)
  */
 static int mark_in_forest(struct draft *d, uint8_t *part, size_t disk)
 {
-    uint8_t row = part[disk / (d->n + 1)];
-    uint8_t column = part[COLUMNS + disk % (d->n + 1)];
+    uint8_t row = part[row_of(d->grid, disk)];
+    uint8_t column = part[column_of(d->grid, disk)];
     size_t i;
 
     if (row == column)
@@ -69,57 +74,68 @@ static void draw_forest(struct draft *d, size_t wanted)
             wanted--;
 }
 
+static size_t draw_row(struct draft *d)
+{
+    return draw(&d->random, (uint32_t)d->grid.rows + 1);
+}
+
+static size_t draw_column(struct draft *d)
+{
+    return draw(&d->random, (uint32_t)d->grid.columns + 1);
+}
+
 /* Four disks in the corners of a rectangle. */
 static void draw_corners(struct draft *d)
 {
-    size_t side = d->n + 1;
-    size_t row = draw(&d->random, (uint32_t)side);
-    size_t column = draw(&d->random, (uint32_t)side);
-    size_t down = (row + 1 + draw(&d->random, (uint32_t)d->n)) % side;
-    size_t right = (column + 1 + draw(&d->random, (uint32_t)d->n)) % side;
+    size_t row = draw_row(d), column = draw_column(d);
+    size_t down = row + 1 + draw(&d->random, (uint32_t)d->grid.rows);
+    size_t right = column + 1 + draw(&d->random, (uint32_t)d->grid.columns);
 
-    d->map[row * side + column] = 1;
-    d->map[row * side + right] = 1;
-    d->map[down * side + column] = 1;
-    d->map[down * side + right] = 1;
+    d->map[disk_around(d->grid, row, column)] = 1;
+    d->map[disk_around(d->grid, row, right)] = 1;
+    d->map[disk_around(d->grid, down, column)] = 1;
+    d->map[disk_around(d->grid, down, right)] = 1;
 }
 
-/* A stair of this many steps that comes back to its beginning. */
-static void draw_stair(struct draft *d, size_t steps)
+/* A stair of this many steps from an arbitrary disk on. It comes back to its
+   beginning, but for so many disks that are left out. */
+static void draw_stair(struct draft *d, size_t steps, size_t left_out)
 {
-    size_t side = d->n + 1, i;
+    size_t row = draw_row(d), column = draw_column(d), i;
 
-    for (i = 0; i < steps; i++) {
-        d->map[i * side + i] = 1;
-        d->map[i * side + (i + 1) % steps] = 1;
-    }
+    for (i = left_out; i < 2 * steps; i++)
+        d->map[disk_around(d->grid, row + i / 2,
+                           column + (i + 1) / 2 % steps)] = 1;
 }
 
+/* As many disks as can be repaired, or fewer; such a loss with a loop in it;
+   one loop, or a longest one that is open; all disks or none. */
 static void draw_loss(struct draft *d)
 {
-    uint32_t most = (uint32_t)(2 * d->n + 2);
+    size_t rows = d->grid.rows, columns = d->grid.columns;
+    size_t longest = (rows < columns ? rows : columns) + 1;
+    uint32_t most = (uint32_t)(rows + columns + 1);
 
     memset(d->map, 0, INPUT_MAX - AT_MAP);
     switch (draw(&d->random, 8)) {
     case 0:
-        draw_forest(d, 2 * d->n + 1);
+        draw_forest(d, most);
         break;
     case 1:
-        draw_forest(d, draw(&d->random, most));
+        draw_forest(d, draw(&d->random, most + 1));
         draw_corners(d);
         break;
     case 2:
-        draw_stair(d, 2 + draw(&d->random, (uint32_t)d->n));
+        draw_stair(d, 2 + draw(&d->random, (uint32_t)longest - 1), 0);
         break;
     case 3:
-        draw_stair(d, d->n + 1);
-        d->map[draw(&d->random, (uint32_t)d->n)] = 0;
+        draw_stair(d, longest, draw(&d->random, 3));
         break;
     case 4:
         memset(d->map, one_in(d, 2), d->disks);
         break;
     default:
-        draw_forest(d, draw(&d->random, most));
+        draw_forest(d, draw(&d->random, most + 1));
     }
 }
 
@@ -148,16 +164,16 @@ static int draw_repair(struct draft *d, const uint8_t *work, uint8_t record[2])
 
     for (i = 0; i < d->disks; i++) {
         size_t disk = (from + i) % d->disks;
-        size_t row = disk / (d->n + 1);
-        size_t column = COLUMNS + disk % (d->n + 1);
+        size_t row = row_of(d->grid, disk);
+        size_t column = column_of(d->grid, disk);
         size_t first = one_in(d, 2) ? row : column;
 
         record[0] = (uint8_t)disk;
         record[1] = (uint8_t)first;
-        if (may_repair(d->n, work, disk, first))
+        if (may_repair(d->grid, work, disk, first))
             return 1;
         record[1] = (uint8_t)(row + column - first);
-        if (may_repair(d->n, work, disk, record[1]))
+        if (may_repair(d->grid, work, disk, record[1]))
             return 1;
     }
     return 0;
@@ -193,7 +209,7 @@ static void plan_sheet(struct draft *d)
     uint8_t work[DISKS_MAX];
 
     memcpy(work, d->map, d->disks);
-    plan_repairs(d->n, work, d->sheet);
+    plan_repairs(d->grid, work, d->sheet);
 }
 
 /* The record numbers on the chain, as far as it can be walked. */
@@ -254,13 +270,13 @@ static void change_stripe(struct draft *d, uint8_t *record)
 {
     switch (draw(&d->random, 4)) {
     case 0:
-        record[1] = (uint8_t)(record[0] / (d->n + 1));
+        record[1] = (uint8_t)row_of(d->grid, record[0]);
         break;
     case 1:
-        record[1] = (uint8_t)(COLUMNS + record[0] % (d->n + 1));
+        record[1] = (uint8_t)column_of(d->grid, record[0]);
         break;
     case 2:
-        record[1] ^= COLUMNS;
+        record[1] ^= COLUMN_STRIPE;
         break;
     default:
         record[1] = (uint8_t)draw(&d->random, one_in(d, 2) ? 256 : 34);
@@ -374,13 +390,31 @@ static void change_head(struct draft *d)
 
     if (at >= AT_ARRAY_LEN && at <= AT_SHEET_LEN)
         d->bytes[at] = draw_length(d);
-    else if (at == AT_SIDE && !one_in(d, 4))
+    else if ((at == AT_ROWS || at == AT_COLUMNS) && !one_in(d, 4))
         d->bytes[at] = (uint8_t)draw(&d->random, SIDE_CODES + 1);
     else if (at == AT_BLOCK && !one_in(d, 4))
         d->bytes[at] = (uint8_t)draw(&d->random, BLOCK_CODES + 1);
     else
         d->bytes[at] = (uint8_t)draw(&d->random, 256);
     read_grid(d);
+}
+
+/* The same map and sheet with rows and columns swapped: the lengths stay
+   right, and the disks' rows and columns are others. */
+static void swap_sides(struct draft *d)
+{
+    uint8_t rows = d->bytes[AT_ROWS];
+
+    d->bytes[AT_ROWS] = d->bytes[AT_COLUMNS];
+    d->bytes[AT_COLUMNS] = rows;
+    read_grid(d);
+}
+
+static uint8_t draw_side(struct draft *d)
+{
+    if (one_in(d, 8))
+        return SIDE_MAX;
+    return (uint8_t)(2 + draw(&d->random, one_in(d, 2) ? 3 : 14));
 }
 
 /* A new input: right lengths, a loss, and mostly a sheet for it. */
@@ -390,7 +424,8 @@ static void draw_input(struct draft *d)
 
     memset(d->bytes, 0, AT_MAP);
     d->bytes[AT_FLAGS] = (uint8_t)draw(&d->random, 4) | !one_in(d, 4);
-    d->bytes[AT_SIDE] = (uint8_t)(2 + draw(&d->random, one_in(d, 2) ? 3 : 14));
+    d->bytes[AT_ROWS] = draw_side(d);
+    d->bytes[AT_COLUMNS] = draw_side(d);
     d->bytes[AT_BLOCK] = (uint8_t)(1 + draw(&d->random, one_in(d, 2) ? 4 : 40));
     d->bytes[AT_CONTENTS] = (uint8_t)draw(&d->random, CONTENTS);
     for (i = AT_DISK; i < AT_SHEET; i++)
@@ -426,6 +461,9 @@ static void change(struct draft *d)
     case 6:
     case 7:
         change_head(d);
+        break;
+    case 8:
+        swap_sides(d);
         break;
     default:
         change_sheet(d);

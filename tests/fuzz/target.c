@@ -70,7 +70,7 @@ static uint32_t call_follow(const struct input *in)
 
     forbid_writes(&map.memory);
     forbid_writes(&sheet.memory);
-    status = raid2d_follow(in->n, in->block,
+    status = raid2d_follow(in->grid.rows, in->grid.columns, in->block,
                            passed(in, &array), in->array_len,
                            passed(in, &map), in->map_len,
                            passed(in, &sheet), in->sheet_len,
@@ -90,7 +90,7 @@ static const char *try_follow(const struct input *in)
     lend(&array, in->array_len, in->behind);
     fill_array(in, array.bytes);
     memcpy(model_array, array.bytes, in->array_len);
-    status = model_follow(in->n, in->block, model_array, in->array_len,
+    status = model_follow(in->grid, in->block, model_array, in->array_len,
                           in->map, in->map_len, in->sheet, in->sheet_len,
                           &expected);
     if (call_follow(in) != status)
@@ -107,7 +107,8 @@ static uint32_t call_plan(const struct input *in)
     uint32_t status;
 
     forbid_writes(&map.memory);
-    status = raid2d_plan(in->n, passed(in, &map), in->map_len,
+    status = raid2d_plan(in->grid.rows, in->grid.columns,
+                         passed(in, &map), in->map_len,
                          passed(in, &sheet), in->sheet_len,
                          (size_t *)(void *)count.bytes);
     allow_writes(&map.memory);
@@ -124,7 +125,7 @@ static const char *try_plan(const struct input *in)
     lend(&array, 0, in->behind);
     fill_arbitrary(in->seed, before, in->sheet_len);
     memcpy(sheet.bytes, before, in->sheet_len);
-    p.n = in->n;
+    p.grid = in->grid;
     p.map = in->map;
     p.map_len = in->map_len;
     p.sheet_before = before;

@@ -17,6 +17,61 @@ static int wrong(const char *name)
     return wanted != NULL && strcmp(wanted, name) == 0;
 }
 
+/* ---- sizes */
+
+/* In place of a number that is out of range and not tested, one in range. */
+static size_t untested(size_t side)
+{
+    return side < 2 || side > SIDE_MAX ? SIDE_MAX : side;
+}
+
+static struct grid swapped(struct grid g)
+{
+    struct grid other = {g.columns, g.rows};
+
+    return other;
+}
+
+/* The size as follow takes it. */
+static struct grid grid_of_follow(size_t rows, size_t columns)
+{
+    struct grid g = {rows, columns};
+
+    if (wrong("shortens rows to a byte"))
+        g.rows = (uint8_t)rows;
+    if (wrong("shortens columns to a byte"))
+        g.columns = (uint8_t)columns;
+    if (wrong("follow tests the columns only"))
+        g.rows = untested(rows);
+    if (wrong("follow tests the rows only"))
+        g.columns = untested(columns);
+    return wrong("follow swaps rows and columns") ? swapped(g) : g;
+}
+
+/* The size as plan tests it. */
+static struct grid grid_of_plan(size_t rows, size_t columns)
+{
+    struct grid g = {rows, columns};
+
+    if (wrong("plan tests the columns only"))
+        g.rows = untested(rows);
+    if (wrong("plan tests the rows only"))
+        g.columns = untested(columns);
+    return g;
+}
+
+/* The size by which plan finds a disk's row and column. */
+static struct grid grid_to_plan_in(struct grid g)
+{
+    struct grid other = g;
+
+    if (wrong("plan takes rows for columns"))
+        other.columns = g.rows;
+    if (wrong("plan takes columns for rows"))
+        other.rows = g.columns;
+    return wrong("plan swaps rows and columns") ? swapped(g) : other;
+}
+
 /* ---- follow: faults in what the model is given, and in what it left */
 
 /* Every link with this number becomes 0, the end of a chain. */
@@ -59,13 +114,13 @@ static void forget_left_over(uint8_t *map, size_t disks, const uint8_t *sheet)
 }
 
 /* Stripes of columns beyond the grid are taken for the last column. */
-static void pull_columns_in(uint8_t *sheet, size_t n)
+static void pull_columns_in(uint8_t *sheet, struct grid g)
 {
     size_t k;
 
     for (k = 1; k <= RECORDS; k++)
-        if (sheet[record_at(k) + 1] > COLUMNS + n)
-            sheet[record_at(k) + 1] = (uint8_t)(COLUMNS + n);
+        if (sheet[record_at(k) + 1] > COLUMN_STRIPE + g.columns)
+            sheet[record_at(k) + 1] = (uint8_t)(COLUMN_STRIPE + g.columns);
 }
 
 /* A record off the chain has a number above 32. */
@@ -83,7 +138,7 @@ static int off_chain_too_high(const uint8_t *sheet)
     return 0;
 }
 
-static void spoil_given(size_t n, uint8_t *map, uint8_t *sheet)
+static void spoil_given(struct grid g, uint8_t *map, uint8_t *sheet)
 {
     if (wrong("takes number 33 for the end"))
         end_chain_at(sheet, 33);
@@ -92,9 +147,9 @@ static void spoil_given(size_t n, uint8_t *map, uint8_t *sheet)
     if (wrong("takes a record reached twice for the end"))
         cut_ring(sheet);
     if (wrong("ignores left-over disks"))
-        forget_left_over(map, (n + 1) * (n + 1), sheet);
+        forget_left_over(map, disks_of(g), sheet);
     if (wrong("takes any high stripe for the last column"))
-        pull_columns_in(sheet, n);
+        pull_columns_in(sheet, g);
     if (wrong("follows a sheet of kind 2") && sheet[0] == 2)
         sheet[0] = 1;
     if (wrong("follows a sheet of kind 3") && sheet[0] == 3)
@@ -105,24 +160,84 @@ static void spoil_given(size_t n, uint8_t *map, uint8_t *sheet)
         sheet[record_at(32) + 2] = 33;
 }
 
-/* Each row's sum is zero at every byte place. */
-static int rows_are_sealed(size_t n, size_t block, const uint8_t *array)
+/* The repair is allowed to one who sees too few disks of the stripe. */
+static int may_repair_unseen(struct grid g, const uint8_t *work,
+                             size_t disk, size_t stripe)
 {
-    size_t row, column, place;
+    int short_rows = wrong("takes a row's length from rows");
+    int short_columns = wrong("takes a column's length from columns");
+    uint8_t seen[DISKS_MAX];
+    size_t other;
 
-    for (row = 0; row <= n; row++)
-        for (place = 0; place < block; place++) {
-            uint8_t sum = 0;
+    memcpy(seen, work, disks_of(g));
+    for (other = 0; other < disks_of(g); other++)
+        if (other != disk &&
+            (stripe < COLUMN_STRIPE
+                 ? short_rows && column_of(g, other) > COLUMN_STRIPE + g.rows
+                 : short_columns && row_of(g, other) > g.columns))
+            seen[other] = 0;
+    return may_repair(g, seen, disk, stripe);
+}
 
-            for (column = 0; column <= n; column++)
-                sum ^= array[(row * (n + 1) + column) * block + place];
-            if (sum != 0)
-                return 0;
-        }
+/* Each step of a chain is such a repair, and no disk remains erased. */
+static int steps_allowed_unseen(struct grid g, const uint8_t *map,
+                                const uint8_t *sheet)
+{
+    uint8_t order[RECORDS], work[DISKS_MAX];
+    int i, count = read_chain(sheet, order);
+
+    memcpy(work, map, disks_of(g));
+    for (i = 0; i < count; i++) {
+        const uint8_t *record = sheet + record_at(order[i]);
+
+        if (!may_repair_unseen(g, work, record[0], record[1]))
+            return 0;
+        work[record[0]] = 0;
+    }
+    return count_erased(work, disks_of(g)) == 0;
+}
+
+/* Makes the repairs by columns once more, from the first columns + 1 rows. */
+static void sum_short_columns(struct grid g, size_t block, uint8_t *array,
+                              const uint8_t *sheet)
+{
+    struct grid upper = g;
+    uint8_t order[RECORDS];
+    int i, count = read_chain(sheet, order);
+
+    if (g.rows > g.columns)
+        upper.rows = g.columns;
+    for (i = 0; i < count; i++)
+        if (sheet[record_at(order[i]) + 1] >= COLUMN_STRIPE)
+            make_repair(upper, block, array, sheet + record_at(order[i]));
+}
+
+/* The stripes from the first to the last are sealed. */
+static int are_sealed(struct grid g, size_t block, const uint8_t *array,
+                      size_t first, size_t last)
+{
+    size_t stripe;
+
+    for (stripe = first; stripe <= last; stripe++)
+        if (!stripe_is_sealed(g, block, array, stripe))
+            return 0;
     return 1;
 }
 
-static uint32_t spoil_left(uint32_t status, size_t n, size_t block,
+/* A check that leaves out some stripes takes the array for sealed. */
+static int passes_check(struct grid g, size_t block, const uint8_t *array)
+{
+    if (wrong("checks the rows only"))
+        return are_sealed(g, block, array, 0, COLUMN_STRIPE - 1);
+    if (wrong("checks as many rows as columns"))
+        return are_sealed(g, block, array, 0, g.columns) &&
+               are_sealed(g, block, array, COLUMN_STRIPE, STRIPES - 1);
+    if (wrong("checks as many columns as rows"))
+        return are_sealed(g, block, array, 0, COLUMN_STRIPE + g.rows);
+    return 0;
+}
+
+static uint32_t spoil_left(uint32_t status, struct grid g, size_t block,
                            uint8_t *array, size_t array_len,
                            const uint8_t *map, size_t *count)
 {
@@ -131,7 +246,7 @@ static uint32_t spoil_left(uint32_t status, size_t n, size_t block,
     if (wrong("writes a byte before the array") && status == 0)
         array[-1] ^= 1;
     if (wrong("reads a byte behind the map") && status == 0)
-        *count += *(const volatile uint8_t *)(map + (n + 1) * (n + 1)) & 0;
+        *count += *(const volatile uint8_t *)(map + disks_of(g)) & 0;
     if (wrong("writes the map, the same bytes") && status == 0)
         *(volatile uint8_t *)(size_t)map = map[0];
     if (wrong("counts with 7") && status == 7)
@@ -144,14 +259,13 @@ static uint32_t spoil_left(uint32_t status, size_t n, size_t block,
         memset(array, 0, array_len);
     if (wrong("gives 6 for 11") && status == 11)
         return 6;
-    if (wrong("checks the rows only") && status == 7 &&
-        rows_are_sealed(n, block, array))
+    if (status == 7 && passes_check(g, block, array))
         return 0;
     return status;
 }
 
 /* The model on copies that it may be given with faults. */
-static uint32_t follow_with_fault(size_t n, size_t block,
+static uint32_t follow_with_fault(struct grid g, size_t block,
                                   uint8_t *array, size_t array_len,
                                   const uint8_t *map, size_t map_len,
                                   const uint8_t *sheet, size_t *count)
@@ -162,43 +276,46 @@ static uint32_t follow_with_fault(size_t n, size_t block,
     memcpy(own_map, map, map_len);
     memcpy(own_sheet, sheet, SHEET_BYTES);
     first = array[0];
-    spoil_given(n, own_map, own_sheet);
+    spoil_given(g, own_map, own_sheet);
     if (wrong("judges steps before the chain's end") && sheet[0] == 1 &&
         sheet[1] >= 1 && sheet[1] <= RECORDS &&
-        !may_repair(n, map, sheet[record_at(sheet[1])],
+        !may_repair(g, map, sheet[record_at(sheet[1])],
                     sheet[record_at(sheet[1]) + 1]))
         return 11;
-    status = model_follow(n, block, array, array_len, own_map, map_len,
+    status = model_follow(g, block, array, array_len, own_map, map_len,
                           own_sheet, SHEET_BYTES, count);
+    if (wrong("sums a column's first columns + 1 disks") && status == 0)
+        sum_short_columns(g, block, array, sheet);
+    if (status == 11 && steps_allowed_unseen(g, own_map, own_sheet))
+        return 0;
     if (wrong("leaves the first block with 7") && status == 7)
         array[0] = first;
     if (wrong("zeroes an erased block with 11") && status == 11 && map[0] == 1)
         memset(array, 0, block);
-    return spoil_left(status, n, block, array, array_len, map, count);
+    return spoil_left(status, g, block, array, array_len, map, count);
 }
 
-uint32_t raid2d_follow(size_t n, size_t block,
+uint32_t raid2d_follow(size_t rows, size_t columns, size_t block,
                        uint8_t *array, size_t array_len,
                        const uint8_t *map, size_t map_len,
                        const uint8_t *sheet, size_t sheet_len,
                        size_t *count)
 {
-    if (wrong("shortens n to a byte"))
-        n = (uint8_t)n;
+    struct grid g = grid_of_follow(rows, columns);
+
     if (wrong("shortens block to 32 bits"))
         block = (uint32_t)block;
     if (wrong("takes any longer sheet") && sheet_len > SHEET_BYTES)
         sheet_len = SHEET_BYTES;
-    if (wrong("tests the sheet's length before the map") && n >= 2 &&
-        n <= SIDE_MAX && block >= 1 && block <= 4096 &&
-        array_len == (n + 1) * (n + 1) * block && sheet_len != SHEET_BYTES)
+    if (wrong("tests the sheet's length before the map") && grid_fits(g) &&
+        block >= 1 && block <= 4096 && array_len == disks_of(g) * block &&
+        sheet_len != SHEET_BYTES)
         return 5;
-    if (n < 2 || n > SIDE_MAX || map_len != (n + 1) * (n + 1) ||
-        sheet_len != SHEET_BYTES || block < 1 || block > 4096 ||
-        array_len != map_len * block)
-        return model_follow(n, block, array, array_len, map, map_len,
+    if (!grid_fits(g) || map_len != disks_of(g) || sheet_len != SHEET_BYTES ||
+        block < 1 || block > 4096 || array_len != map_len * block)
+        return model_follow(g, block, array, array_len, map, map_len,
                             sheet, sheet_len, count);
-    return follow_with_fault(n, block, array, array_len, map, map_len, sheet,
+    return follow_with_fault(g, block, array, array_len, map, map_len, sheet,
                              count);
 }
 
@@ -206,33 +323,34 @@ uint32_t raid2d_follow(size_t n, size_t block,
 
 /* Takes lost disks off the map as long as a loss remains that is fatal. What
    is left is one loop. */
-static void keep_one_loop(size_t n, uint8_t *work)
+static void keep_one_loop(struct grid g, uint8_t *work)
 {
     uint8_t rest[DISKS_MAX], unused[SHEET_BYTES];
-    size_t disks = (n + 1) * (n + 1), disk;
+    size_t disks = disks_of(g), disk;
 
     for (disk = 0; disk < disks; disk++) {
         memcpy(rest, work, disks);
         rest[disk] = 0;
-        plan_repairs(n, rest, unused);
+        plan_repairs(g, rest, unused);
         if (count_erased(rest, disks) > 0)
             memcpy(work, rest, disks);
     }
 }
 
 /* The other disk that is marked on the stripe. */
-static size_t partner(size_t n, const uint8_t *work, size_t disk, size_t stripe)
+static size_t partner(struct grid g, const uint8_t *work,
+                      size_t disk, size_t stripe)
 {
     size_t other;
 
-    for (other = 0; other < (n + 1) * (n + 1); other++)
-        if (other != disk && work[other] == 1 && on_stripe(n, other, stripe))
+    for (other = 0; other < disks_of(g); other++)
+        if (other != disk && work[other] == 1 && on_stripe(g, other, stripe))
             return other;
     return disk;
 }
 
 /* Lists the loop that is left on the map, from this disk on. */
-static void list_loop(size_t n, const uint8_t *work, size_t first,
+static void list_loop(struct grid g, const uint8_t *work, size_t first,
                       uint8_t *sheet)
 {
     size_t disk = first, k = 0, stripe;
@@ -242,35 +360,35 @@ static void list_loop(size_t n, const uint8_t *work, size_t first,
     sheet[1] = 1;
     do {
         k++;
-        stripe = k % 2 == 1 ? disk / (n + 1) : COLUMNS + disk % (n + 1);
+        stripe = k % 2 == 1 ? row_of(g, disk) : column_of(g, disk);
         if (k > 1)
             sheet[record_at(k - 1) + 2] = (uint8_t)k;
         sheet[record_at(k)] = (uint8_t)disk;
         sheet[record_at(k) + 1] = (uint8_t)stripe;
-        disk = partner(n, work, disk, stripe);
+        disk = partner(g, work, disk, stripe);
     } while (disk != first);
 }
 
-static void show_loop(size_t n, uint8_t *work, uint8_t *sheet)
+static void show_loop(struct grid g, uint8_t *work, uint8_t *sheet)
 {
     size_t first = 0;
 
-    if (!wrong("shows a loop through too many disks") || n > 3)
-        keep_one_loop(n, work);
+    if (!wrong("shows a loop through too many disks") || disks_of(g) > 16)
+        keep_one_loop(g, work);
     while (work[first] != 1)
         first++;
     if (wrong("begins a loop with its second disk"))
-        first = partner(n, work, first, first / (n + 1));
-    list_loop(n, work, first, sheet);
+        first = partner(g, work, first, row_of(g, first));
+    list_loop(g, work, first, sheet);
     if (wrong("swaps rows and columns of a loop"))
-        sheet[record_at(1) + 1] ^= COLUMNS;
+        sheet[record_at(1) + 1] ^= COLUMN_STRIPE;
     if (wrong("numbers a loop's records in a ring"))
         sheet[record_at(4) + 2] |= sheet[record_at(4) + 2] == 0;
     if (wrong("shows one stock loop"))
         memcpy(sheet, "\2\1\0\0\2\1\21\3\4\1\4\3\20", 14);
 }
 
-static void spoil_repairs(size_t n, uint8_t *sheet, size_t repairs)
+static void spoil_repairs(struct grid g, uint8_t *sheet, size_t repairs)
 {
     size_t k;
 
@@ -279,50 +397,63 @@ static void spoil_repairs(size_t n, uint8_t *sheet, size_t repairs)
     if (wrong("says first record 1 for no repair"))
         sheet[1] = 1;
     for (k = 1; wrong("sums columns only") && k <= repairs; k++)
-        sheet[record_at(k) + 1] =
-            (uint8_t)(COLUMNS + sheet[record_at(k)] % (n + 1));
+        sheet[record_at(k) + 1] = (uint8_t)column_of(g, sheet[record_at(k)]);
     if (wrong("leaves out the last of the longest list") &&
-        repairs == 2 * n + 1)
+        repairs == g.rows + g.columns + 1)
         memset(sheet + record_at(repairs) - 1, 0, 4);
 }
 
-static uint32_t plan_with_fault(size_t n, const uint8_t *map, size_t map_len,
-                                uint8_t *sheet, size_t *count)
+/* So many repairs are taken for a fatal loss. */
+static int too_many(struct grid g, size_t repairs)
 {
-    uint8_t work[DISKS_MAX];
+    if (wrong("calls rows + columns + 1 disks fatal"))
+        return repairs > g.rows + g.columns;
+    if (wrong("calls more than 2 rows + 1 disks fatal"))
+        return repairs > 2 * g.rows + 1;
+    if (wrong("calls more than 2 columns + 1 disks fatal"))
+        return repairs > 2 * g.columns + 1;
+    return 0;
+}
+
+static uint32_t plan_with_fault(struct grid g, const uint8_t *map,
+                                size_t map_len, uint8_t *sheet, size_t *count)
+{
+    uint8_t work[DISKS_MAX] = {0};
     size_t repairs, lost;
 
     memcpy(work, map, map_len);
-    repairs = plan_repairs(n, work, sheet);
-    lost = count_erased(work, map_len);
+    repairs = plan_repairs(g, work, sheet);
+    lost = count_erased(work, disks_of(g));
     *count = lost > 0 ? lost : repairs;
     if (lost == 0) {
-        spoil_repairs(n, sheet, repairs);
-        return wrong("calls 2n+1 disks fatal") && repairs > 2 * n ? 6 : 0;
+        spoil_repairs(g, sheet, repairs);
+        return too_many(g, repairs) ? 6 : 0;
     }
     if (wrong("counts all erased disks as lost"))
         *count = count_erased(map, map_len);
     if (wrong("counts lost disks in a byte"))
         *count = (uint8_t)*count;
-    show_loop(n, work, sheet);
+    show_loop(g, work, sheet);
     return 6;
 }
 
-uint32_t raid2d_plan(size_t n, const uint8_t *map, size_t map_len,
+uint32_t raid2d_plan(size_t rows, size_t columns,
+                     const uint8_t *map, size_t map_len,
                      uint8_t *sheet, size_t sheet_len, size_t *count)
 {
+    struct grid g = grid_of_plan(rows, columns);
     size_t disk;
 
-    if (n < 2 || n > SIDE_MAX)
+    if (!grid_fits(g))
         return 1;
     if (wrong("tests plan's sheet before its map") && sheet_len != SHEET_BYTES)
         return 5;
-    if (map_len != (n + 1) * (n + 1))
+    if (map_len != disks_of(g))
         return 4;
     for (disk = 0; disk < map_len; disk++)
         if (map[disk] > (wrong("takes a map byte of 2") ? 2 : 1))
             return 4;
     if (sheet_len != SHEET_BYTES)
         return 5;
-    return plan_with_fault(n, map, map_len, sheet, count);
+    return plan_with_fault(grid_to_plan_in(g), map, map_len, sheet, count);
 }
