@@ -43,29 +43,30 @@ static void copy_bytes(const uint8_t *bytes, size_t length)
 
 /* The calls for scale: the prototypes of a peer around one way of moving bytes. */
 #define BOUND(peer, move)                                                                                             \
-    uint32_t peer##_seal(size_t n, size_t block, uint8_t *array, size_t array_len)                                    \
+    uint32_t peer##_seal(size_t rows, size_t columns, size_t block, uint8_t *array, size_t array_len)                 \
     {                                                                                                                 \
-        (void)n, (void)block;                                                                                         \
+        (void)rows, (void)columns, (void)block;                                                                       \
         move(array, array_len);                                                                                       \
         return 0;                                                                                                     \
     }                                                                                                                 \
-    uint32_t peer##_check(size_t n, size_t block, const uint8_t *array, size_t array_len, size_t *stripe)             \
+    uint32_t peer##_check(size_t rows, size_t columns, size_t block, const uint8_t *array, size_t array_len,          \
+                          size_t *stripe)                                                                             \
     {                                                                                                                 \
-        (void)n, (void)block, (void)stripe;                                                                           \
+        (void)rows, (void)columns, (void)block, (void)stripe;                                                         \
         move(array, array_len);                                                                                       \
         return 0;                                                                                                     \
     }                                                                                                                 \
-    uint32_t peer##_write(size_t n, size_t block, uint8_t *array, size_t array_len, size_t disk, const uint8_t *data, \
-                          size_t data_len)                                                                            \
+    uint32_t peer##_write(size_t rows, size_t columns, size_t block, uint8_t *array, size_t array_len, size_t disk,   \
+                          const uint8_t *data, size_t data_len)                                                       \
     {                                                                                                                 \
-        (void)n, (void)array_len, (void)disk, (void)data, (void)data_len;                                             \
+        (void)rows, (void)columns, (void)array_len, (void)disk, (void)data, (void)data_len;                           \
         move(array, 4 * block);                                                                                       \
         return 0;                                                                                                     \
     }                                                                                                                 \
-    uint32_t peer##_rebuild(size_t n, size_t block, uint8_t *array, size_t array_len, const uint8_t *map,             \
-                            size_t map_len, uint8_t *sheet, size_t sheet_len, size_t *count)                          \
+    uint32_t peer##_rebuild(size_t rows, size_t columns, size_t block, uint8_t *array, size_t array_len,              \
+                            const uint8_t *map, size_t map_len, uint8_t *sheet, size_t sheet_len, size_t *count)      \
     {                                                                                                                 \
-        (void)n, (void)block, (void)map, (void)map_len, (void)sheet, (void)sheet_len, (void)count;                    \
+        (void)rows, (void)columns, (void)block, (void)map, (void)map_len, (void)sheet, (void)sheet_len, (void)count;  \
         move(array, array_len);                                                                                       \
         return 0;                                                                                                     \
     }

@@ -5,24 +5,37 @@
 
 #define COUNT(table) (sizeof(table) / sizeof *(table))
 
-/* Rebuild has row 0 and column 0 erased; the other calls take no map. */
-#define SIZE(n, block) {n, block, ROW_AND_COLUMN}
+/* Squares, then rectangles. Rebuild has row 0 and column 0 erased; the other calls take no map. */
+#define SIZE(rows, columns, block) {rows, columns, block, ROW_AND_COLUMN}
 static const struct size array_sizes[] = {
-    SIZE(2, 1),  SIZE(2, 16),  SIZE(4, 64),   SIZE(5, 100),  SIZE(8, 512),
-    SIZE(15, 1), SIZE(15, 16), SIZE(15, 512), SIZE(15, 4096),
+    SIZE(2, 2, 1),   SIZE(2, 2, 16),    SIZE(4, 4, 64),    SIZE(5, 5, 100),    SIZE(8, 8, 512),
+    SIZE(15, 15, 1), SIZE(15, 15, 16),  SIZE(15, 15, 512), SIZE(15, 15, 4096),
+    SIZE(3, 5, 64),  SIZE(2, 15, 4096), SIZE(15, 2, 4096),
 };
 
 /* Plan takes no array, so its block is the smallest. */
-#define SIX_MAPS(n)                                                                                                   \
-    {n, 1, ONE_DISK}, {n, 1, ROW_AND_COLUMN}, {n, 1, STAIRCASE},                                                      \
-    {n, 1, ALL_DISKS}, {n, 1, CYCLE_AND_TREE}, {n, 1, HALF_OF_ALL}
-static const struct size map_sizes[] = {SIX_MAPS(4), SIX_MAPS(15)};
+#define SIX_MAPS(rows, columns)                                                                                       \
+    {rows, columns, 1, ONE_DISK}, {rows, columns, 1, ROW_AND_COLUMN}, {rows, columns, 1, STAIRCASE},                  \
+    {rows, columns, 1, ALL_DISKS}, {rows, columns, 1, CYCLE_AND_TREE}, {rows, columns, 1, HALF_OF_ALL}
+static const struct size map_sizes[] = {SIX_MAPS(4, 4), SIX_MAPS(15, 15), SIX_MAPS(2, 15), SIX_MAPS(15, 2)};
 
 /* Random data under random parities. */
 static void prepare_seal(struct input *input, size_t variant)
 {
     (void)variant;
     input_fill(input);
+}
+
+static void run_seal(const struct peer *peer, struct input *input)
+{
+    input->status = peer->seal(input->size.rows, input->size.columns, input->size.block, input->array, input->bytes);
+}
+
+/* Random data under right parities. */
+static void fill_sealed(struct input *input)
+{
+    input_fill(input);
+    run_seal(&peers[PLAIN], input);
 }
 
 /* Some byte of a disk. */
@@ -35,45 +48,43 @@ static uint8_t *byte_of(struct input *input, size_t disk, size_t variant)
    only in a column. The damage visits each disk. */
 static void prepare_check(struct input *input, size_t variant)
 {
-    size_t side = input->size.n + 1, disk = variant / 2 % input->disks;
+    size_t across = input->size.columns + 1, disk = variant / 2 % input->disks;
     uint8_t *damaged = byte_of(input, disk, variant);
-    input_fill(input);
-    plain_seal(input->size.n, input->size.block, input->array, input->bytes);
+    fill_sealed(input);
     if (variant == 0)
         return;
     *damaged ^= 128;
     if (variant % 2 == 0)
-        *(disk % side == 0 ? damaged + input->size.block : damaged - input->size.block) ^= 128;
+        *(disk % across == 0 ? damaged + input->size.block : damaged - input->size.block) ^= 128;
 }
 
 /* Random bytes everywhere, and each data disk in turn. A disk in the middle of the grid is timed. */
 static void prepare_write(struct input *input, size_t variant)
 {
-    size_t n = input->size.n;
-    size_t data_disk = (variant + n * (n / 2) + n / 2) % (n * n);
+    size_t rows = input->size.rows, columns = input->size.columns;
+    size_t data_disk = (variant + rows / 2 * columns + columns / 2) % (rows * columns);
     input_fill(input);
-    input->disk = data_disk / n * (n + 1) + data_disk % n;
+    input->disk = data_disk / columns * (columns + 1) + data_disk % columns;
 }
 
-/* The map of the size; in other variants one with up to 2n + 2 disks at random. */
+/* The map of the size; in other variants one with up to rows + columns + 2 disks at random. */
 static void prepare_plan(struct input *input, size_t variant)
 {
     static uint64_t state = 88172645463325252u;
-    size_t n = input->size.n;
+    size_t rows = input->size.rows, columns = input->size.columns;
     if (variant == 0)
-        draw_map(input->size.map, n, input->map);
+        draw_map(input->size.map, rows, columns, input->map);
     else
-        draw_random_map(n, variant % (2 * n + 3), &state, input->map);
+        draw_random_map(rows, columns, variant % (rows + columns + 3), &state, input->map);
 }
 
 /* A sealed array with random bytes in the erased blocks. In two variants of three survivors are damaged: one byte, or
    two equal ones in one column, which show only in rows. */
 static void prepare_rebuild(struct input *input, size_t variant)
 {
-    size_t disk = variant % input->disks, below = (disk + input->size.n + 1) % input->disks;
+    size_t disk = variant % input->disks, below = (disk + input->size.columns + 1) % input->disks;
     prepare_plan(input, variant);
-    input_fill(input);
-    plain_seal(input->size.n, input->size.block, input->array, input->bytes);
+    fill_sealed(input);
     input_spoil(input);
     if (variant % 3 != 0)
         *byte_of(input, disk, variant) ^= 128;
@@ -106,31 +117,28 @@ static int has_rebuild(const struct peer *peer)
     return peer->rebuild != NULL;
 }
 
-static void run_seal(const struct peer *peer, struct input *input)
-{
-    input->status = peer->seal(input->size.n, input->size.block, input->array, input->bytes);
-}
-
 static void run_check(const struct peer *peer, struct input *input)
 {
-    input->status = peer->check(input->size.n, input->size.block, input->array, input->bytes, &input->stripe);
+    input->status = peer->check(input->size.rows, input->size.columns, input->size.block, input->array, input->bytes,
+                                &input->stripe);
 }
 
 static void run_write(const struct peer *peer, struct input *input)
 {
-    input->status = peer->write(input->size.n, input->size.block, input->array, input->bytes, input->disk,
-                                input->data, input->size.block);
+    input->status = peer->write(input->size.rows, input->size.columns, input->size.block, input->array, input->bytes,
+                                input->disk, input->data, input->size.block);
 }
 
 static void run_plan(const struct peer *peer, struct input *input)
 {
-    input->status = peer->plan(input->size.n, input->map, input->disks, input->sheet, SHEET_BYTES, &input->count);
+    input->status = peer->plan(input->size.rows, input->size.columns, input->map, input->disks, input->sheet,
+                               SHEET_BYTES, &input->count);
 }
 
 static void run_rebuild(const struct peer *peer, struct input *input)
 {
-    input->status = peer->rebuild(input->size.n, input->size.block, input->array, input->bytes, input->map,
-                                  input->disks, input->sheet, SHEET_BYTES, &input->count);
+    input->status = peer->rebuild(input->size.rows, input->size.columns, input->size.block, input->array, input->bytes,
+                                  input->map, input->disks, input->sheet, SHEET_BYTES, &input->count);
 }
 
 const struct call calls[CALLS] = {
@@ -150,5 +158,6 @@ void put_title(char title[TITLE_MAX], const struct call *call, struct size size)
 {
     char block[TITLE_MAX];
     snprintf(block, sizeof block, "B %4zu", size.block);
-    snprintf(title, TITLE_MAX, "%-7s n %2zu %.16s", call->name, size.n, call->by_map ? map_names[size.map] : block);
+    snprintf(title, TITLE_MAX, "%-7s %2zux%-2zu %.16s", call->name, size.rows, size.columns,
+             call->by_map ? map_names[size.map] : block);
 }

@@ -23,7 +23,7 @@ struct call {
 enum { SEAL, CHECK, WRITE, PLAN, REBUILD, CALLS };
 
 /* No call has more sizes than this. */
-enum { SIZES_MAX = 16 };
+enum { SIZES_MAX = 24 };
 
 extern const struct call calls[CALLS];
 

@@ -1,6 +1,7 @@
 #include "compare.h"
 #include "calls.h"
 #include "loop.h"
+#include "maps.h"
 
 #include <stdio.h>
 #include <stdlib.h>
@@ -28,7 +29,7 @@ static void run_from(const struct call *call, const struct peer *peer, struct in
 static int sheet_is_right(const struct input *input, const uint8_t *sheet)
 {
     if (input->status == FATAL)
-        return is_loop(input->size.n, input->map, input->sheet);
+        return is_loop(input->size.rows, input->size.columns, input->map, input->sheet);
     return memcmp(input->sheet, sheet, SHEET_BYTES) == 0;
 }
 
@@ -72,15 +73,24 @@ static int input_agrees(const struct call *call, struct input *input, struct exp
     return 1;
 }
 
+/* Whether the call did its work on the input that is timed. A refusal would be quick and time nothing. */
+static int did_its_work(const struct input *input)
+{
+    return input->status == (is_fatal(input->size.map) ? FATAL : 0);
+}
+
 /* Compares all variants of a call at one size: two for each disk, and the one that is timed. */
 static int size_agrees(const struct call *call, struct size size, struct input *input, struct expected *expected)
 {
-    size_t variants = 2 * (size.n + 1) * (size.n + 1);
     input_resize(input, size);
-    for (size_t v = 0; v <= variants; v++) {
+    for (size_t v = 0; v <= 2 * input->disks; v++) {
         call->prepare(input, v);
         if (!input_agrees(call, input, expected))
             return 0;
+        if (v == 0 && !did_its_work(input)) {
+            print_difference(call, size, "an unexpected status from", peers[LIBRARY].name);
+            return 0;
+        }
     }
     return 1;
 }

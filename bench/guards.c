@@ -24,7 +24,7 @@ static const struct guard guards[] = {
 
 static int is_guarded(const struct call *call, struct size size)
 {
-    return call->by_map ? size.n >= GUARDED_SIDE : size.block >= GUARDED_BLOCK;
+    return call->by_map ? size.rows >= GUARDED_SIDE || size.columns >= GUARDED_SIDE : size.block >= GUARDED_BLOCK;
 }
 
 static int warn_one(const struct guard *guard, struct size size, double ratio)
@@ -53,7 +53,7 @@ int judge(struct size size, const char *what, double ratio, double most)
 {
     char title[TITLE_MAX];
     put_title(title, &calls[REBUILD], size);
-    printf("%-27s  %-28s %6.2f\n", title, what, ratio);
+    printf("%-28s %-28s %6.2f\n", title, what, ratio);
     if (ratio <= most)
         return 0;
     printf("WARNING: %s: %s is %.3f; the limit is %.2f\n", title, what, ratio, most);

@@ -43,11 +43,15 @@ void input_close(struct input *input)
     free(input->array);
 }
 
+/* Each random number gives four bytes. */
 static void fill(uint8_t *bytes, size_t length)
 {
     static uint64_t state = 88172645463325252u;
-    for (size_t i = 0; i < length; i++)
-        bytes[i] = (uint8_t)next_random(&state);
+    uint64_t number = 0;
+    for (size_t i = 0; i < length; i++) {
+        number = i % 4 == 0 ? next_random(&state) : number >> 8;
+        bytes[i] = (uint8_t)number;
+    }
 }
 
 void input_fill(struct input *input)
@@ -66,9 +70,9 @@ void input_spoil(struct input *input)
 void input_resize(struct input *input, struct size size)
 {
     input->size = size;
-    input->disks = (size.n + 1) * (size.n + 1);
+    input->disks = (size.rows + 1) * (size.columns + 1);
     input->bytes = input->disks * size.block;
     input->disk = 0;
     input_fill(input);
-    draw_map(size.map, size.n, input->map);
+    draw_map(size.map, size.rows, size.columns, input->map);
 }

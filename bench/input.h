@@ -6,7 +6,7 @@
 #include <stdint.h>
 
 struct size {
-    size_t n, block;
+    size_t rows, columns, block;
     /* Which map of maps.h is timed. */
     size_t map;
 };

@@ -9,47 +9,47 @@
 
 typedef int xor_function(int vectors, int length, void **array);
 
-/* Applies a function of ISA-L to n + 1 stretches that stand `step` bytes apart; the last is the sum of the others. */
-static int over(xor_function *function, size_t n, const uint8_t *first, size_t step, size_t length)
+/* Applies a function of ISA-L to `count` stretches that stand `step` bytes apart; the last is the sum of the others. */
+static int over(xor_function *function, const uint8_t *first, size_t step, size_t count, size_t length)
 {
     void *stretches[ACROSS_MAX];
-    for (size_t k = 0; k <= n; k++)
+    for (size_t k = 0; k < count; k++)
         stretches[k] = (void *)(first + k * step);
-    return function((int)(n + 1), (int)length, stretches);
+    return function((int)count, (int)length, stretches);
 }
 
-static uint32_t seal_by(xor_function *function, size_t n, size_t block, uint8_t *array)
+static uint32_t seal_by(xor_function *function, size_t rows, size_t columns, size_t block, uint8_t *array)
 {
-    size_t row = (n + 1) * block;
-    for (size_t r = 0; r < n; r++)
-        over(function, n, array + r * row, block, block);
-    over(function, n, array, row, row);
+    size_t row = (columns + 1) * block;
+    for (size_t r = 0; r < rows; r++)
+        over(function, array + r * row, block, columns + 1, block);
+    over(function, array, row, rows + 1, row);
     return 0;
 }
 
-uint32_t isal_seal(size_t n, size_t block, uint8_t *array, size_t array_len)
+uint32_t isal_seal(size_t rows, size_t columns, size_t block, uint8_t *array, size_t array_len)
 {
     (void)array_len;
-    return seal_by(xor_gen, n, block, array);
+    return seal_by(xor_gen, rows, columns, block, array);
 }
 
-uint32_t isal_sse_seal(size_t n, size_t block, uint8_t *array, size_t array_len)
+uint32_t isal_sse_seal(size_t rows, size_t columns, size_t block, uint8_t *array, size_t array_len)
 {
     (void)array_len;
-    return seal_by(xor_gen_sse, n, block, array);
+    return seal_by(xor_gen_sse, rows, columns, block, array);
 }
 
-uint32_t isal_check(size_t n, size_t block, const uint8_t *array, size_t array_len, size_t *stripe)
+uint32_t isal_check(size_t rows, size_t columns, size_t block, const uint8_t *array, size_t array_len, size_t *stripe)
 {
-    size_t row = (n + 1) * block, r = 0, c = 0;
+    size_t down = rows + 1, across = columns + 1, row = across * block, r = 0, c = 0;
     (void)array_len;
-    while (r <= n && over(xor_check, n, array + r * row, block, block) == 0)
+    while (r < down && over(xor_check, array + r * row, block, across, block) == 0)
         r++;
-    if (r > n && over(xor_check, n, array, row, row) == 0)
+    if (r == down && over(xor_check, array, row, down, row) == 0)
         return SEALED;
-    while (r > n && over(xor_check, n, array + c * block, row, block) == 0)
+    while (r == down && over(xor_check, array + c * block, row, down, block) == 0)
         c++;
-    *stripe = r <= n ? r : FIRST_COLUMN + c;
+    *stripe = r < down ? r : FIRST_COLUMN + c;
     return NOT_SEALED;
 }
 
@@ -64,9 +64,9 @@ static void repair(uint8_t *first, size_t step, size_t count, size_t own, size_t
     xor_gen((int)count, (int)block, blocks);
 }
 
-uint32_t isal_rebuild(size_t n, size_t block, uint8_t *array, size_t array_len, const uint8_t *map, size_t map_len,
-                      uint8_t *sheet, size_t sheet_len, size_t *count)
+uint32_t isal_rebuild(size_t rows, size_t columns, size_t block, uint8_t *array, size_t array_len, const uint8_t *map,
+                      size_t map_len, uint8_t *sheet, size_t sheet_len, size_t *count)
 {
-    return rebuild_by(tuned_plan, repair, isal_check, n, block, array, array_len, map, map_len, sheet, sheet_len,
-                      count);
+    return rebuild_by(tuned_plan, repair, isal_check, rows, columns, block, array, array_len, map, map_len, sheet,
+                      sheet_len, count);
 }

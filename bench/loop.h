@@ -6,6 +6,6 @@
 #include <stdint.h>
 
 /* Whether the sheet lists a loop of erased disks, in chain order, with zeros elsewhere. */
-int is_loop(size_t n, const uint8_t *map, const uint8_t *sheet);
+int is_loop(size_t rows, size_t columns, const uint8_t *map, const uint8_t *sheet);
 
 #endif

@@ -12,6 +12,7 @@ static void print_head(void)
 {
     puts("time(library) / time(peer): above 1 the peer is faster.");
     printf("Medians of %d samples, peers in turn in one process. Buffers are warm and not cleared.\n", SAMPLES);
+    puts("Sizes are data rows x data columns, and B, the bytes in a block.");
     puts("Peers test no argument. Check is timed on a sealed array, rebuild with row 0 and column 0 erased.");
     puts("Plan: the plain loops look at all disks again for each repair, the other peers keep counters for stripes.");
     if (calls[SEAL].has(&peers[ISAL]))
@@ -31,7 +32,7 @@ static void measure(const struct call *call, struct input *input, double ratios[
     for (size_t p = LIBRARY + 1; p < PEERS; p++) {
         ratios[p] = medians[p] > 0 ? medians[LIBRARY] / medians[p] : 0;
         if (medians[p] > 0)
-            printf("%-27s  %-28s %6.2f\n", title, peers[p].name, ratios[p]);
+            printf("%-28s %-28s %6.2f\n", title, peers[p].name, ratios[p]);
     }
     fflush(stdout);
 }
@@ -52,7 +53,7 @@ int main(void)
     static ratio_table ratios;
     struct input input;
     int warnings;
-    if (!peers_agree()) {
+    if (!peers_agree() || !follow_agrees()) {
         puts("Nothing is timed.");
         return 1;
     }

@@ -15,6 +15,11 @@ const char *const map_names[MAPS] = {
     [LAST_COLUMN] = "last column",
 };
 
+int is_fatal(size_t kind)
+{
+    return kind == ALL_DISKS || kind == CYCLE_AND_TREE || kind == HALF_OF_ALL;
+}
+
 /* Erases `count` disks that stand `step` apart. */
 static void erase(uint8_t *map, size_t first, size_t step, size_t count)
 {
@@ -22,53 +27,59 @@ static void erase(uint8_t *map, size_t first, size_t step, size_t count)
         map[first + k * step] = 1;
 }
 
-/* Erases the diagonal, and each disk to the right of it. */
-static void erase_stairs(uint8_t *map, size_t n)
+/* Erases the disks of a path that goes right where it is on the diagonal or left of it, else down. */
+static void erase_stairs(uint8_t *map, size_t rows, size_t columns)
 {
-    erase(map, 0, n + 2, n + 1);
-    erase(map, 1, n + 2, n);
+    size_t r = 0, c = 0;
+    for (size_t k = 0; k <= rows + columns; k++) {
+        map[r * (columns + 1) + c] = 1;
+        if (c * rows <= r * columns)
+            c++;
+        else
+            r++;
+    }
 }
 
-void draw_random_map(size_t n, size_t erased, uint64_t *state, uint8_t *map)
+void draw_random_map(size_t rows, size_t columns, size_t erased, uint64_t *state, uint8_t *map)
 {
-    size_t disks = (n + 1) * (n + 1);
+    size_t disks = (rows + 1) * (columns + 1);
     for (size_t d = 0; d < disks; d++) {
         map[d] = next_random(state) % (disks - d) < erased;
         erased -= map[d];
     }
 }
 
-void draw_map(size_t kind, size_t n, uint8_t *map)
+void draw_map(size_t kind, size_t rows, size_t columns, uint8_t *map)
 {
-    size_t side = n + 1, middle = side / 2;
+    size_t down = rows + 1, across = columns + 1;
     uint64_t seed = 88172645463325252u;
-    memset(map, 0, side * side);
+    memset(map, 0, down * across);
     switch (kind) {
     case ONE_DISK:
-        map[middle * side + middle] = 1;
+        map[down / 2 * across + across / 2] = 1;
         break;
     case ROW_AND_COLUMN:
-        erase(map, 0, 1, side);
-        erase(map, 0, side, side);
+        erase(map, 0, 1, across);
+        erase(map, 0, across, down);
         break;
     case STAIRCASE:
-        erase_stairs(map, n);
+        erase_stairs(map, rows, columns);
         break;
     case ALL_DISKS:
-        erase(map, 0, 1, side * side);
+        erase(map, 0, 1, down * across);
         break;
     case CYCLE_AND_TREE:
-        erase_stairs(map, n);
-        map[side] = 1;
+        erase_stairs(map, rows, columns);
+        map[across] = 1;
         break;
     case HALF_OF_ALL:
-        draw_random_map(n, side * side / 2, &seed, map);
+        draw_random_map(rows, columns, down * across / 2, &seed, map);
         break;
     case MIDDLE_COLUMN:
-        erase(map, middle, side, side);
+        erase(map, across / 2, across, down);
         break;
     case LAST_COLUMN:
-        erase(map, n, side, side);
+        erase(map, columns, across, down);
         break;
     }
 }

@@ -1,6 +1,7 @@
 /*
  * A peer: another implementation of the library's calls, with the library's own prototypes. Peers test no argument;
- * the library tests them all.
+ * the library tests them all. In their code `across` stands for the disks of a row, columns + 1, and `down` for those
+ * of a column, rows + 1.
  */
 #ifndef PEER_H
 #define PEER_H
@@ -8,14 +9,15 @@
 #include <stddef.h>
 #include <stdint.h>
 
-typedef uint32_t seal_call(size_t n, size_t block, uint8_t *array, size_t array_len);
-typedef uint32_t check_call(size_t n, size_t block, const uint8_t *array, size_t array_len, size_t *stripe);
-typedef uint32_t write_call(size_t n, size_t block, uint8_t *array, size_t array_len, size_t disk,
+typedef uint32_t seal_call(size_t rows, size_t columns, size_t block, uint8_t *array, size_t array_len);
+typedef uint32_t check_call(size_t rows, size_t columns, size_t block, const uint8_t *array, size_t array_len,
+                            size_t *stripe);
+typedef uint32_t write_call(size_t rows, size_t columns, size_t block, uint8_t *array, size_t array_len, size_t disk,
                             const uint8_t *data, size_t data_len);
-typedef uint32_t plan_call(size_t n, const uint8_t *map, size_t map_len, uint8_t *sheet, size_t sheet_len,
-                           size_t *count);
-typedef uint32_t rebuild_call(size_t n, size_t block, uint8_t *array, size_t array_len, const uint8_t *map,
-                              size_t map_len, uint8_t *sheet, size_t sheet_len, size_t *count);
+typedef uint32_t plan_call(size_t rows, size_t columns, const uint8_t *map, size_t map_len, uint8_t *sheet,
+                           size_t sheet_len, size_t *count);
+typedef uint32_t rebuild_call(size_t rows, size_t columns, size_t block, uint8_t *array, size_t array_len,
+                              const uint8_t *map, size_t map_len, uint8_t *sheet, size_t sheet_len, size_t *count);
 
 struct peer {
     const char *name;
@@ -35,9 +37,6 @@ enum { LIBRARY, PLAIN, TUNED, NATIVE, RUST, ISAL, ISAL_SSE, READ, COPY, PEERS };
 
 /* Where ISA-L is not installed, its peers have no call. */
 extern const struct peer peers[PEERS];
-
-/* The straightforward peer also makes the sealed arrays on which check and rebuild are timed. */
-seal_call plain_seal;
 
 /* The tuned peer also plans for those that only differ in how they sum. */
 plan_call tuned_plan;

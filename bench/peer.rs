@@ -27,14 +27,20 @@ fn sum_blocks(sum: &mut [u8], blocks: &[u8]) {
 }
 
 /// # Safety
-/// The array is valid for its length, which is that of n and block.
+/// The array is valid for its length, which is that of the size.
 #[no_mangle]
-pub unsafe extern "C" fn rust_seal(n: usize, block: usize, array: *mut u8, array_len: usize) -> u32 {
+pub unsafe extern "C" fn rust_seal(
+    rows: usize,
+    columns: usize,
+    block: usize,
+    array: *mut u8,
+    array_len: usize,
+) -> u32 {
     let array = from_raw_parts_mut(array, array_len);
-    let row_len = (n + 1) * block;
-    let (data_rows, last_row) = array.split_at_mut(n * row_len);
+    let row_len = (columns + 1) * block;
+    let (data_rows, last_row) = array.split_at_mut(rows * row_len);
     for row in data_rows.chunks_exact_mut(row_len) {
-        let (data, parity) = row.split_at_mut(n * block);
+        let (data, parity) = row.split_at_mut(columns * block);
         sum_blocks(parity, data);
     }
     sum_blocks(last_row, data_rows);
@@ -55,24 +61,26 @@ fn is_zero(array: &[u8], first: usize, step: usize, count: usize, block: usize) 
 }
 
 /// The lowest stripe whose sum is not zero.
-fn lowest_stripe(array: &[u8], n: usize, block: usize) -> Option<usize> {
-    let row_len = (n + 1) * block;
-    let row = (0..=n).find(|r| !is_zero(array, r * row_len, block, n + 1, block));
-    let column = || (0..=n).find(|c| !is_zero(array, c * block, row_len, n + 1, block)).map(|c| FIRST_COLUMN + c);
+fn lowest_stripe(array: &[u8], rows: usize, columns: usize, block: usize) -> Option<usize> {
+    let (down, across) = (rows + 1, columns + 1);
+    let row_len = across * block;
+    let row = (0..down).find(|r| !is_zero(array, r * row_len, block, across, block));
+    let column = || (0..across).find(|c| !is_zero(array, c * block, row_len, down, block)).map(|c| FIRST_COLUMN + c);
     row.or_else(column)
 }
 
 /// # Safety
-/// The array is valid for its length, which is that of n and block; the stripe is valid.
+/// The array is valid for its length, which is that of the size; the stripe is valid.
 #[no_mangle]
 pub unsafe extern "C" fn rust_check(
-    n: usize,
+    rows: usize,
+    columns: usize,
     block: usize,
     array: *const u8,
     array_len: usize,
     stripe: *mut usize,
 ) -> u32 {
-    match lowest_stripe(from_raw_parts(array, array_len), n, block) {
+    match lowest_stripe(from_raw_parts(array, array_len), rows, columns, block) {
         Some(lowest) => {
             *stripe = lowest;
             NOT_SEALED
@@ -82,10 +90,11 @@ pub unsafe extern "C" fn rust_check(
 }
 
 /// # Safety
-/// The array and the data are valid for their lengths, which are those of n and block; the disk is a data disk.
+/// The array and the data are valid for their lengths, which are those of the size; the disk is a data disk.
 #[no_mangle]
 pub unsafe extern "C" fn rust_write(
-    n: usize,
+    rows: usize,
+    columns: usize,
     block: usize,
     array: *mut u8,
     array_len: usize,
@@ -95,10 +104,11 @@ pub unsafe extern "C" fn rust_write(
 ) -> u32 {
     let array = from_raw_parts_mut(array, array_len);
     let data = from_raw_parts(data, data_len);
-    let (row, column) = (disk / (n + 1), disk % (n + 1));
-    let (before, superparity) = array.split_at_mut((n * (n + 1) + n) * block);
-    let (before, last_row) = before.split_at_mut(n * (n + 1) * block);
-    let (before, from_parity) = before.split_at_mut((row * (n + 1) + n) * block);
+    let across = columns + 1;
+    let (row, column) = (disk / across, disk % across);
+    let (before, superparity) = array.split_at_mut((rows * across + columns) * block);
+    let (before, last_row) = before.split_at_mut(rows * across * block);
+    let (before, from_parity) = before.split_at_mut((row * across + columns) * block);
     let old = &mut before[disk * block..][..block];
     let row_parity = &mut from_parity[..block];
     let column_parity = &mut last_row[column * block..][..block];
@@ -114,17 +124,19 @@ pub unsafe extern "C" fn rust_write(
 }
 
 /// # Safety
-/// The map and the sheet are valid for their lengths, which are that of n and 98; the count is valid.
+/// The map and the sheet are valid for their lengths, which are that of the size and 98; the count is valid.
 #[no_mangle]
 pub unsafe extern "C" fn rust_plan(
-    n: usize,
+    rows: usize,
+    columns: usize,
     map: *const u8,
     map_len: usize,
     sheet: *mut u8,
     sheet_len: usize,
     count: *mut usize,
 ) -> u32 {
-    let (status, number) = match plan(n + 1, from_raw_parts(map, map_len), from_raw_parts_mut(sheet, sheet_len)) {
+    let (map, sheet) = (from_raw_parts(map, map_len), from_raw_parts_mut(sheet, sheet_len));
+    let (status, number) = match plan(rows + 1, columns + 1, map, sheet) {
         Planned::Repairs(made) => (0, made),
         Planned::Fatal(lost) => (FATAL, lost),
     };
@@ -133,17 +145,17 @@ pub unsafe extern "C" fn rust_plan(
 }
 
 /// The block of a disk becomes the sum of the others of its stripe.
-fn repair(array: &mut [u8], n: usize, block: usize, disk: usize, stripe: usize) {
-    let side = n + 1;
-    let (first, step, own) = match stripe.checked_sub(FIRST_COLUMN) {
-        None => (stripe * side * block, block, disk % side),
-        Some(column) => (column * block, side * block, disk / side),
+fn repair(array: &mut [u8], rows: usize, columns: usize, block: usize, disk: usize, stripe: usize) {
+    let (down, across) = (rows + 1, columns + 1);
+    let (first, step, count, own) = match stripe.checked_sub(FIRST_COLUMN) {
+        None => (stripe * across * block, block, across, disk % across),
+        Some(column) => (column * block, across * block, down, disk / across),
     };
     for at in (0..block).step_by(STRETCH) {
         let width = STRETCH.min(block - at);
         let mut space = [0; STRETCH];
         let sum = &mut space[..width];
-        for k in (0..side).filter(|&k| k != own) {
+        for k in (0..count).filter(|&k| k != own) {
             xor_into(sum, &array[first + k * step + at..][..width]);
         }
         array[disk * block + at..][..width].copy_from_slice(sum);
@@ -151,11 +163,12 @@ fn repair(array: &mut [u8], n: usize, block: usize, disk: usize, stripe: usize) 
 }
 
 /// # Safety
-/// The array, the map and the sheet are valid for their lengths, which are those of n and block, and 98; the count is
+/// The array, the map and the sheet are valid for their lengths, which are those of the size, and 98; the count is
 /// valid.
 #[no_mangle]
 pub unsafe extern "C" fn rust_rebuild(
-    n: usize,
+    rows: usize,
+    columns: usize,
     block: usize,
     array: *mut u8,
     array_len: usize,
@@ -168,7 +181,7 @@ pub unsafe extern "C" fn rust_rebuild(
     let array = from_raw_parts_mut(array, array_len);
     let map = from_raw_parts(map, map_len);
     let sheet = from_raw_parts_mut(sheet, sheet_len);
-    let made = match plan(n + 1, map, sheet) {
+    let made = match plan(rows + 1, columns + 1, map, sheet) {
         Planned::Repairs(made) => made,
         Planned::Fatal(lost) => {
             *count = lost;
@@ -176,9 +189,9 @@ pub unsafe extern "C" fn rust_rebuild(
         }
     };
     for record in sheet[2..].chunks_exact(3).take(made) {
-        repair(array, n, block, record[0].into(), record[1].into());
+        repair(array, rows, columns, block, record[0].into(), record[1].into());
     }
-    if lowest_stripe(array, n, block).is_some() {
+    if lowest_stripe(array, rows, columns, block).is_some() {
         let disks = array.chunks_exact_mut(block).zip(map);
         disks.filter(|(_, &erased)| erased != 0).for_each(|(disk, _)| disk.fill(0));
         sheet.fill(0);

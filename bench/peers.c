@@ -2,7 +2,7 @@
 #include "peer.h"
 #include "raid2d.h"
 
-seal_call tuned_seal, native_seal, rust_seal, isal_seal, isal_sse_seal, read_seal, copy_seal;
+seal_call plain_seal, tuned_seal, native_seal, rust_seal, isal_seal, isal_sse_seal, read_seal, copy_seal;
 check_call plain_check, tuned_check, native_check, rust_check, isal_check, read_check, copy_check;
 write_call plain_write, tuned_write, native_write, rust_write, read_write, copy_write;
 plan_call plain_plan, rust_plan;

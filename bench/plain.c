@@ -18,14 +18,14 @@ static void sum_blocks(uint8_t *sum, const uint8_t *first, size_t step, size_t c
         xor_into(sum, first + k * step, block);
 }
 
-uint32_t plain_seal(size_t n, size_t block, uint8_t *array, size_t array_len)
+uint32_t plain_seal(size_t rows, size_t columns, size_t block, uint8_t *array, size_t array_len)
 {
-    size_t row = (n + 1) * block;
+    size_t row = (columns + 1) * block;
     (void)array_len;
-    for (size_t r = 0; r < n; r++)
-        sum_blocks(array + r * row + n * block, array + r * row, block, n, block);
-    for (size_t c = 0; c <= n; c++)
-        sum_blocks(array + n * row + c * block, array + c * block, row, n, block);
+    for (size_t r = 0; r < rows; r++)
+        sum_blocks(array + r * row + columns * block, array + r * row, block, columns, block);
+    for (size_t c = 0; c <= columns; c++)
+        sum_blocks(array + rows * row + c * block, array + c * block, row, rows, block);
     return 0;
 }
 
@@ -40,37 +40,37 @@ static int is_zero(const uint8_t *first, size_t step, size_t count, size_t block
     return 1;
 }
 
-uint32_t plain_check(size_t n, size_t block, const uint8_t *array, size_t array_len, size_t *stripe)
+uint32_t plain_check(size_t rows, size_t columns, size_t block, const uint8_t *array, size_t array_len, size_t *stripe)
 {
-    size_t row = (n + 1) * block;
+    size_t row = (columns + 1) * block;
     (void)array_len;
-    for (size_t s = 0; s <= n; s++) {
-        if (!is_zero(array + s * row, block, n + 1, block)) {
-            *stripe = s;
+    for (size_t r = 0; r <= rows; r++) {
+        if (!is_zero(array + r * row, block, columns + 1, block)) {
+            *stripe = r;
             return NOT_SEALED;
         }
     }
-    for (size_t s = 0; s <= n; s++) {
-        if (!is_zero(array + s * block, row, n + 1, block)) {
-            *stripe = FIRST_COLUMN + s;
+    for (size_t c = 0; c <= columns; c++) {
+        if (!is_zero(array + c * block, row, rows + 1, block)) {
+            *stripe = FIRST_COLUMN + c;
             return NOT_SEALED;
         }
     }
     return SEALED;
 }
 
-uint32_t plain_write(size_t n, size_t block, uint8_t *array, size_t array_len, size_t disk, const uint8_t *data,
-                     size_t data_len)
+uint32_t plain_write(size_t rows, size_t columns, size_t block, uint8_t *array, size_t array_len, size_t disk,
+                     const uint8_t *data, size_t data_len)
 {
-    size_t r = disk / (n + 1), c = disk % (n + 1);
+    size_t across = columns + 1, r = disk / across, c = disk % across;
     uint8_t difference[BLOCK_MAX];
     (void)array_len;
     memcpy(difference, data, data_len);
     xor_into(difference, array + disk * block, block);
     xor_into(array + disk * block, difference, block);
-    xor_into(array + (r * (n + 1) + n) * block, difference, block);
-    xor_into(array + (n * (n + 1) + c) * block, difference, block);
-    xor_into(array + (n * (n + 1) + n) * block, difference, block);
+    xor_into(array + (r * across + columns) * block, difference, block);
+    xor_into(array + (rows * across + c) * block, difference, block);
+    xor_into(array + (rows * across + columns) * block, difference, block);
     return 0;
 }
 
@@ -84,9 +84,9 @@ static void repair(uint8_t *first, size_t step, size_t count, size_t own, size_t
 
 plan_call plain_plan;
 
-uint32_t plain_rebuild(size_t n, size_t block, uint8_t *array, size_t array_len, const uint8_t *map, size_t map_len,
-                       uint8_t *sheet, size_t sheet_len, size_t *count)
+uint32_t plain_rebuild(size_t rows, size_t columns, size_t block, uint8_t *array, size_t array_len, const uint8_t *map,
+                       size_t map_len, uint8_t *sheet, size_t sheet_len, size_t *count)
 {
-    return rebuild_by(plain_plan, repair, plain_check, n, block, array, array_len, map, map_len, sheet, sheet_len,
-                      count);
+    return rebuild_by(plain_plan, repair, plain_check, rows, columns, block, array, array_len, map, map_len, sheet,
+                      sheet_len, count);
 }

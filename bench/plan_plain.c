@@ -13,29 +13,30 @@ static int one_erased(const uint8_t *first, size_t step, size_t count)
 }
 
 /* The lowest disk that can be repaired, and by which stripe; or the number of disks. */
-static size_t next_repair(size_t side, const uint8_t *left, size_t *stripe)
+static size_t next_repair(size_t down, size_t across, const uint8_t *left, size_t *stripe)
 {
     size_t d = 0;
-    for (; d < side * side; d++) {
+    for (; d < down * across; d++) {
         if (left[d] == 0)
             continue;
-        *stripe = d / side;
-        if (one_erased(left + d / side * side, 1, side))
+        *stripe = d / across;
+        if (one_erased(left + d / across * across, 1, across))
             break;
-        *stripe = FIRST_COLUMN + d % side;
-        if (one_erased(left + d % side, side, side))
+        *stripe = FIRST_COLUMN + d % across;
+        if (one_erased(left + d % across, across, down))
             break;
     }
     return d;
 }
 
-uint32_t plain_plan(size_t n, const uint8_t *map, size_t map_len, uint8_t *sheet, size_t sheet_len, size_t *count)
+uint32_t plain_plan(size_t rows, size_t columns, const uint8_t *map, size_t map_len, uint8_t *sheet, size_t sheet_len,
+                    size_t *count)
 {
     uint8_t left[DISKS_MAX];
     size_t disk, stripe = 0, made = 0, lost = 0;
     memcpy(left, map, map_len);
     put_kind(sheet, sheet_len, REPAIRS);
-    while ((disk = next_repair(n + 1, left, &stripe)) < map_len) {
+    while ((disk = next_repair(rows + 1, columns + 1, left, &stripe)) < map_len) {
         left[disk] = 0;
         put_record(sheet, made++, disk, stripe);
     }
@@ -44,6 +45,6 @@ uint32_t plain_plan(size_t n, const uint8_t *map, size_t map_len, uint8_t *sheet
     *count = lost == 0 ? made : lost;
     if (lost == 0)
         return 0;
-    put_loop(n, left, sheet, sheet_len);
+    put_loop(columns, left, sheet, sheet_len);
     return FATAL;
 }

@@ -11,7 +11,8 @@ pub enum Planned {
 }
 
 struct Erased {
-    side: usize,
+    down: usize,
+    across: usize,
     left: [u8; 256],
     on: [u8; STRIPES],
 }
@@ -22,10 +23,10 @@ fn put_record(sheet: &mut [u8], k: usize, disk: usize, stripe: usize) {
 }
 
 impl Erased {
-    fn new(side: usize, map: &[u8]) -> Self {
-        let mut erased = Erased { side, left: [0; 256], on: [0; STRIPES] };
+    fn new(down: usize, across: usize, map: &[u8]) -> Self {
+        let mut erased = Erased { down, across, left: [0; 256], on: [0; STRIPES] };
         erased.left[..map.len()].copy_from_slice(map);
-        for (r, row) in map.chunks_exact(side).enumerate() {
+        for (r, row) in map.chunks_exact(across).enumerate() {
             erased.on[r] = row.iter().sum();
             for (on, byte) in erased.on[FIRST_COLUMN..].iter_mut().zip(row) {
                 *on += byte;
@@ -41,33 +42,35 @@ impl Erased {
     /// The lowest disk that can be repaired, and its row if that has no other, else its column.
     fn next(&self) -> Option<(usize, usize)> {
         let (rows, columns) = self.on.split_at(FIRST_COLUMN);
-        let lines = self.left.chunks_exact(self.side).zip(rows).enumerate();
+        let lines = self.left.chunks_exact(self.across).zip(rows).enumerate();
         lines.filter(|(_, (_, &on))| on != 0).find_map(|(r, (line, &on))| {
             let c = line.iter().zip(columns).position(|(&left, &column)| left != 0 && (on == 1 || column == 1))?;
-            Some((r * self.side + c, if on == 1 { r } else { FIRST_COLUMN + c }))
+            Some((r * self.across + c, if on == 1 { r } else { FIRST_COLUMN + c }))
         })
     }
 
     fn repair(&mut self, disk: usize) {
         self.left[disk] = 0;
-        self.on[disk / self.side] -= 1;
-        self.on[FIRST_COLUMN + disk % self.side] -= 1;
+        self.on[disk / self.across] -= 1;
+        self.on[FIRST_COLUMN + disk % self.across] -= 1;
     }
 
     /// The row of a disk before even steps of a walk, its column before odd ones.
     fn stripe(&self, disk: usize, step: usize) -> usize {
         if step % 2 == 0 {
-            disk / self.side
+            disk / self.across
         } else {
-            FIRST_COLUMN + disk % self.side
+            FIRST_COLUMN + disk % self.across
         }
     }
 
     /// The lowest other disk on the stripe.
     fn partner(&self, disk: usize, stripe: usize) -> usize {
-        let (first, step) =
-            if stripe < FIRST_COLUMN { (stripe * self.side, 1) } else { (stripe - FIRST_COLUMN, self.side) };
-        let mut disks = (0..self.side).map(|k| first + k * step);
+        let (first, step, count) = match stripe.checked_sub(FIRST_COLUMN) {
+            None => (stripe * self.across, 1, self.across),
+            Some(column) => (column, self.across, self.down),
+        };
+        let mut disks = (0..count).map(|k| first + k * step);
         disks.find(|&d| self.left[d] != 0 && d != disk).expect("no stripe has a single disk left")
     }
 
@@ -99,8 +102,8 @@ impl Erased {
 }
 
 /// Writes the repairs in plan's order, or a loop, into the sheet.
-pub fn plan(side: usize, map: &[u8], sheet: &mut [u8]) -> Planned {
-    let mut erased = Erased::new(side, map);
+pub fn plan(down: usize, across: usize, map: &[u8], sheet: &mut [u8]) -> Planned {
+    let mut erased = Erased::new(down, across, map);
     let count = erased.count();
     let mut made = 0;
     sheet.fill(0);

@@ -7,14 +7,14 @@
 /* Sets block number `own` of `count` that stand `step` bytes apart to the sum of the others. */
 typedef void repair_function(uint8_t *first, size_t step, size_t count, size_t own, size_t block);
 
-static inline void repair_by(repair_function *repair, size_t n, size_t block, uint8_t *array, size_t disk,
-                             size_t stripe)
+static inline void repair_by(repair_function *repair, size_t rows, size_t columns, size_t block, uint8_t *array,
+                             size_t disk, size_t stripe)
 {
-    size_t side = n + 1;
+    size_t down = rows + 1, across = columns + 1;
     if (stripe < FIRST_COLUMN)
-        repair(array + stripe * side * block, block, side, disk % side, block);
+        repair(array + stripe * across * block, block, across, disk % across, block);
     else
-        repair(array + (stripe - FIRST_COLUMN) * block, side * block, side, disk / side, block);
+        repair(array + (stripe - FIRST_COLUMN) * block, across * block, down, disk / across, block);
 }
 
 /* The survivors contradict each other: erased blocks and the sheet become zero. */
@@ -28,16 +28,16 @@ static inline uint32_t contradictory(size_t block, uint8_t *array, const uint8_t
     return CONTRADICTORY;
 }
 
-static inline uint32_t rebuild_by(plan_call *plan, repair_function *repair, check_call *check, size_t n, size_t block,
-                                  uint8_t *array, size_t array_len, const uint8_t *map, size_t map_len, uint8_t *sheet,
-                                  size_t sheet_len, size_t *count)
+static inline uint32_t rebuild_by(plan_call *plan, repair_function *repair, check_call *check, size_t rows,
+                                  size_t columns, size_t block, uint8_t *array, size_t array_len, const uint8_t *map,
+                                  size_t map_len, uint8_t *sheet, size_t sheet_len, size_t *count)
 {
     size_t made, stripe;
-    uint32_t status = plan(n, map, map_len, sheet, sheet_len, &made);
+    uint32_t status = plan(rows, columns, map, map_len, sheet, sheet_len, &made);
     if (status == 0) {
         for (size_t k = 0; k < made; k++)
-            repair_by(repair, n, block, array, disk_of(sheet, k), stripe_of(sheet, k));
-        if (check(n, block, array, array_len, &stripe) != SEALED)
+            repair_by(repair, rows, columns, block, array, disk_of(sheet, k), stripe_of(sheet, k));
+        if (check(rows, columns, block, array, array_len, &stripe) != SEALED)
             return contradictory(block, array, map, map_len, sheet, sheet_len);
     }
     *count = made;

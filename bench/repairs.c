@@ -5,7 +5,7 @@
 
 #include <stdio.h>
 
-static const struct size sizes[] = {{15, 512, MIDDLE_COLUMN}, {15, 4096, MIDDLE_COLUMN}};
+static const struct size sizes[] = {{15, 15, 512, MIDDLE_COLUMN}, {15, 15, 4096, MIDDLE_COLUMN}};
 
 /* A middle disk may take so many times the time of an end disk. */
 static const double MOST = 1.5;

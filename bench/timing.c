@@ -65,7 +65,7 @@ void time_maps(const struct call *call, struct input *input, const size_t *kinds
     size_t repeats = repeats_for(call, input);
     for (size_t i = 0; i < SAMPLES; i++) {
         for (size_t k = 0; k < count; k++) {
-            draw_map(kinds[k], input->size.n, input->map);
+            draw_map(kinds[k], input->size.rows, input->size.columns, input->map);
             samples[k][i] = sample(call, &peers[LIBRARY], input, repeats);
         }
     }

@@ -1,6 +1,7 @@
 /*
  * The peer that a C programmer writes for speed: sums are kept in a local array of 256 bytes, which the compiler
- * knows to overlap nothing, and row n is summed from whole rows. It is compiled twice, as `tuned` and as `native`.
+ * knows to overlap nothing, and the last row is summed from whole rows. It is compiled twice, as `tuned` and as
+ * `native`.
  */
 #include "peer.h"
 #include "rebuild.h"
@@ -55,37 +56,39 @@ static int is_zero(const uint8_t *first, size_t step, size_t count, size_t lengt
     return 1;
 }
 
-uint32_t NAME(PEER, seal)(size_t n, size_t block, uint8_t *array, size_t array_len)
+uint32_t NAME(PEER, seal)(size_t rows, size_t columns, size_t block, uint8_t *array, size_t array_len)
 {
-    size_t row = (n + 1) * block;
+    size_t row = (columns + 1) * block;
     (void)array_len;
-    for (size_t r = 0; r < n; r++)
-        put_sum(array + r * row + n * block, array + r * row, block, n, block);
-    put_sum(array + n * row, array, row, n, row);
+    for (size_t r = 0; r < rows; r++)
+        put_sum(array + r * row + columns * block, array + r * row, block, columns, block);
+    put_sum(array + rows * row, array, row, rows, row);
     return 0;
 }
 
-/* The lowest of n + 1 stripes whose sum is not zero, or n + 1. They begin `apart` bytes from each other. */
-static size_t lowest(size_t n, size_t block, const uint8_t *array, size_t apart, size_t step)
+/* The lowest of `stripes` stripes whose sum is not zero, or their number. They begin `apart` bytes from each other and
+   have `count` blocks that stand `step` bytes apart. */
+static size_t lowest(size_t stripes, size_t apart, const uint8_t *array, size_t step, size_t count, size_t block)
 {
     size_t s = 0;
-    while (s <= n && is_zero(array + s * apart, step, n + 1, block))
+    while (s < stripes && is_zero(array + s * apart, step, count, block))
         s++;
     return s;
 }
 
-uint32_t NAME(PEER, check)(size_t n, size_t block, const uint8_t *array, size_t array_len, size_t *stripe)
+uint32_t NAME(PEER, check)(size_t rows, size_t columns, size_t block, const uint8_t *array, size_t array_len,
+                           size_t *stripe)
 {
-    size_t row = (n + 1) * block;
-    size_t found = lowest(n, block, array, row, block);
+    size_t down = rows + 1, across = columns + 1, row = across * block;
+    size_t found = lowest(down, row, array, block, across, block);
     (void)array_len;
-    if (found <= n) {
+    if (found < down) {
         *stripe = found;
         return NOT_SEALED;
     }
-    if (is_zero(array, row, n + 1, row))
+    if (is_zero(array, row, down, row))
         return SEALED;
-    *stripe = FIRST_COLUMN + lowest(n, block, array, block, row);
+    *stripe = FIRST_COLUMN + lowest(across, block, array, row, down, block);
     return NOT_SEALED;
 }
 
@@ -102,13 +105,13 @@ static void store(uint8_t *restrict old, uint8_t *restrict row_parity, uint8_t *
     }
 }
 
-uint32_t NAME(PEER, write)(size_t n, size_t block, uint8_t *array, size_t array_len, size_t disk, const uint8_t *data,
-                           size_t data_len)
+uint32_t NAME(PEER, write)(size_t rows, size_t columns, size_t block, uint8_t *array, size_t array_len, size_t disk,
+                           const uint8_t *data, size_t data_len)
 {
-    size_t side = n + 1, r = disk / side, c = disk % side;
+    size_t across = columns + 1, r = disk / across, c = disk % across;
     (void)array_len, (void)data_len;
-    store(array + disk * block, array + (r * side + n) * block, array + (n * side + c) * block,
-          array + (n * side + n) * block, data, block);
+    store(array + disk * block, array + (r * across + columns) * block, array + (rows * across + c) * block,
+          array + (rows * across + columns) * block, data, block);
     return 0;
 }
 
@@ -140,9 +143,9 @@ static void repair(uint8_t *first, size_t step, size_t count, size_t own, size_t
     }
 }
 
-uint32_t NAME(PEER, rebuild)(size_t n, size_t block, uint8_t *array, size_t array_len, const uint8_t *map,
-                             size_t map_len, uint8_t *sheet, size_t sheet_len, size_t *count)
+uint32_t NAME(PEER, rebuild)(size_t rows, size_t columns, size_t block, uint8_t *array, size_t array_len,
+                             const uint8_t *map, size_t map_len, uint8_t *sheet, size_t sheet_len, size_t *count)
 {
-    return rebuild_by(tuned_plan, repair, NAME(PEER, check), n, block, array, array_len, map, map_len, sheet,
-                      sheet_len, count);
+    return rebuild_by(tuned_plan, repair, NAME(PEER, check), rows, columns, block, array, array_len, map, map_len,
+                      sheet, sheet_len, count);
 }

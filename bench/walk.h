@@ -6,6 +6,6 @@
 #include <stdint.h>
 
 /* Writes a loop of the disks that no repair brings back into the sheet. Each stripe with one of them has another. */
-void put_loop(size_t n, const uint8_t *left, uint8_t *sheet, size_t sheet_len);
+void put_loop(size_t columns, const uint8_t *left, uint8_t *sheet, size_t sheet_len);
 
 #endif
