@@ -36,7 +36,7 @@ static void read_bytes(const uint8_t *bytes, size_t length)
 
 static void copy_bytes(const uint8_t *bytes, size_t length)
 {
-    static uint8_t copy[ACROSS_MAX * ACROSS_MAX * BLOCK_MAX];
+    static uint8_t copy[DISKS_MAX * BLOCK_MAX];
     memcpy(copy, bytes, length);
     sink = copy[length - 1];
 }

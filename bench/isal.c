@@ -12,7 +12,7 @@ typedef int xor_function(int vectors, int length, void **array);
 /* Applies a function of ISA-L to `count` stretches that stand `step` bytes apart; the last is the sum of the others. */
 static int over(xor_function *function, const uint8_t *first, size_t step, size_t count, size_t length)
 {
-    void *stretches[ACROSS_MAX];
+    void *stretches[STRIPE_MAX];
     for (size_t k = 0; k < count; k++)
         stretches[k] = (void *)(first + k * step);
     return function((int)count, (int)length, stretches);
@@ -55,7 +55,7 @@ uint32_t isal_check(size_t rows, size_t columns, size_t block, const uint8_t *ar
 
 static void repair(uint8_t *first, size_t step, size_t count, size_t own, size_t block)
 {
-    void *blocks[ACROSS_MAX];
+    void *blocks[STRIPE_MAX];
     size_t others = 0;
     for (size_t k = 0; k < count; k++)
         if (k != own)

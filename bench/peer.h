@@ -44,8 +44,8 @@ plan_call tuned_plan;
 /* What the calls return besides 0, and the stripe of column 0, in the numbers of the C interface. */
 enum { SEALED = 0, FATAL = 6, CONTRADICTORY = 7, NOT_SEALED = 64, FIRST_COLUMN = 16 };
 
-/* The largest array: disks along a side, parity disks included, all disks, and bytes in a block. Stripe numbers are
+/* The largest array: disks of a row or a column, parity disks included, all disks, and bytes in a block. Stripe numbers are
    below STRIPES. */
-enum { ACROSS_MAX = 16, DISKS_MAX = 256, BLOCK_MAX = 4096, STRIPES = 32 };
+enum { STRIPE_MAX = 16, DISKS_MAX = 256, BLOCK_MAX = 4096, STRIPES = 32 };
 
 #endif

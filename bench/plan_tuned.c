@@ -12,7 +12,7 @@ struct tally {
 static size_t load(struct tally *tally, size_t down, size_t across, const uint8_t *map)
 {
     size_t erased = 0;
-    uint8_t columns[ACROSS_MAX] = {0};
+    uint8_t columns[STRIPE_MAX] = {0};
     memset(tally->on, 0, sizeof tally->on);
     memcpy(tally->left, map, down * across);
     for (size_t r = 0; r < down; r++) {
@@ -28,7 +28,7 @@ static size_t load(struct tally *tally, size_t down, size_t across, const uint8_
     return erased;
 }
 
-/* The column of the lowest disk of a row that can be repaired, or the number of columns. */
+/* The column of the lowest disk of a row that can be repaired, or the number of disks in it. */
 static size_t in_row(const struct tally *tally, size_t across, size_t row)
 {
     const uint8_t *left = tally->left + row * across, *columns = tally->on + FIRST_COLUMN;

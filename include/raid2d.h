@@ -153,7 +153,7 @@ extern "C" {
  */
 uint32_t raid2d_version_number(void);
 
-/* Data rows, and data columns: the range of each. */
+/* The range of a side: of data rows, and of data columns. */
 #define RAID2D_SIDE_MIN  2
 #define RAID2D_SIDE_MAX  15
 

@@ -149,8 +149,8 @@ static void ring(void)
         sheet[4 + 3 * k] = (uint8_t)((k + 1) % RAID2D_SHEET_RECORDS + 1);
 }
 
-/* The longest cycle: two disks in each row and column of a square, 32 at the
-   largest size. */
+/* The longest cycle: two disks in each row and column of the largest square
+   that fits, 32 at the largest size. */
 static void stairs(void)
 {
     size_t steps = (rows < columns ? rows : columns) + 1, i;

@@ -101,8 +101,9 @@ void expect_run(struct call *call, size_t result, size_t out, const char *what);
 
 void end_call(struct call *call);
 
-/* Runs a test at every number of rows and of columns, with block lengths on
-   both sides of what the library sums at a time. */
+/* Runs a test at every number of rows and of columns. Squares, the lowest and
+   the narrowest of the largest get block lengths on both sides of what the
+   library sums at a time, the others two of these lengths in turn. */
 void at_every_size(void (*test)(struct size size));
 
 /* The parts of the suite, one to a file. */

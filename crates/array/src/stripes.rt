@@ -9,7 +9,7 @@ ghost use Rattle.model.specs.Grid.{rows, across, gridOf};
 ghost use Rattle.model.specs.Refusal.{refusal, arrayTests};
 use model::Size;
 
-// The lowest such row, or n + 1 where there is none.
+// The lowest such row, or the number of rows where there is none.
 pub fn lowest_row(size: Size, block: usize, array: &[u8]) -> usize
     requires { ⌜ refusal (arrayTests size block (length (now array))) ≡ 0 ⌝ }
     ensures { λ r. ⌜ r ≡ lowest (rows size + 1) (λ s. not (sumsToZero (gridOf size) (whole block) (now (array .entry)) s)) ⌝ }
@@ -20,9 +20,9 @@ pub fn lowest_row(size: Size, block: usize, array: &[u8]) -> usize
     xor::cancel::lowest_nonzero(array, pitch, down, block, across, across, block)
 }
 
-// The lowest such column, counted from 0, or n + 1 where there is none, of an array whose rows all sum to zero. All columns
-// but the last are tested at once first, as the sum of whole rows; the sum of the last follows from the others. Only where
-// that is not zero is there a column to look for.
+// The lowest such column, counted from 0, or the number of columns where there is none, of an array whose rows all sum to zero.
+// All columns but the last are tested at once first, as the sum of whole rows; the sum of the last follows from the others. Only
+// where that is not zero is there a column to look for. Rows and columns are those of the grid, parities included.
 pub fn lowest_column(size: Size, block: usize, array: &[u8]) -> usize
     requires { ⌜ refusal (arrayTests size block (length (now array))) ≡ 0 ⌝ }
     requires { ⌜ lowest (rows size + 1) (λ s. not (sumsToZero (gridOf size) (whole block) (now array) s)) ≡ rows size + 1 ⌝ }

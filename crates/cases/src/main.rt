@@ -1,4 +1,5 @@
-// Cases 10 to 12 of paper 01, executed through the library's calls: one line for each outcome.
+// Cases 10 to 12 of paper 01, and the like where rows and columns differ, executed through the library's calls: one line for each
+// outcome.
 mod counts;
 mod largest;
 mod refusals;

@@ -1,4 +1,4 @@
-// Cases 10 and 11: sizes, blocks, a map byte and a disk that are refused.
+// Cases 10 and 11: sizes, blocks, a map byte and disks that are refused, and the disks beside them that are not.
 use crate::say;
 use libc::STDOUT_FILENO;
 use model::Size;
@@ -87,7 +87,7 @@ fn two_by_two() -> Size {
     }
 }
 
-// B = 0, likewise.
+// B = 0, with the buffers that such an array would have.
 fn block_zero() {
     let size = two_by_two();
     let mut array = [0u8; 0];
@@ -112,6 +112,7 @@ fn map_byte() {
     let mut sheet = [0u8; 98];
     let first = [2u8, 0, 0, 0, 0, 0, 0, 0, 0];
     let last = [0u8, 0, 0, 0, 0, 0, 0, 0, 2];
+    heading(2, 2, 1);
     planned(b"plan with 2 in the map", size, &first);
     planned(b"plan with 2 at the map's end", size, &last);
     say::outcome(
@@ -124,19 +125,25 @@ fn map_byte() {
     );
 }
 
-// What write answers for a disk, with zeros everywhere.
-fn written(what: &[u8], rows: usize, columns: usize, disk: usize) {
+// What write answers for disks 2 and 3 of a size with 12 disks.
+fn written(rows: usize, columns: usize) {
     let size = Size { rows, columns };
     let mut array = [0u8; 12];
-    say::status(what, array::write(size, 1, &mut array, disk, b"a"));
+    heading(rows, columns, 1);
+    say::status(
+        b"write to disk 2",
+        array::write(size, 1, &mut array, 2, b"a"),
+    );
+    say::status(
+        b"write to disk 3",
+        array::write(size, 1, &mut array, 3, b"a"),
+    );
 }
 
 // Row 0 ends with disk 3 where there are three data columns, and with disk 2 where there are two.
 fn last_of_row_0() {
-    written(b"2 x 3, write to disk 2", 2, 3, 2);
-    written(b"2 x 3, write to disk 3", 2, 3, 3);
-    written(b"3 x 2, write to disk 2", 3, 2, 2);
-    written(b"3 x 2, write to disk 3", 3, 2, 3);
+    written(2, 3);
+    written(3, 2);
 }
 
 // Disk 2 is the parity of row 0, so that no block is written there.

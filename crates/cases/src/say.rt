@@ -21,7 +21,7 @@ pub fn number(what: &[u8], value: usize) {
     io::write_all(STDOUT_FILENO, what);
     io::write_all(STDOUT_FILENO, b": ");
     io::print_decimal(STDOUT_FILENO, value as u64);
-    io::write_all(STDOUT_FILENO, b"\n");
+    end();
 }
 
 // The same for a status.

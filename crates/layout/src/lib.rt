@@ -3,9 +3,9 @@
 ghost use mathlib.Core.Path.{_≡_};
 ghost use mathlib.Core.Bool.{true};
 ghost use Prim.Native.Nat.{_≤_};
-ghost use Rattle.model.specs.Grid.{rows, columns, across, disks, diskAt, arrayBytes, isData, sideFits, sizeFits, blockFits, mapFits};
 ghost use Rattle.model.specs.Stripes.{on};
-ghost use Rattle.model.specs.Grid.{gridOf};
+ghost use Rattle.model.specs.Grid.{rows, columns, across, gridOf, disks, diskAt, arrayBytes, isData};
+ghost use Rattle.model.specs.Grid.{sideFits, sizeFits, blockFits, mapFits};
 ghost use Rattle.model.specs.Refusal.{refusal, arrayTests};
 ghost use Rattle.model.specs.Rebuild.{sheetTests};
 ghost use Rattle.layout.specs.Stripe.{disksOn, placeOn, rowStripe, columnStripe};

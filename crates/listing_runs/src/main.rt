@@ -13,7 +13,7 @@ fn run(name: &[u8], input: &[u8]) {
 
 // Inputs that are refused.
 fn refused() {
-    let wide = [0u8; 259];
+    let zeros = [0u8; 259];
     let mut most = [0u8; 259];
     most[0] = 15;
     most[1] = 15;
@@ -25,7 +25,7 @@ fn refused() {
     run(b"16 x 2 alone", b"\x10\x02");
     run(b"2 x 16 alone", b"\x02\x10");
     run(b"255 x 255 alone", b"\xff\xff");
-    run(b"0 x 0 with 257 bytes", &wide);
+    run(b"0 x 0 with 257 bytes", &zeros);
     run(b"2 x 2 with 8 bytes", b"\x02\x02\0\0\0\0\0\0\0\0");
     run(b"2 x 2 with 10 bytes", b"\x02\x02\0\0\0\0\0\0\0\0\0\0");
     run(b"2 x 2 with a byte of 2", b"\x02\x02\0\0\0\0\0\0\0\0\x02");

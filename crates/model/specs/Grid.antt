@@ -69,6 +69,6 @@ sizeFits z = sideFits (rows z) && sideFits (columns z)
 unfoldable pub blockFits : ℕ → Bool
 blockFits B = leb 1 B && leb B 4096
 
--- What paper 01's refusal 4 tests: a map has a byte for each disk, 0 present, 1 erased (paper 01: marked).
+-- What refusal 4 tests: a map has a byte for each disk, 0 present, 1 erased (paper 01: marked).
 unfoldable pub mapFits : Size → List ℕ → Bool
 mapFits z m = eqb (length m) (disks z) && every (length m) (λ d. leb (getD m d 0) 1)

@@ -9,7 +9,7 @@ ghost use Rattle.peel.specs.Pick.{lowestInRow, picked};
 use crate::Next;
 use model::Size;
 
-// The column of the lowest disk in a row that can be repaired, or the number of columns where there is none.
+// The column of the lowest disk in a row that can be repaired, or the number of disks in the row where there is none.
 fn in_row(size: Size, work: &[u8], counts: &[u8], row: usize) -> usize
     requires { ⌜ sizeFits size ≡ true ⌝ }
     requires { ⌜ Tallied size (now work) (now counts) ⌝ }
