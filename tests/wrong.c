@@ -1,33 +1,63 @@
 /*
- * Stands before the archive: plan, write and follow are passed on to it, with
- * the one fault that the environment variable WRONG names, or none. The faults
- * are of the kind that guard bytes, sums and samples do not show: a byte that
- * is only read, or written as it was, and single losses among millions.
- * tests/wrong renames the archive's functions and sees that the tests fail.
+ * Stands before the archive: every call is passed on to it, with the one fault
+ * that the environment variable WRONG names, or none. The faults are of the
+ * kind that guard bytes, sums, samples and squares do not show: a byte that is
+ * only read, or written as it was, single losses among millions, and rows that
+ * are taken for columns. tests/wrong renames the archive's functions and sees
+ * that the tests fail.
  */
 #include <stdlib.h>
 #include <string.h>
 
 #include "raid2d.h"
 
-uint32_t right_plan(size_t n, const uint8_t *map, size_t map_len,
+uint32_t right_seal(size_t rows, size_t columns, size_t block,
+                    uint8_t *array, size_t array_len);
+uint32_t right_check(size_t rows, size_t columns, size_t block,
+                     const uint8_t *array, size_t array_len, size_t *stripe);
+uint32_t right_write(size_t rows, size_t columns, size_t block,
+                     uint8_t *array, size_t array_len, size_t disk,
+                     const uint8_t *data, size_t data_len);
+size_t right_look(size_t rows, size_t columns, size_t block,
+                  const uint8_t *array, size_t array_len,
+                  const uint8_t *map, size_t map_len,
+                  size_t disk, size_t *offset);
+uint32_t right_plan(size_t rows, size_t columns,
+                    const uint8_t *map, size_t map_len,
                     uint8_t *sheet, size_t sheet_len, size_t *count);
-uint32_t right_write(size_t n, size_t block, uint8_t *array, size_t array_len,
-                     size_t disk, const uint8_t *data, size_t data_len);
-uint32_t right_follow(size_t n, size_t block, uint8_t *array, size_t array_len,
+uint32_t right_rebuild(size_t rows, size_t columns, size_t block,
+                       uint8_t *array, size_t array_len,
+                       const uint8_t *map, size_t map_len,
+                       uint8_t *sheet, size_t sheet_len, size_t *count);
+uint32_t right_follow(size_t rows, size_t columns, size_t block,
+                      uint8_t *array, size_t array_len,
                       const uint8_t *map, size_t map_len,
                       const uint8_t *sheet, size_t sheet_len, size_t *count);
 
 /* Asked so often that the environment is looked at only once. */
+static const char *wanted(void)
+{
+    static const char *name;
+
+    if (name == NULL)
+        name = getenv("WRONG");
+    if (name == NULL)
+        name = "";
+    return name;
+}
+
 static int wrong(const char *name)
 {
-    static const char *wanted;
+    return strcmp(wanted(), name) == 0;
+}
 
-    if (wanted == NULL)
-        wanted = getenv("WRONG");
-    if (wanted == NULL)
-        wanted = "";
-    return strcmp(wanted, name) == 0;
+/* A fault that each call can have: its name begins with that of the call. */
+static int wrong_in(const char *call, const char *fault)
+{
+    size_t length = strlen(call);
+
+    return strncmp(wanted(), call, length) == 0
+           && strcmp(wanted() + length, fault) == 0;
 }
 
 static void read_at(const void *place)
@@ -45,27 +75,85 @@ static void write_at(const void *place)
 /* Through a function that the compiler does not know, as the archive does. */
 static void *(*volatile set_bytes)(void *, int, size_t) = memset;
 
-/* The map erases these four disks and no others. */
-static int erases(const uint8_t *map, size_t map_len, const uint8_t *disks)
+/* ---- The two numbers of the size ---- */
+
+struct size {
+    size_t rows;
+    size_t columns;
+};
+
+static int fits(size_t side)
+{
+    return side >= RAID2D_SIDE_MIN && side <= RAID2D_SIDE_MAX;
+}
+
+/* The size that a call passes on. A number that is not tested is taken for the
+   other one where it is out of range. */
+static struct size passed_on(const char *call, size_t rows, size_t columns)
+{
+    struct size same = { rows, columns };
+    struct size swapped = { columns, rows };
+    struct size by_rows = { rows, rows };
+    struct size by_columns = { columns, columns };
+
+    if (wrong_in(call, " swaps rows and columns"))
+        return swapped;
+    if (wrong_in(call, " swaps 13 rows and 14 columns") && rows == 13
+        && columns == 14)
+        return swapped;
+    if (wrong_in(call, " tests only the rows") && !fits(columns))
+        return by_rows;
+    if (wrong_in(call, " tests only the columns") && !fits(rows))
+        return by_columns;
+    return same;
+}
+
+/* A call makes no more repairs than a square has that is as high or as wide. */
+static int too_many(const char *call, size_t rows, size_t columns,
+                    size_t repairs)
+{
+    if (wrong_in(call, " makes twice the rows and one repair"))
+        return repairs > 2 * rows + 1;
+    if (wrong_in(call, " makes twice the columns and one repair"))
+        return repairs > 2 * columns + 1;
+    return 0;
+}
+
+/* ---- Single losses ---- */
+
+/* Four disks at one size. */
+struct loss {
+    struct size size;
+    uint8_t disks[4];
+};
+
+/* The map erases these disks and no others. */
+static int is_loss(const struct loss *loss, size_t rows, size_t columns,
+                   const uint8_t *map, size_t map_len)
 {
     size_t disk, count = 0;
 
+    if (rows != loss->size.rows || columns != loss->size.columns)
+        return 0;
     for (disk = 0; disk < map_len; disk++)
         count += map[disk];
-    return count == 4 && map[disks[0]] && map[disks[1]]
-           && map[disks[2]] && map[disks[3]];
+    return count == 4 && map[loss->disks[0]] && map[loss->disks[1]]
+           && map[loss->disks[2]] && map[loss->disks[3]];
 }
 
-/* What one loss at n = 15 or at n = 4 gets. The rectangle has rows 12 and 14
-   and columns 9 and 13; the other four disks have no stripe in common. */
-static uint32_t spoil_plan(uint32_t status, size_t n, const uint8_t *map,
-                           size_t map_len, uint8_t *sheet, size_t *count)
+/* What one loss gets. The rectangle has rows 12 and 14 and columns 9 and 13;
+   none of the others is fatal. */
+static uint32_t spoil_plan(uint32_t status, size_t rows, size_t columns,
+                           const uint8_t *map, size_t map_len,
+                           uint8_t *sheet, size_t *count)
 {
-    static const uint8_t rectangle[4] = { 201, 205, 233, 237 };
-    static const uint8_t apart[4] = { 17, 34, 51, 255 };
-    static const uint8_t small[4] = { 11, 17, 23, 24 };
-    int is_rectangle = n == 15 && erases(map, map_len, rectangle);
-    int is_apart = n == 15 && erases(map, map_len, apart);
+    static const struct loss rectangle = { { 15, 15 }, { 201, 205, 233, 237 } };
+    static const struct loss apart = { { 15, 15 }, { 17, 34, 51, 255 } };
+    static const struct loss low = { { 2, 15 }, { 0, 17, 34, 47 } };
+    static const struct loss small = { { 4, 4 }, { 11, 17, 23, 24 } };
+    static const struct loss smaller = { { 3, 4 }, { 6, 12, 18, 19 } };
+    int is_rectangle = is_loss(&rectangle, rows, columns, map, map_len);
+    int is_apart = is_loss(&apart, rows, columns, map, map_len);
 
     if (wrong("takes one rectangle for repaired") && is_rectangle) {
         memcpy(sheet, "\1\1\311\14\2\315\35\3\355\16\4\351\31", 14);
@@ -81,16 +169,106 @@ static uint32_t spoil_plan(uint32_t status, size_t n, const uint8_t *map,
         *count = 3;
     if (wrong("leaves a byte of one sheet") && is_apart)
         sheet[97] = 1;
-    if (wrong("takes one map of n = 4 for fatal") && n == 4 &&
-        erases(map, map_len, small))
+    if ((wrong("takes one loss of 2 by 15 for fatal")
+         && is_loss(&low, rows, columns, map, map_len))
+        || (wrong("takes one map of 4 by 4 for fatal")
+            && is_loss(&small, rows, columns, map, map_len))
+        || (wrong("takes one map of 3 by 4 for fatal")
+            && is_loss(&smaller, rows, columns, map, map_len)))
         return 6;
     return status;
 }
 
-uint32_t raid2d_plan(size_t n, const uint8_t *map, size_t map_len,
+/* ---- The calls ---- */
+
+uint32_t raid2d_seal(size_t rows, size_t columns, size_t block,
+                     uint8_t *array, size_t array_len)
+{
+    struct size size = passed_on("seal", rows, columns);
+
+    return right_seal(size.rows, size.columns, block, array, array_len);
+}
+
+uint32_t raid2d_check(size_t rows, size_t columns, size_t block,
+                      const uint8_t *array, size_t array_len,
+                      size_t *stripe)
+{
+    struct size size = passed_on("check", rows, columns);
+    size_t before = *stripe, lowest = 0;
+    uint32_t status = right_check(size.rows, size.columns, block, array,
+                                  array_len, stripe);
+
+    if (status == RAID2D_NOT_SEALED)
+        lowest = *stripe;
+    if ((wrong("check looks at as many columns as rows")
+         && lowest > RAID2D_COLUMN_STRIPE + rows)
+        || (wrong("check looks at as many rows as columns")
+            && lowest > columns && lowest < RAID2D_COLUMN_STRIPE)) {
+        *stripe = before;
+        return 0;
+    }
+    return status;
+}
+
+uint32_t raid2d_write(size_t rows, size_t columns, size_t block,
+                      uint8_t *array, size_t array_len, size_t disk,
+                      const uint8_t *data, size_t data_len)
+{
+    struct size size = passed_on("write", rows, columns);
+    uint32_t status = right_write(size.rows, size.columns, block, array,
+                                  array_len, disk, data, data_len);
+
+    if (wrong("reads a byte behind the data") && status == 0)
+        read_at(data + data_len);
+    if (wrong("reads a byte before the data") && status == 0)
+        read_at(data - 1);
+    if (wrong("writes the data, the same bytes") && status == 0)
+        write_at(data);
+    return status;
+}
+
+/* A look that takes every number of rows and columns. */
+static size_t look_untested(size_t rows, size_t columns, size_t block,
+                            size_t array_len,
+                            const uint8_t *map, size_t map_len,
+                            size_t disk, size_t *offset)
+{
+    size_t disks = RAID2D_DISKS(rows, columns);
+    size_t other;
+
+    if (block < RAID2D_BLOCK_MIN || block > RAID2D_BLOCK_MAX
+        || array_len != disks * block || map_len != disks || disk >= disks
+        || map[disk] != 0)
+        return 0;
+    for (other = 0; other < disks; other++)
+        if (map[other] > 1)
+            return 0;
+    *offset = disk * block;
+    return block;
+}
+
+/* To swap the numbers would be no fault here. */
+size_t raid2d_look(size_t rows, size_t columns, size_t block,
+                   const uint8_t *array, size_t array_len,
+                   const uint8_t *map, size_t map_len,
+                   size_t disk, size_t *offset)
+{
+    if ((wrong("look tests only the rows") && fits(rows) && !fits(columns))
+        || (wrong("look tests only the columns") && fits(columns)
+            && !fits(rows)))
+        return look_untested(rows, columns, block, array_len, map, map_len,
+                             disk, offset);
+    return right_look(rows, columns, block, array, array_len, map, map_len,
+                      disk, offset);
+}
+
+uint32_t raid2d_plan(size_t rows, size_t columns,
+                     const uint8_t *map, size_t map_len,
                      uint8_t *sheet, size_t sheet_len, size_t *count)
 {
-    uint32_t status = right_plan(n, map, map_len, sheet, sheet_len, count);
+    struct size size = passed_on("plan", rows, columns);
+    uint32_t status = right_plan(size.rows, size.columns, map, map_len, sheet,
+                                 sheet_len, count);
 
     if (status != 0 && status != 6)
         return status;
@@ -106,30 +284,35 @@ uint32_t raid2d_plan(size_t n, const uint8_t *map, size_t map_len,
         write_at(map);
     if (wrong("clears a byte behind the sheet"))
         set_bytes(sheet + sheet_len, 0, 1);
-    return spoil_plan(status, n, map, map_len, sheet, count);
+    if (status == 0 && too_many("plan", rows, columns, *count))
+        return 6;
+    return spoil_plan(status, rows, columns, map, map_len, sheet, count);
 }
 
-uint32_t raid2d_write(size_t n, size_t block, uint8_t *array, size_t array_len,
-                      size_t disk, const uint8_t *data, size_t data_len)
+uint32_t raid2d_rebuild(size_t rows, size_t columns, size_t block,
+                        uint8_t *array, size_t array_len,
+                        const uint8_t *map, size_t map_len,
+                        uint8_t *sheet, size_t sheet_len, size_t *count)
 {
-    uint32_t status =
-        right_write(n, block, array, array_len, disk, data, data_len);
+    struct size size = passed_on("rebuild", rows, columns);
+    uint32_t status = right_rebuild(size.rows, size.columns, block, array,
+                                    array_len, map, map_len, sheet, sheet_len,
+                                    count);
 
-    if (wrong("reads a byte behind the data") && status == 0)
-        read_at(data + data_len);
-    if (wrong("reads a byte before the data") && status == 0)
-        read_at(data - 1);
-    if (wrong("writes the data, the same bytes") && status == 0)
-        write_at(data);
+    if (status == 0 && too_many("rebuild", rows, columns, *count))
+        return 6;
     return status;
 }
 
-uint32_t raid2d_follow(size_t n, size_t block, uint8_t *array, size_t array_len,
+uint32_t raid2d_follow(size_t rows, size_t columns, size_t block,
+                       uint8_t *array, size_t array_len,
                        const uint8_t *map, size_t map_len,
                        const uint8_t *sheet, size_t sheet_len, size_t *count)
 {
-    uint32_t status = right_follow(n, block, array, array_len, map, map_len,
-                                   sheet, sheet_len, count);
+    struct size size = passed_on("follow", rows, columns);
+    uint32_t status = right_follow(size.rows, size.columns, block, array,
+                                   array_len, map, map_len, sheet, sheet_len,
+                                   count);
 
     if (wrong("reads a byte behind the array") && status == 0)
         read_at(array + array_len);
@@ -137,5 +320,7 @@ uint32_t raid2d_follow(size_t n, size_t block, uint8_t *array, size_t array_len,
         read_at(array - 1);
     if (wrong("writes the sheet, the same bytes") && status == 11)
         write_at(sheet);
+    if (status == 0 && too_many("follow", rows, columns, *count))
+        return 11;
     return status;
 }

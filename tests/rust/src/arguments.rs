@@ -1,17 +1,17 @@
 //! Arguments that are good most of the time. Each is drawn for itself, so that a call often has two or three reasons
 //! to refuse and the order of the refusals is seen.
 
-use crate::inputs::{Size, BLOCK_MAX, SIDE_MAX};
-use crate::model::disk_count;
+use crate::inputs::{random_grid, BLOCK_MAX, SIDE_MAX, SIDE_MIN};
 use crate::random::Random;
 use crate::sheet::SHEET;
+use crate::size::{Grid, Size};
 use crate::{losses, model, sheets};
 
 /// Buffers in these tests are no longer than this.
 const LONGEST: usize = 1 << 21;
 
 /// One argument in so many is bad.
-const BAD: usize = 5;
+const BAD: usize = 6;
 
 /// Numbers that become the good one, or nearly, where a call narrows them or lets a product overflow.
 fn wrapping(random: &mut Random, good: usize) -> usize {
@@ -32,6 +32,11 @@ fn number(random: &mut Random, good: usize, misses: &[usize]) -> usize {
     wrapping(random, good)
 }
 
+/// Rows or columns: the good number, or now and then another.
+fn side(random: &mut Random, good: usize) -> usize {
+    number(random, good, &[0, 1, SIDE_MIN, SIDE_MAX, SIDE_MAX + 1, SIDE_MAX + 2, 255, 256])
+}
+
 /// The length of a buffer whose right length is given: right, or now and then wrong, wrapping included.
 pub fn length(random: &mut Random, right: usize) -> usize {
     if !random.one_in(BAD) {
@@ -43,53 +48,62 @@ pub fn length(random: &mut Random, right: usize) -> usize {
     random.pick(&wrong)
 }
 
-/// The two numbers with which the calls begin, and an array.
+/// The size with which a call begins, and an array.
 pub struct Array {
-    /// The size for which the array was made; what is passed as n and block may be something else.
+    /// The size for which the array is made, and all else that is lent with it.
     pub made_for: Size,
-    pub n: usize,
-    pub block: usize,
+    /// The size that is passed. It may be something else.
+    pub passed: Size,
     pub bytes: Vec<u8>,
 }
 
-/// The array's length by the numbers passed, where they give one that can be lent.
-fn fitting(n: usize, block: usize) -> Option<usize> {
-    let disks = n.checked_add(1)?.checked_mul(n + 1)?;
-    disks.checked_mul(block).filter(|&bytes| bytes <= LONGEST)
+/// Whether a map and an array of this size can be lent.
+fn can_be_lent(size: Size) -> bool {
+    let rows = size.grid.rows.checked_add(1);
+    let columns = size.grid.columns.checked_add(1);
+    let disks = rows.zip(columns).and_then(|(rows, columns)| rows.checked_mul(columns));
+    let bytes = disks.and_then(|disks| disks.checked_mul(size.block.max(1)));
+    bytes.is_some_and(|bytes| bytes <= LONGEST)
 }
 
 pub fn array(random: &mut Random) -> Array {
     let largest = random.pick(&[1, 2, 16, 17, 40, 130]);
-    let made_for = Size { n: random.between(2, SIDE_MAX), block: random.between(1, largest) };
-    let n = number(random, made_for.n, &[0, 1, SIDE_MAX + 1, SIDE_MAX + 2, 255, 256]);
-    let block = number(random, made_for.block, &[0, BLOCK_MAX + 1, BLOCK_MAX + 2, 2 * BLOCK_MAX]);
-    // A wrong number has to be refused for itself too, where the array's length agrees with it.
-    let agreeing = fitting(n, block).filter(|_| random.one_in(2));
-    let right = agreeing.unwrap_or(made_for.bytes());
-    let bytes = length(random, right);
-    Array { made_for, n, block, bytes: random.bytes(bytes) }
+    let good = Size { grid: random_grid(random), block: random.between(1, largest) };
+    let grid = Grid::new(side(random, good.grid.rows), side(random, good.grid.columns));
+    let block = number(random, good.block, &[0, BLOCK_MAX + 1, BLOCK_MAX + 2, 2 * BLOCK_MAX]);
+    let passed = Size { grid, block };
+    // A wrong number has to be refused for itself too, where the lengths of all buffers agree with it.
+    let made_for = if can_be_lent(passed) && random.one_in(2) { passed } else { good };
+    let bytes = length(random, made_for.bytes());
+    Array { made_for, passed, bytes: random.bytes(bytes) }
 }
 
 /// Most of the arrays that fit are sealed, so that calls with a map meet each of their answers.
 pub fn mostly_sealed(random: &mut Random) -> Array {
     let mut drawn = array(random);
     if !random.one_in(4) {
-        drawn.bytes = model::seal(drawn.n, drawn.block, &drawn.bytes).written.remove(0);
+        drawn.bytes = model::seal(drawn.passed, &drawn.bytes).written.remove(0);
     }
     drawn
 }
 
 /// A disk's number: any disk of the grid, or now and then one outside it.
-pub fn disk(random: &mut Random, size: Size) -> usize {
-    let good = random.below(size.disks());
-    number(random, good, &[size.disks(), size.disks() + 1, 255, 256, 256 + good])
+pub fn disk(random: &mut Random, grid: Grid) -> usize {
+    let good = random.below(grid.disks());
+    number(random, good, &[grid.disks(), grid.disks() + 1, 255, 256, 256 + good])
 }
 
-/// A map for n: a loss of any kind, or now and then one of a wrong length or with a byte above 1.
-pub fn map(random: &mut Random, n: usize) -> Vec<u8> {
-    let kind = random.below(losses::KINDS);
-    let mut map = losses::map(random, n, kind);
-    map.resize(length(random, disk_count(n)), 0);
+/// A loss of any kind; none on a grid that no call takes.
+fn any_loss(random: &mut Random, grid: Grid) -> Vec<u8> {
+    let good = |side: usize| (SIDE_MIN..=SIDE_MAX).contains(&side);
+    let kind = if good(grid.rows) && good(grid.columns) { random.below(losses::KINDS) } else { losses::NONE };
+    losses::map(random, grid, kind)
+}
+
+/// A map for a grid: a loss, or now and then one of a wrong length or with a byte above 1.
+pub fn map(random: &mut Random, grid: Grid) -> Vec<u8> {
+    let mut map = any_loss(random, grid);
+    map.resize(length(random, grid.disks()), 0);
     if random.one_in(BAD) {
         spoil(random, &mut map, 0);
     }
@@ -114,11 +128,11 @@ pub fn sheet(random: &mut Random) -> Vec<u8> {
 }
 
 /// A list of repairs for the map, now and then with something wrong or of a wrong length.
-pub fn repairs(random: &mut Random, n: usize, map: &[u8]) -> Vec<u8> {
-    let steps = sheets::any_order(random, n, map);
+pub fn repairs(random: &mut Random, grid: Grid, map: &[u8]) -> Vec<u8> {
+    let steps = sheets::any_order(random, grid, map);
     let mut sheet = sheets::scattered(random, &steps);
     if random.one_in(BAD) {
-        sheet = sheets::damaged(random, n, &sheet);
+        sheet = sheets::damaged(random, grid, &sheet);
     }
     sheet.resize(length(random, SHEET), 0);
     sheet

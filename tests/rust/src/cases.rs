@@ -1,14 +1,26 @@
-//! The cases of paper 01. The paper's outcome is expected of the library and of the model, which ties the model to the
-//! paper.
+//! The cases of paper 01, which has only squares, and the like on a grid wider than high and on one higher than wide.
+//! What is stated here is expected of the library and of the model, which ties the model to the papers.
 
-use crate::losses::map_of;
-use crate::model::{disk_count, BROKEN, FATAL};
+use crate::inputs::{grids_up_to, BLOCK_MAX, LARGEST};
+use crate::losses::{map_of, map_of_bits, rectangles, sets_up_to};
+use crate::model::{BROKEN, FATAL};
 use crate::outcome::Outcome;
 use crate::sheet::SHEET;
+use crate::size::{Grid, Size};
 use crate::{ffi, model, Run};
 
-/// The paper's sealed array A, for n = 2 and block = 1.
-const A: [u8; 9] = [1, 2, 3, 4, 8, 12, 5, 10, 15];
+/// A sealed array with blocks of one byte.
+#[derive(Clone, Copy)]
+struct Sealed {
+    size: Size,
+    array: &'static [u8],
+}
+
+/// The paper's sealed array A.
+const A: Sealed = Sealed { size: Size::new(2, 2, 1), array: &[1, 2, 3, 4, 8, 12, 5, 10, 15] };
+/// Data 1 2 4 / 8 16 32, and the same with rows for columns.
+const WIDE: Sealed = Sealed { size: Size::new(2, 3, 1), array: &[1, 2, 4, 7, 8, 16, 32, 56, 9, 18, 36, 63] };
+const HIGH: Sealed = Sealed { size: Size::new(3, 2, 1), array: &[1, 8, 9, 2, 16, 18, 4, 32, 36, 7, 56, 63] };
 
 type Found = Result<Outcome, String>;
 
@@ -17,14 +29,23 @@ fn stated(run: &mut Run, case: &str, expected: Outcome, library: impl FnOnce() -
     run.tally.compare(|| format!("case {case}, the model"), &expected, || Ok(model));
 }
 
-fn seal(run: &mut Run, case: &str, n: usize, block: usize, array: &[u8], status: usize, after: &[u8]) {
+fn seal(run: &mut Run, case: &str, size: Size, array: &[u8], status: usize, after: &[u8]) {
     let expected = Outcome::writing(status, after.to_vec());
-    stated(run, case, expected, || ffi::seal(n, block, array), model::seal(n, block, array));
+    stated(run, case, expected, || ffi::seal(size, array), model::seal(size, array));
 }
 
-fn write(run: &mut Run, case: &str, disk: usize, data: &[u8], status: usize, after: &[u8]) {
+/// Seals to the known array, which is then found sealed.
+fn seals(run: &mut Run, case: &str, known: Sealed, array: &[u8]) {
+    seal(run, case, known.size, array, 0, known.array);
+    let (found, model) = (|| ffi::check(known.size, known.array), model::check(known.size, known.array));
+    stated(run, &format!("{case}, checked"), Outcome::reading(0, None), found, model);
+}
+
+/// Writes 9 to a disk of the known array.
+fn write(run: &mut Run, case: &str, known: Sealed, disk: usize, status: usize, after: &[u8]) {
+    let Sealed { size, array } = known;
     let expected = Outcome::writing(status, after.to_vec());
-    stated(run, case, expected, || ffi::write(2, 1, &A, disk, data), model::write(2, 1, &A, disk, data));
+    stated(run, case, expected, || ffi::write(size, array, disk, &[9]), model::write(size, array, disk, &[9]));
 }
 
 /// A sheet that begins with these bytes, then zeros.
@@ -37,131 +58,202 @@ fn sheet(begins: &[u8]) -> Vec<u8> {
 /// What is in the sheet before a call.
 const OLD: [u8; SHEET] = [77; SHEET];
 
-/// The paper's outcome is expected of plan. The model leaves the loop open, so that of a fatal loss it has only the
+/// The outcome stated is expected of plan. The model leaves the loop open, so that of a fatal loss it has only the
 /// status and the count.
-fn plan(run: &mut Run, case: &str, map: &[u8], status: usize, count: usize, begins: &[u8]) {
+fn plan(run: &mut Run, case: &str, grid: Grid, map: &[u8], status: usize, count: usize, begins: &[u8]) {
     let expected = Outcome { answer: status, out: Some(count), written: vec![sheet(begins)] };
-    let mut model = model::plan(2, map, &OLD);
+    let mut model = model::plan(grid, map, &OLD);
     if status == FATAL {
         model.written = expected.written.clone();
     }
-    stated(run, &format!("{case}, plan"), expected, || ffi::plan(2, map, &OLD), model);
+    stated(run, &format!("{case}, plan"), expected, || ffi::plan(grid, map, &OLD), model);
 }
 
 /// The array with 99 on the marked cards.
-fn lost(mut array: [u8; 9], map: &[u8]) -> [u8; 9] {
-    (0..9).filter(|&card| map[card] == 1).for_each(|card| array[card] = 99);
-    array
+fn lost(array: &[u8], map: &[u8]) -> Vec<u8> {
+    array.iter().zip(map).map(|(&byte, &mark)| if mark == 1 { 99 } else { byte }).collect()
 }
 
 /// The same of rebuild.
-fn rebuild(run: &mut Run, case: &str, array: [u8; 9], map: &[u8], expected: Outcome) {
+fn rebuild(run: &mut Run, case: &str, size: Size, array: &[u8], map: &[u8], expected: Outcome) {
     let lost = lost(array, map);
-    let mut model = model::rebuild(2, 1, &lost, map, &OLD);
+    let mut model = model::rebuild(size, &lost, map, &OLD);
     if expected.answer == FATAL {
         model.written[1] = expected.written[1].clone();
     }
-    stated(run, &format!("{case}, rebuild"), expected, || ffi::rebuild(2, 1, &lost, map, &OLD), model);
+    stated(run, &format!("{case}, rebuild"), expected, || ffi::rebuild(size, &lost, map, &OLD), model);
 }
 
 /// The same of follow on plan's sheet: the loop of a fatal loss is refused by 10, and otherwise it does as rebuild.
-fn follow(run: &mut Run, case: &str, array: [u8; 9], map: &[u8], begins: &[u8], expected: Outcome) {
+fn follow(run: &mut Run, case: &str, size: Size, array: &[u8], map: &[u8], begins: &[u8], expected: Outcome) {
     let (lost, sheet) = (lost(array, map), sheet(begins));
-    let model = model::follow(2, 1, &lost, map, &sheet);
-    stated(run, &format!("{case}, follow"), expected, || ffi::follow(2, 1, &lost, map, &sheet), model);
+    let model = model::follow(size, &lost, map, &sheet);
+    stated(run, &format!("{case}, follow"), expected, || ffi::follow(size, &lost, map, &sheet), model);
 }
 
-fn restored(run: &mut Run, case: &str, marked: &[usize], begins: &[u8]) {
-    let (map, count) = (map_of(2, marked), marked.len());
-    plan(run, case, &map, 0, count, begins);
-    let written = vec![A.to_vec(), sheet(begins)];
-    rebuild(run, case, A, &map, Outcome { answer: 0, out: Some(count), written });
-    follow(run, case, A, &map, begins, Outcome { answer: 0, out: Some(count), written: vec![A.to_vec()] });
+fn restored(run: &mut Run, case: &str, known: Sealed, marked: &[usize], begins: &[u8]) {
+    let Sealed { size, array } = known;
+    let (map, out) = (map_of(size.grid, marked), Some(marked.len()));
+    plan(run, case, size.grid, &map, 0, marked.len(), begins);
+    let written = vec![array.to_vec(), sheet(begins)];
+    rebuild(run, case, size, array, &map, Outcome { answer: 0, out, written });
+    follow(run, case, size, array, &map, begins, Outcome { answer: 0, out, written: vec![array.to_vec()] });
 }
 
-fn fatal(run: &mut Run, case: &str, marked: &[usize], begins: &[u8]) {
-    let (map, count) = (map_of(2, marked), marked.len());
-    let kept = lost(A, &map).to_vec();
-    plan(run, case, &map, FATAL, count, begins);
+fn fatal(run: &mut Run, case: &str, known: Sealed, marked: &[usize], begins: &[u8]) {
+    let Sealed { size, array } = known;
+    let (map, out) = (map_of(size.grid, marked), Some(marked.len()));
+    let kept = lost(array, &map);
+    plan(run, case, size.grid, &map, FATAL, marked.len(), begins);
     let written = vec![kept.clone(), sheet(begins)];
-    rebuild(run, case, A, &map, Outcome { answer: FATAL, out: Some(count), written });
-    follow(run, case, A, &map, begins, Outcome::writing(BROKEN, kept));
+    rebuild(run, case, size, array, &map, Outcome { answer: FATAL, out, written });
+    follow(run, case, size, array, &map, begins, Outcome::writing(BROKEN, kept));
 }
 
 /// Cases 2 to 8. The paper gives no sheets for 5 and 7: there is one loop in 5, and 7 follows plan's order by hand.
 fn losses(run: &mut Run) {
-    restored(run, "2", &[], &[1]);
-    restored(run, "3", &[0, 2, 6], &[1, 1, 2, 18, 2, 0, 0, 3, 6, 2, 0]);
-    fatal(run, "4", &[0, 2, 6, 8], &[2, 1, 0, 0, 2, 2, 18, 3, 8, 2, 4, 6, 16, 0]);
-    fatal(run, "5", &[0, 1, 3, 4], &[2, 1, 0, 0, 2, 1, 17, 3, 4, 1, 4, 3, 16, 0]);
-    restored(run, "6", &[0, 4, 8], &[1, 1, 0, 0, 2, 4, 1, 3, 8, 2, 0]);
-    restored(run, "7", &[0, 1, 2, 3, 6], &[1, 1, 1, 17, 2, 2, 18, 3, 0, 0, 4, 3, 1, 5, 6, 2, 0]);
-    let (mut contradictory, mut zeroed) = (A, A);
-    (contradictory[8], zeroed[8], zeroed[0]) = (14, 14, 0);
-    let written = vec![zeroed.to_vec(), sheet(&[])];
-    rebuild(run, "8", contradictory, &map_of(2, &[0]), Outcome { answer: 7, out: None, written });
-    let zeroed = Outcome::writing(7, zeroed.to_vec());
-    follow(run, "8", contradictory, &map_of(2, &[0]), &[1, 1, 0, 0, 0], zeroed);
+    restored(run, "2", A, &[], &[1]);
+    restored(run, "3", A, &[0, 2, 6], &[1, 1, 2, 18, 2, 0, 0, 3, 6, 2, 0]);
+    fatal(run, "4", A, &[0, 2, 6, 8], &[2, 1, 0, 0, 2, 2, 18, 3, 8, 2, 4, 6, 16, 0]);
+    fatal(run, "5", A, &[0, 1, 3, 4], &[2, 1, 0, 0, 2, 1, 17, 3, 4, 1, 4, 3, 16, 0]);
+    restored(run, "6", A, &[0, 4, 8], &[1, 1, 0, 0, 2, 4, 1, 3, 8, 2, 0]);
+    restored(run, "7", A, &[0, 1, 2, 3, 6], &[1, 1, 1, 17, 2, 2, 18, 3, 0, 0, 4, 3, 1, 5, 6, 2, 0]);
+    let (contradictory, zeroed) = ([1, 2, 3, 4, 8, 12, 5, 10, 14], vec![0, 2, 3, 4, 8, 12, 5, 10, 14]);
+    let (map, written) = (map_of(A.size.grid, &[0]), vec![zeroed.clone(), sheet(&[])]);
+    rebuild(run, "8", A.size, &contradictory, &map, Outcome { answer: 7, out: None, written });
+    follow(run, "8", A.size, &contradictory, &map, &[1, 1, 0, 0, 0], Outcome::writing(7, zeroed));
 }
 
-/// Cases 10 and 11 for plan, rebuild and follow: sizes, a map byte of 2.
-fn refused(run: &mut Run, case: &str, n: usize, block: usize, map: &[u8], status: usize) {
-    let array = vec![7; map.len() * block];
-    let expected = Outcome { answer: status, out: None, written: vec![array.clone(), OLD.to_vec()] };
-    let model = model::rebuild(n, block, &array, map, &OLD);
-    stated(run, &format!("{case}, rebuild"), expected, || ffi::rebuild(n, block, &array, map, &OLD), model);
-    let expected = Outcome::writing(status, array.clone());
-    let model = model::follow(n, block, &array, map, &OLD);
-    stated(run, &format!("{case}, follow"), expected, || ffi::follow(n, block, &array, map, &OLD), model);
-    if status != 2 {
-        let expected = Outcome { answer: status, out: None, written: vec![OLD.to_vec()] };
-        let model = model::plan(n, map, &OLD);
-        stated(run, &format!("{case}, plan"), expected, || ffi::plan(n, map, &OLD), model);
+/// The like of cases 1, 3, 4, 7, 9 and 11 on a grid of two rows and three columns.
+fn wider_than_high(run: &mut Run) {
+    seals(run, "wide 1", WIDE, &[1, 2, 4, 99, 8, 16, 32, 7, 6, 5, 4, 3]);
+    restored(run, "wide 3", WIDE, &[0, 3, 8], &[1, 1, 3, 19, 2, 0, 0, 3, 8, 2, 0]);
+    fatal(run, "wide 4", WIDE, &[0, 3, 8, 11], &[2, 1, 0, 0, 2, 3, 19, 3, 11, 2, 4, 8, 16, 0]);
+    let full = [1, 1, 1, 17, 2, 2, 18, 3, 3, 19, 4, 0, 0, 5, 4, 1, 6, 8, 2, 0];
+    restored(run, "wide 7, the full six", WIDE, &[0, 1, 2, 3, 4, 8], &full);
+    write(run, "wide 9", WIDE, 6, 0, &[1, 2, 4, 7, 8, 16, 9, 17, 9, 18, 13, 22]);
+    for parity in [3, 7, 8, 9, 10, 11] {
+        write(run, "wide 11", WIDE, parity, 8, WIDE.array);
     }
 }
 
-/// How many losses of so many cards are fatal, by the library and by the model.
-fn fatal_sets(n: usize, cards: u32) -> [usize; 2] {
-    let sets = (0..1_usize << disk_count(n)).filter(|set| set.count_ones() == cards);
-    let maps = sets.map(|set| (0..disk_count(n)).map(|card| (set >> card & 1) as u8).collect::<Vec<u8>>());
-    maps.fold([0, 0], |[library, model], map| {
-        let fatal = ffi::plan(n, &map, &OLD).is_ok_and(|outcome| outcome.answer == FATAL);
-        [library + fatal as usize, model + (model::plan(n, &map, &OLD).answer == FATAL) as usize]
-    })
+/// The same with rows for columns.
+fn higher_than_wide(run: &mut Run) {
+    seals(run, "high 1", HIGH, &[1, 8, 99, 2, 16, 7, 4, 32, 6, 5, 4, 3]);
+    restored(run, "high 3", HIGH, &[0, 2, 9], &[1, 1, 2, 18, 2, 0, 0, 3, 9, 3, 0]);
+    fatal(run, "high 4", HIGH, &[0, 2, 9, 11], &[2, 1, 0, 0, 2, 2, 18, 3, 11, 3, 4, 9, 16, 0]);
+    let full = [1, 1, 1, 17, 2, 2, 18, 3, 0, 0, 4, 3, 1, 5, 6, 2, 6, 9, 3, 0];
+    restored(run, "high 7, the full six", HIGH, &[0, 1, 2, 3, 6, 9], &full);
+    write(run, "high 9", HIGH, 7, 0, &[1, 8, 9, 2, 16, 18, 4, 9, 13, 7, 17, 22]);
+    for parity in [2, 5, 8, 9, 10, 11] {
+        write(run, "high 11", HIGH, parity, 8, HIGH.array);
+    }
 }
 
-/// Case 12: of the sets of four n²(n+1)²/4 are fatal, of the sets of three none.
+/// Cases 10 and 11 for plan, rebuild and follow: sizes, a map byte of 2.
+fn refused(run: &mut Run, case: &str, size: Size, map: &[u8], status: usize) {
+    let array = vec![7; map.len() * size.block];
+    let expected = Outcome { answer: status, out: None, written: vec![array.clone(), OLD.to_vec()] };
+    let model = model::rebuild(size, &array, map, &OLD);
+    stated(run, &format!("{case}, rebuild"), expected, || ffi::rebuild(size, &array, map, &OLD), model);
+    let expected = Outcome::writing(status, array.clone());
+    let model = model::follow(size, &array, map, &OLD);
+    stated(run, &format!("{case}, follow"), expected, || ffi::follow(size, &array, map, &OLD), model);
+    if status != 2 {
+        let expected = Outcome { answer: status, out: None, written: vec![OLD.to_vec()] };
+        let model = model::plan(size.grid, map, &OLD);
+        stated(run, &format!("{case}, plan"), expected, || ffi::plan(size.grid, map, &OLD), model);
+    }
+}
+
+/// Look at disk 0 of a size that is refused: nothing is handed back.
+fn empty(run: &mut Run, case: &str, size: Size, array: &[u8], map: &[u8]) {
+    let model = model::look(size, array, map, 0);
+    stated(run, &format!("{case}, look"), Outcome::reading(0, None), || ffi::look(size, array, map, 0), model);
+}
+
+/// Case 10 for all calls, with each number too small or too large alone and with both so.
+fn sides(run: &mut Run) {
+    let wrong = [(1, 1), (16, 16), (1, 2), (2, 1), (0, 15), (15, 0), (16, 2), (2, 16), (16, 15), (15, 16), (1, 16)];
+    for size in wrong.map(|(rows, columns)| Size::new(rows, columns, 1)) {
+        let (case, map, array) = (format!("10, {size}"), vec![0; size.disks()], vec![7; size.bytes()]);
+        seal(run, &format!("{case}, seal"), size, &array, 1, &array);
+        let (found, model) = (|| ffi::check(size, &array), model::check(size, &array));
+        stated(run, &format!("{case}, check"), Outcome::reading(1, None), found, model);
+        let (found, model) = (|| ffi::write(size, &array, 0, &[9]), model::write(size, &array, 0, &[9]));
+        stated(run, &format!("{case}, write"), Outcome::writing(1, array.clone()), found, model);
+        empty(run, &case, size, &array, &map);
+        refused(run, &case, size, &map, 1);
+    }
+}
+
+/// Case 10: the largest array, and blocks that are too short or too long.
+fn blocks(run: &mut Run) {
+    let largest = Size { grid: LARGEST, block: BLOCK_MAX };
+    let zeros = vec![0; largest.bytes()];
+    seal(run, "10, the largest array", largest, &zeros, 0, &zeros);
+    for size in [0, BLOCK_MAX + 1].map(|block| Size::new(2, 2, block)) {
+        let (case, array) = (format!("10, {size}"), vec![7; size.bytes()]);
+        seal(run, &format!("{case}, seal"), size, &array, 2, &array);
+        refused(run, &case, size, &[0; 9], 2);
+    }
+}
+
+/// What plan answers, by the library and by the model.
+fn planned(grid: Grid, map: &[u8]) -> [Outcome; 2] {
+    let none = |_| Outcome::reading(usize::MAX, None);
+    [ffi::plan(grid, map, &OLD).unwrap_or_else(none), model::plan(grid, map, &OLD)]
+}
+
+/// A number that is counted is expected of the library and of the model.
+fn number(run: &mut Run, case: &str, status: usize, known: usize, [library, model]: [usize; 2]) {
+    let found = |count: usize| Outcome::reading(status, Some(count));
+    stated(run, case, found(known), || Ok(found(library)), found(model));
+}
+
+/// How many losses of so many cards are fatal.
+fn fatal_sets(grid: Grid, cards: usize) -> [usize; 2] {
+    let mut fatal = [0; 2];
+    for highest in 0..grid.disks() {
+        sets_up_to(highest, cards, &mut |marked| {
+            let answers = planned(grid, &map_of(grid, marked)).map(|outcome| outcome.answer);
+            fatal = [0, 1].map(|i| fatal[i] + usize::from(answers[i] == FATAL));
+        });
+    }
+    fatal
+}
+
+/// Case 12: of the sets of four the rectangles are fatal, a(a+1)b(b+1)/4 with a rows and b columns; of the sets of
+/// three none.
 fn counted(run: &mut Run) {
-    for n in 2..=4 {
-        for (cards, count) in [(3, 0), (4, n * n * (n + 1) * (n + 1) / 4)] {
-            let [library, model] = fatal_sets(n, cards);
-            let case = format!("12, n {n}, sets of {cards}");
-            let found = |count: usize| Outcome::reading(FATAL, Some(count));
-            stated(run, &case, found(count), || Ok(found(library)), found(model));
-        }
+    for grid in grids_up_to(5) {
+        number(run, &format!("12, {grid}, sets of 3"), FATAL, 0, fatal_sets(grid, 3));
+        let known = grid.rows * (grid.rows + 1) * grid.columns * (grid.columns + 1) / 4;
+        assert_eq!(known as u64, rectangles(grid), "two ways to count rectangles differ, {grid}");
+        number(run, &format!("12, {grid}, sets of 4"), FATAL, known, fatal_sets(grid, 4));
+    }
+}
+
+/// The most repairs that are planned for any map: a+b+1.
+fn limit(run: &mut Run) {
+    for grid in grids_up_to(3) {
+        let repairs = |outcome: Outcome| outcome.out.filter(|_| outcome.answer == 0).unwrap_or(0);
+        let plans = (0..1 << grid.disks()).map(|set| planned(grid, &map_of_bits(grid, set)).map(repairs));
+        let most = plans.fold([0; 2], |most, repairs| [0, 1].map(|i| repairs[i].max(most[i])));
+        number(run, &format!("the limit of repairs, {grid}"), 0, grid.rows + grid.columns + 1, most);
     }
 }
 
 pub fn run(run: &mut Run) {
-    seal(run, "1", 2, 1, &[1, 2, 99, 4, 8, 7, 6, 5, 4], 0, &A);
-    let sealed = Outcome::reading(0, None);
-    stated(run, "1, checked", sealed, || ffi::check(2, 1, &A), model::check(2, 1, &A));
-    write(run, "9", 0, &[9], 0, &[9, 2, 11, 4, 8, 12, 13, 10, 7]);
-    for n in [1, 16] {
-        let array = vec![7; disk_count(n)];
-        seal(run, "10, n too small or too large", n, 1, &array, 1, &array);
-    }
-    let zeros = vec![0; disk_count(15) * 4096];
-    seal(run, "10, the largest array", 15, 4096, &zeros, 0, &zeros);
-    seal(run, "10, block 0", 2, 0, &[], 2, &[]);
-    let long = vec![7; 9 * 4097];
-    seal(run, "10, block 4,097", 2, 4097, &long, 2, &long);
-    write(run, "11", 2, &[9], 8, &A);
+    seals(run, "1", A, &[1, 2, 99, 4, 8, 7, 6, 5, 4]);
     losses(run);
-    refused(run, "10, n 1", 1, 1, &[0; 4], 1);
-    refused(run, "10, n 16", 16, 1, &[0; 289], 1);
-    refused(run, "10, block 0", 2, 0, &[0; 9], 2);
-    refused(run, "10, block 4,097", 2, 4097, &[0; 9], 2);
-    refused(run, "11", 2, 1, &[0, 0, 0, 0, 2, 0, 0, 0, 0], 4);
+    write(run, "9", A, 0, 0, &[9, 2, 11, 4, 8, 12, 13, 10, 7]);
+    wider_than_high(run);
+    higher_than_wide(run);
+    sides(run);
+    blocks(run);
+    write(run, "11", A, 2, 8, A.array);
+    refused(run, "11", A.size, &[0, 0, 0, 0, 2, 0, 0, 0, 0], 4);
     counted(run);
+    limit(run);
 }

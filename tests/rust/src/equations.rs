@@ -2,6 +2,8 @@
 //! the sum over a stripe is zero. Nothing here repairs disk by disk: whether a loss is fatal and what the erased blocks
 //! were is decided without plan's order.
 
+use crate::size::{Grid, Size};
+
 /// Stripe numbers lie below this.
 pub const STRIPES: usize = 32;
 
@@ -17,13 +19,13 @@ struct Kept {
 
 /// The unknowns that are independent so far, each reduced by those before it. So no pivot occurs in a later one.
 pub struct Equations {
-    n: usize,
+    grid: Grid,
     kept: Vec<Kept>,
 }
 
 impl Equations {
-    pub fn new(n: usize) -> Equations {
-        Equations { n, kept: Vec::new() }
+    pub fn new(grid: Grid) -> Equations {
+        Equations { grid, kept: Vec::new() }
     }
 
     /// Adds the block of a disk as an unknown. It is left out, and the answer is no, if its column of the equations
@@ -31,7 +33,7 @@ impl Equations {
     pub fn add(&mut self, disk: usize) -> bool {
         let mut disks = [0; 4];
         disks[disk / 64] = 1 << (disk % 64);
-        let [row, column] = stripes_through(self.n, disk);
+        let [row, column] = stripes_through(self.grid, disk);
         let mut stripes = 1 << row | 1 << column;
         for kept in &self.kept {
             if stripes >> kept.pivot & 1 == 1 {
@@ -49,7 +51,7 @@ impl Equations {
     /// them, and zeros on all other disks. None where no blocks do.
     pub fn solve(&self, mut sums: Vec<Vec<u8>>) -> Option<Vec<u8>> {
         let block = sums[0].len();
-        let mut solution = vec![0; (self.n + 1) * (self.n + 1) * block];
+        let mut solution = vec![0; self.grid.disks() * block];
         for kept in &self.kept {
             let value = sums[kept.pivot].clone();
             for (stripe, sum) in sums.iter_mut().enumerate() {
@@ -68,16 +70,16 @@ impl Equations {
 }
 
 /// The two stripes through a disk: row r is stripe r, column c is stripe 16 + c.
-pub fn stripes_through(n: usize, disk: usize) -> [usize; 2] {
-    [disk / (n + 1), 16 + disk % (n + 1)]
+pub fn stripes_through(grid: Grid, disk: usize) -> [usize; 2] {
+    [disk / (grid.columns + 1), 16 + disk % (grid.columns + 1)]
 }
 
 /// The sum of each stripe over the disks that are not erased.
-pub fn sums_of_survivors(n: usize, block: usize, array: &[u8], map: &[u8]) -> Vec<Vec<u8>> {
-    let mut sums = vec![vec![0; block]; STRIPES];
-    for (disk, bytes) in array.chunks_exact(block).enumerate() {
+pub fn sums_of_survivors(size: Size, array: &[u8], map: &[u8]) -> Vec<Vec<u8>> {
+    let mut sums = vec![vec![0; size.block]; STRIPES];
+    for (disk, bytes) in array.chunks_exact(size.block).enumerate() {
         if map[disk] == 0 {
-            stripes_through(n, disk).iter().for_each(|&stripe| add(&mut sums[stripe], bytes));
+            stripes_through(size.grid, disk).iter().for_each(|&stripe| add(&mut sums[stripe], bytes));
         }
     }
     sums

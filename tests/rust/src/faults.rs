@@ -1,10 +1,10 @@
 //! Every refusal of plan, rebuild and follow alone, every pair of them, and every larger set: of those that apply, the
 //! first in the paper's list is due.
 
-use crate::inputs::{sealed_array, Size, SIDE_MAX};
-use crate::model::disk_at;
+use crate::inputs::{random_grid, sealed_array};
 use crate::random::Random;
 use crate::sheet::place_of;
+use crate::size::Size;
 use crate::{arguments, follow, losses, plan, rebuild, sheets, Run};
 
 /// How often each set of faults is tried, each time with other values.
@@ -12,8 +12,7 @@ const TURNS: usize = 10;
 
 /// The arguments of rebuild and follow; those of plan are among them.
 struct Arguments {
-    n: usize,
-    block: usize,
+    size: Size,
     array: Vec<u8>,
     map: Vec<u8>,
     sheet: Vec<u8>,
@@ -21,12 +20,13 @@ struct Arguments {
 
 /// A call with nothing wrong: a sealed array that has lost one of its row parities, and a sheet with the repair.
 fn faultless(random: &mut Random) -> Arguments {
-    let size = Size { n: random.between(2, SIDE_MAX), block: random.between(1, 20) };
-    let map = losses::map_of(size.n, &[disk_at(size.n, random.below(size.n), size.n)]);
+    let size = Size { grid: random_grid(random), block: random.between(1, 20) };
+    let grid = size.grid;
+    let map = losses::map_of(grid, &[grid.disk_at(random.below(grid.rows), grid.columns)]);
     let mut array = sealed_array(random, size);
     losses::forget(random, size, &mut array, &map);
-    let steps = sheets::any_order(random, size.n, &map);
-    Arguments { n: size.n, block: size.block, array, map, sheet: sheets::scattered(random, &steps) }
+    let steps = sheets::any_order(random, grid, &map);
+    Arguments { size, array, map, sheet: sheets::scattered(random, &steps) }
 }
 
 /// One byte more or less, or another wrong length.
@@ -38,15 +38,21 @@ fn resize(random: &mut Random, bytes: &mut Vec<u8>) {
     }
 }
 
+/// A number of rows or columns that is out of range; some of them would be the good one if they were shortened.
+fn wrong_side(random: &mut Random, good: usize) -> usize {
+    random.pick(&[0, 1, 16, good + 256, good + (1 << 32), usize::MAX - 1, usize::MAX])
+}
+
 /// What can be wrong, those of the contents first: they need the lengths to be right.
-const FAULTS: [fn(&mut Random, &mut Arguments); 10] = [
+const FAULTS: [fn(&mut Random, &mut Arguments); 11] = [
     // 7: a data disk is changed. Its column then contradicts it.
     |random, a| {
-        let disk = disk_at(a.n, random.below(a.n), random.below(a.n));
-        a.array[disk * a.block + random.below(a.block)] ^= random.between(1, 255) as u8;
+        let Size { grid, block } = a.size;
+        let disk = grid.disk_at(random.below(grid.rows), random.below(grid.columns));
+        a.array[disk * block + random.below(block)] ^= random.between(1, 255) as u8;
     },
     // 6: the corners of a rectangle are lost.
-    |random, a| losses::ring(random, a.n, 2, 0).iter().for_each(|&disk| a.map[disk] = 1),
+    |random, a| losses::ring(random, a.size.grid, 2, 0).iter().for_each(|&disk| a.map[disk] = 1),
     // 11: another disk, a stripe that does not go through the disk, or no repair at all.
     |random, a| {
         let at = place_of(a.sheet[1] as usize);
@@ -70,9 +76,13 @@ const FAULTS: [fn(&mut Random, &mut Arguments); 10] = [
     // 3
     |random, a| resize(random, &mut a.array),
     // 2
-    |random, a| a.block = random.pick(&[0, 4097, a.block + (1 << 16), a.block + (1 << 32), usize::MAX]),
-    // 1
-    |random, a| a.n = random.pick(&[0, 1, 16, a.n + 256, a.n + (1 << 32), usize::MAX - 1, usize::MAX]),
+    |random, a| {
+        let good = a.size.block;
+        a.size.block = random.pick(&[0, 4097, good + (1 << 16), good + (1 << 32), usize::MAX]);
+    },
+    // 1, by the rows and by the columns.
+    |random, a| a.size.grid.rows = wrong_side(random, a.size.grid.rows),
+    |random, a| a.size.grid.columns = wrong_side(random, a.size.grid.columns),
 ];
 
 pub fn run(run: &mut Run) {
@@ -84,9 +94,9 @@ pub fn run(run: &mut Run) {
                     fault(&mut run.random, &mut a);
                 }
             }
-            plan::compare(&mut run.tally, a.n, &a.map, &a.sheet);
-            rebuild::compare(&mut run.tally, a.n, a.block, &a.array, &a.map, &a.sheet);
-            follow::compare(&mut run.tally, a.n, a.block, &a.array, &a.map, &a.sheet);
+            plan::compare(&mut run.tally, a.size.grid, &a.map, &a.sheet);
+            rebuild::compare(&mut run.tally, a.size, &a.array, &a.map, &a.sheet);
+            follow::compare(&mut run.tally, a.size, &a.array, &a.map, &a.sheet);
         }
     }
     run.tally.report("every set of refusals", &[0, 1, 2, 3, 4, 5, 6, 7, 10, 11]);

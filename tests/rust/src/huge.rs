@@ -6,8 +6,8 @@ use crate::outcome::Outcome;
 use crate::sheet::SHEET;
 use crate::{ffi, Run};
 
-/// n = 2 and block = 1: nine disks, nine bytes.
-const RIGHT: usize = 9;
+/// Two rows, three columns and blocks of one byte: twelve disks, twelve bytes.
+const RIGHT: usize = 12;
 const ARRAY: [u8; RIGHT] = [7; RIGHT];
 const MAP: [u8; RIGHT] = [0; RIGHT];
 
@@ -34,14 +34,14 @@ fn maps_and_sheets(run: &mut Run, at: *mut u8) {
     let counts = out.each_mut().map(|out| out.pointer());
     let found = unsafe {
         [
-            ("plan, map", 4, ffi::raid2d_plan(2, at, len, sheet, SHEET, counts[0])),
-            ("plan, sheet", 5, ffi::raid2d_plan(2, map, RIGHT, at, sheet_len, counts[1])),
-            ("rebuild, array", 3, ffi::raid2d_rebuild(2, 1, at, len, map, RIGHT, sheet, SHEET, counts[2])),
-            ("rebuild, map", 4, ffi::raid2d_rebuild(2, 1, array, RIGHT, at, len, sheet, SHEET, counts[3])),
-            ("rebuild, sheet", 5, ffi::raid2d_rebuild(2, 1, array, RIGHT, map, RIGHT, at, sheet_len, counts[4])),
-            ("follow, array", 3, ffi::raid2d_follow(2, 1, at, len, map, RIGHT, sheet, SHEET, counts[5])),
-            ("follow, map", 4, ffi::raid2d_follow(2, 1, array, RIGHT, at, len, sheet, SHEET, counts[6])),
-            ("follow, sheet", 5, ffi::raid2d_follow(2, 1, array, RIGHT, map, RIGHT, at, sheet_len, counts[7])),
+            ("plan, map", 4, ffi::raid2d_plan(2, 3, at, len, sheet, SHEET, counts[0])),
+            ("plan, sheet", 5, ffi::raid2d_plan(2, 3, map, RIGHT, at, sheet_len, counts[1])),
+            ("rebuild, array", 3, ffi::raid2d_rebuild(2, 3, 1, at, len, map, RIGHT, sheet, SHEET, counts[2])),
+            ("rebuild, map", 4, ffi::raid2d_rebuild(2, 3, 1, array, RIGHT, at, len, sheet, SHEET, counts[3])),
+            ("rebuild, sheet", 5, ffi::raid2d_rebuild(2, 3, 1, array, RIGHT, map, RIGHT, at, sheet_len, counts[4])),
+            ("follow, array", 3, ffi::raid2d_follow(2, 3, 1, at, len, map, RIGHT, sheet, SHEET, counts[5])),
+            ("follow, map", 4, ffi::raid2d_follow(2, 3, 1, array, RIGHT, at, len, sheet, SHEET, counts[6])),
+            ("follow, sheet", 5, ffi::raid2d_follow(2, 3, 1, array, RIGHT, map, RIGHT, at, sheet_len, counts[7])),
         ]
     };
     for ((call, due, status), out) in found.into_iter().zip(out) {
@@ -60,17 +60,17 @@ pub fn run(run: &mut Run) {
     let (mut stripe, mut offset, mut map_offset) = (Out::new(), Out::new(), Out::new());
     // Every pointer is valid for its length, as the wrappers of ffi see to elsewhere.
     unsafe {
-        let status = ffi::raid2d_seal(2, 1, at, len);
+        let status = ffi::raid2d_seal(2, 3, 1, at, len);
         refused(run, "seal, array", 3, status as usize, Out::new());
-        let status = ffi::raid2d_check(2, 1, at, len, stripe.pointer());
+        let status = ffi::raid2d_check(2, 3, 1, at, len, stripe.pointer());
         refused(run, "check, array", 3, status as usize, stripe);
-        let status = ffi::raid2d_write(2, 1, at, len, 0, [9].as_ptr(), 1);
+        let status = ffi::raid2d_write(2, 3, 1, at, len, 0, [9].as_ptr(), 1);
         refused(run, "write, array", 3, status as usize, Out::new());
-        let status = ffi::raid2d_write(2, 1, array, RIGHT, 0, at, len - RIGHT + 1);
+        let status = ffi::raid2d_write(2, 3, 1, array, RIGHT, 0, at, len - RIGHT + 1);
         refused(run, "write, data", 9, status as usize, Out::new());
-        let length = ffi::raid2d_look(2, 1, at, len, MAP.as_ptr(), RIGHT, 0, offset.pointer());
+        let length = ffi::raid2d_look(2, 3, 1, at, len, MAP.as_ptr(), RIGHT, 0, offset.pointer());
         refused(run, "look, array", 0, length, offset);
-        let length = ffi::raid2d_look(2, 1, array, RIGHT, at, len, 0, map_offset.pointer());
+        let length = ffi::raid2d_look(2, 3, 1, array, RIGHT, at, len, 0, map_offset.pointer());
         refused(run, "look, map", 0, length, map_offset);
     }
     maps_and_sheets(run, at);

@@ -1,15 +1,16 @@
 //! Look: the block of one present disk as that part of the array, or an empty part.
 
-use crate::inputs::{random_array, Size};
+use crate::inputs::random_array;
+use crate::size::Size;
 use crate::tally::{show, Tally};
 use crate::{arguments, ffi, model, Run};
 
-pub fn compare(tally: &mut Tally, n: usize, block: usize, array: &[u8], map: &[u8], disk: usize) {
+pub fn compare(tally: &mut Tally, size: Size, array: &[u8], map: &[u8], disk: usize) {
     let input = || {
         let (array, map) = (show(array), show(map));
-        format!("look, n {n}, block {block}, disk {disk}, map {map}, array {array}")
+        format!("look, {size}, disk {disk}, map {map}, array {array}")
     };
-    tally.compare(input, &model::look(n, block, array, map, disk), || ffi::look(n, block, array, map, disk));
+    tally.compare(input, &model::look(size, array, map, disk), || ffi::look(size, array, map, disk));
 }
 
 /// A map of zeros and ones: none erased, all erased, or some.
@@ -31,26 +32,26 @@ pub fn contents(run: &mut Run, size: Size) {
         let mut map = map(run, size.disks());
         for mark in [1, 0] {
             map[disk] = mark;
-            compare(&mut run.tally, size.n, size.block, &array, &map, disk);
+            compare(&mut run.tally, size, &array, &map, disk);
         }
         if run.random.one_in(8) {
             arguments::spoil(&mut run.random, &mut map, disk);
-            compare(&mut run.tally, size.n, size.block, &array, &map, disk);
+            compare(&mut run.tally, size, &array, &map, disk);
         }
     }
     for disk in [size.disks(), size.disks() + 1] {
         let map = map(run, size.disks());
-        compare(&mut run.tally, size.n, size.block, &array, &map, disk);
+        compare(&mut run.tally, size, &array, &map, disk);
     }
 }
 
 pub fn refusals(run: &mut Run) {
     let drawn = arguments::array(&mut run.random);
-    let disk = arguments::disk(&mut run.random, drawn.made_for);
+    let disk = arguments::disk(&mut run.random, drawn.made_for.grid);
     let length = arguments::length(&mut run.random, drawn.made_for.disks());
     let mut map = map(run, length);
     if run.random.one_in(5) {
         arguments::spoil(&mut run.random, &mut map, disk);
     }
-    compare(&mut run.tally, drawn.n, drawn.block, &drawn.bytes, &map, disk);
+    compare(&mut run.tally, drawn.passed, &drawn.bytes, &map, disk);
 }

@@ -1,16 +1,49 @@
 //! Maps to try plan, rebuild and follow on, and what a lost array holds.
 
 use crate::equations::Equations;
-use crate::inputs::{place, sealed_array, Size};
-use crate::model::{disk_at, disk_count};
+use crate::inputs::{place, sealed_array};
 use crate::random::Random;
+use crate::size::{Grid, Size};
 use crate::Run;
 
 /// The map that says of these disks that they are erased.
-pub fn map_of(n: usize, disks: &[usize]) -> Vec<u8> {
-    let mut map = vec![0; disk_count(n)];
+pub fn map_of(grid: Grid, disks: &[usize]) -> Vec<u8> {
+    let mut map = vec![0; grid.disks()];
     disks.iter().for_each(|&disk| map[disk] = 1);
     map
+}
+
+/// The map of a set of disks, one bit for each disk.
+pub fn map_of_bits(grid: Grid, set: usize) -> Vec<u8> {
+    (0..grid.disks()).map(|disk| (set >> disk & 1) as u8).collect()
+}
+
+/// All sets of as many disks that agree with these from a place on; the disks stand in rising order.
+fn all_below(disks: &mut [usize], place: usize, each: &mut impl FnMut(&[usize])) {
+    if place == 0 {
+        return each(disks);
+    }
+    for disk in 0..disks[place] {
+        disks[place - 1] = disk;
+        all_below(disks, place - 1, each);
+    }
+}
+
+/// All sets of so many disks with this highest one, each in rising order.
+pub fn sets_up_to(highest: usize, count: usize, each: &mut impl FnMut(&[usize])) {
+    let mut disks = vec![0; count];
+    disks[count - 1] = highest;
+    all_below(&mut disks, count - 1, each);
+}
+
+/// How many sets of so many there are among these.
+pub fn choose(among: usize, count: usize) -> u64 {
+    (0..count).fold(1, |sets, i| sets * (among - i) as u64 / (i as u64 + 1))
+}
+
+/// How many sets of four disks are the corners of a rectangle, which has two of the rows and two of the columns.
+pub fn rectangles(grid: Grid) -> u64 {
+    choose(grid.rows + 1, 2) * choose(grid.columns + 1, 2)
 }
 
 /// The numbers below a bound in random order.
@@ -23,80 +56,83 @@ pub fn shuffled(random: &mut Random, bound: usize) -> Vec<usize> {
 }
 
 /// So many disks, any of them.
-pub fn some(random: &mut Random, n: usize, count: usize) -> Vec<usize> {
-    let mut disks = shuffled(random, disk_count(n));
+pub fn some(random: &mut Random, grid: Grid, count: usize) -> Vec<usize> {
+    let mut disks = shuffled(random, grid.disks());
     disks.truncate(count);
     disks
 }
 
-/// Disks without a loop: random ones, each of them left out where it would close a loop. There are never more than
-/// 2n + 1 of them.
-fn forest(random: &mut Random, n: usize, count: usize) -> Vec<usize> {
-    let mut equations = Equations::new(n);
-    let mut disks = shuffled(random, disk_count(n));
+/// So many disks without a loop, or as many as can be repaired: random ones, each of them left out where it would close
+/// a loop.
+fn forest(random: &mut Random, grid: Grid, count: usize) -> Vec<usize> {
+    let mut equations = Equations::new(grid);
+    let mut disks = shuffled(random, grid.disks());
     disks.retain(|&disk| equations.add(disk));
+    assert_eq!(disks.len(), grid.most_repairs(), "the limit of repairs is not the rank, {grid}");
     disks.truncate(count);
     disks
 }
 
 /// As many as can be restored, and one more: the loss is fatal by a single loop.
-fn one_loop(random: &mut Random, n: usize) -> Vec<usize> {
-    let mut disks = forest(random, n, 2 * n + 1);
-    let others: Vec<usize> = (0..disk_count(n)).filter(|disk| !disks.contains(disk)).collect();
+fn one_loop(random: &mut Random, grid: Grid) -> Vec<usize> {
+    let mut disks = forest(random, grid, grid.most_repairs());
+    let others: Vec<usize> = (0..grid.disks()).filter(|disk| !disks.contains(disk)).collect();
     disks.push(random.pick(&others));
     disks
 }
 
 /// A loop through so many rows and as many columns, and some disks more.
-pub fn ring(random: &mut Random, n: usize, rows: usize, more: usize) -> Vec<usize> {
-    let (r, c) = (shuffled(random, n + 1), shuffled(random, n + 1));
-    let corner = |i: usize| [disk_at(n, r[i], c[i]), disk_at(n, r[i], c[(i + 1) % rows])];
+pub fn ring(random: &mut Random, grid: Grid, rows: usize, more: usize) -> Vec<usize> {
+    let (r, c) = (shuffled(random, grid.rows + 1), shuffled(random, grid.columns + 1));
+    let corner = |i: usize| [grid.disk_at(r[i], c[i]), grid.disk_at(r[i], c[(i + 1) % rows])];
     let mut disks: Vec<usize> = (0..rows).flat_map(corner).collect();
-    disks.extend(some(random, n, more));
+    disks.extend(some(random, grid, more));
     disks
 }
 
-/// How many kinds of losses there are below.
+/// How many kinds of losses there are below, and which of them is none.
 pub const KINDS: usize = 9;
+pub const NONE: usize = 0;
 
 /// A random loss of one kind; the first five can be restored.
-pub fn map(random: &mut Random, n: usize, kind: usize) -> Vec<u8> {
-    let most = 2 * n + 1;
+pub fn map(random: &mut Random, grid: Grid, kind: usize) -> Vec<u8> {
+    let most = grid.most_repairs();
     let disks = match kind {
-        0 => Vec::new(),
+        NONE => Vec::new(),
         1 => {
             let count = random.between(1, 3);
-            some(random, n, count)
+            some(random, grid, count)
         }
         2 => {
             let count = random.between(4, most);
-            forest(random, n, count)
+            forest(random, grid, count)
         }
-        3 => forest(random, n, most),
+        3 => forest(random, grid, most),
         4 => {
             // A data disk with both its parities.
-            let (r, c) = (random.below(n), random.below(n));
-            vec![disk_at(n, r, c), disk_at(n, r, n), disk_at(n, n, c)]
+            let (r, c) = (random.below(grid.rows), random.below(grid.columns));
+            vec![grid.disk_at(r, c), grid.disk_at(r, grid.columns), grid.disk_at(grid.rows, c)]
         }
-        5 => one_loop(random, n),
+        5 => one_loop(random, grid),
         6 => {
-            let (rows, more) = (random.between(2, n + 1), random.below(n));
-            ring(random, n, rows, more)
+            let shorter = grid.rows.min(grid.columns);
+            let (rows, more) = (random.between(2, shorter + 1), random.below(shorter));
+            ring(random, grid, rows, more)
         }
         7 => {
-            let count = random.between(4, disk_count(n));
-            some(random, n, count)
+            let count = random.between(4, grid.disks());
+            some(random, grid, count)
         }
-        _ => (0..disk_count(n)).collect(),
+        _ => (0..grid.disks()).collect(),
     };
-    map_of(n, &disks)
+    map_of(grid, &disks)
 }
 
 /// A sealed array of a size with a map of each kind, in turn.
 pub fn of_each_kind(run: &mut Run, size: Size, judge: fn(&mut Run, Size, &[u8], &[u8])) {
     let sealed = sealed_array(&mut run.random, size);
     for kind in 0..KINDS {
-        let map = map(&mut run.random, size.n, kind);
+        let map = map(&mut run.random, size.grid, kind);
         judge(run, size, &sealed, &map);
     }
 }
@@ -113,13 +149,13 @@ pub fn forget(random: &mut Random, size: Size, array: &mut [u8], map: &[u8]) {
 /// Damages on survivors and elsewhere: one; two equal ones in a row, which show only in columns; two in a column; or
 /// random bytes everywhere. Where they are on erased disks they are none.
 pub fn damage(random: &mut Random, size: Size, array: &mut [u8]) {
-    let n = size.n;
+    let grid = size.grid;
     let (at, difference) = (place(random, size.block), random.between(1, 255) as u8);
-    let (r, c) = (random.between(0, n), random.between(0, n));
-    let (r2, c2) = (random.between(0, n), random.between(0, n));
+    let (r, c) = (random.between(0, grid.rows), random.between(0, grid.columns));
+    let (r2, c2) = (random.between(0, grid.rows), random.between(0, grid.columns));
     let second = match random.below(5) {
-        0 => Some(disk_at(n, r, c2)),
-        1 => Some(disk_at(n, r2, c)),
+        0 => Some(grid.disk_at(r, c2)),
+        1 => Some(grid.disk_at(r2, c)),
         2 => {
             let bytes = random.bytes(array.len());
             array.copy_from_slice(&bytes);
@@ -127,7 +163,7 @@ pub fn damage(random: &mut Random, size: Size, array: &mut [u8]) {
         }
         _ => None,
     };
-    for disk in second.into_iter().chain([disk_at(n, r, c)]) {
+    for disk in second.into_iter().chain([grid.disk_at(r, c)]) {
         array[disk * size.block + at] ^= difference;
     }
 }

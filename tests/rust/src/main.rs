@@ -1,10 +1,11 @@
-//! Compares libraid2d.a with a model written from paper 01: every answer, every out-parameter and all bytes.
+//! Compares libraid2d.a with a model written from papers 01 and 02: every answer, every out-parameter and all bytes.
 //!
-//! Without an argument the comparison is that of the gate. The argument `maps` asks for all maps at n = 4 instead, and
-//! `sets` for all losses of three and of four disks at n = 15. RAID2D_SEED sets the seed, which is printed: the same
-//! seed gives the same run. RAID2D_LONG=1 does twenty times the random work. RAID2D_TRACE=1 prints every input before
-//! its call, for a library that ends the program. The last line counts the comparisons; the exit status is 1 where one
-//! fails.
+//! Without an argument the comparison is that of the gate. The argument `maps` asks instead for all maps of grids with
+//! four rows or columns, and `sets` for all losses of three and of four disks at the largest grid and at some others.
+//! RAID2D_SEED sets the seed, which is printed: the same seed gives the same run. RAID2D_LONG=1 does twenty times the
+//! random work. RAID2D_TRACE=1 prints every input before its call, for a library that ends the program. RAID2D_STOP=1
+//! ends the run with the first comparison that fails. The last line counts the comparisons; the exit status is 1 where
+//! one fails.
 
 mod arguments;
 mod cases;
@@ -29,12 +30,13 @@ mod seal;
 mod sets;
 mod sheet;
 mod sheets;
+mod size;
 mod steps;
 mod tally;
 mod write;
 
-use inputs::Size;
 use random::Random;
+use size::Size;
 use std::process::ExitCode;
 use tally::Tally;
 
@@ -99,17 +101,24 @@ const CALLS: [Call; 7] = [
     },
 ];
 
-impl Run {
-    fn compare(&mut self, call: &Call, rounds: usize) {
-        cores::share(self, call.name, rounds, |run, _| {
-            for size in inputs::sizes(&mut run.random) {
-                (call.contents)(run, size);
-            }
-            for _ in 0..call.draws {
-                (call.refusals)(run);
-            }
-        });
-        self.tally.report(call.name, call.answers);
+impl Call {
+    fn compare_contents(&self, run: &mut Run) {
+        for size in inputs::sizes(&mut run.random) {
+            (self.contents)(run, size);
+        }
+    }
+
+    fn compare_refusals(&self, run: &mut Run) {
+        for _ in 0..self.draws {
+            (self.refusals)(run);
+        }
+    }
+
+    /// Each round has two parts, since one that is not split keeps one core only.
+    fn compare(&self, run: &mut Run, rounds: usize) {
+        let comparisons = [Call::compare_contents, Call::compare_refusals];
+        cores::share(run, self.name, 2 * rounds, |run, part| comparisons[part % 2](self, run));
+        run.tally.report(self.name, self.answers);
     }
 }
 
@@ -129,7 +138,7 @@ fn gate(run: &mut Run, rounds: usize) {
     run.tally.report("paper's cases", &[0, 1, 2, 4, 6, 7, 8, 10]);
     huge::run(run);
     for call in &CALLS {
-        run.compare(call, rounds);
+        call.compare(run, rounds);
     }
     faults::run(run);
     steps::run(run);
@@ -140,10 +149,13 @@ fn main() -> ExitCode {
     let rounds = if is_set("RAID2D_LONG") { LONG_ROUNDS } else { 1 };
     let seed = seed();
     println!("seed {seed}, rounds {rounds}");
+    if is_set("RAID2D_STOP") {
+        tally::stop_at_first();
+    }
     let mut run = Run { random: Random::new(seed), tally: Tally::new(is_set("RAID2D_TRACE")) };
     match std::env::args().nth(1).as_deref() {
         None => gate(&mut run, rounds),
-        Some("maps") => exhaustive::maps_of_four(&mut run),
+        Some("maps") => exhaustive::more_maps(&mut run),
         Some("sets") => sets::run(&mut run),
         Some(other) => panic!("{other} is neither maps nor sets"),
     }

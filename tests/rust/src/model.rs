@@ -1,11 +1,12 @@
-//! The array by the words of paper 01, in the plainest way: every sum is taken over a stripe as the paper defines it,
-//! and every refusal is tested in the paper's order. Nothing here is taken from the library.
+//! The array by the words of papers 01 and 02, in the plainest way: every sum is taken over a stripe as they define it,
+//! and every refusal is tested in their order. Nothing here is taken from the library.
 //!
-//! The paper's words: a disk is its card, a stripe its line, an erased disk a marked card.
+//! The papers' words: a disk is their card, a stripe their line, an erased disk a marked card.
 
 use crate::equations::{sums_of_survivors, Equations};
 use crate::outcome::Outcome;
 use crate::sheet;
+use crate::size::{Grid, Size};
 
 /// The status of a call that refuses nothing.
 const SUCCESS: usize = 0;
@@ -22,24 +23,23 @@ const NOT_SEALED: usize = 64;
 /// Column c is stripe 16 + c.
 const FIRST_COLUMN: usize = 16;
 
-/// The number of the disk in row r and column c.
-pub fn disk_at(n: usize, r: usize, c: usize) -> usize {
-    r * (n + 1) + c
-}
-
-/// How many disks the grid has.
-pub fn disk_count(n: usize) -> usize {
-    (n + 1) * (n + 1)
-}
-
 /// The first `count` disks of row r.
-fn row(n: usize, r: usize, count: usize) -> Vec<usize> {
-    (0..count).map(|c| disk_at(n, r, c)).collect()
+fn row(grid: Grid, r: usize, count: usize) -> Vec<usize> {
+    (0..count).map(|c| grid.disk_at(r, c)).collect()
 }
 
 /// The first `count` disks of column c.
-fn column(n: usize, c: usize, count: usize) -> Vec<usize> {
-    (0..count).map(|r| disk_at(n, r, c)).collect()
+fn column(grid: Grid, c: usize, count: usize) -> Vec<usize> {
+    (0..count).map(|r| grid.disk_at(r, c)).collect()
+}
+
+/// All disks of a stripe.
+fn stripe_disks(grid: Grid, stripe: usize) -> Vec<usize> {
+    if stripe < FIRST_COLUMN {
+        row(grid, stripe, grid.columns + 1)
+    } else {
+        column(grid, stripe - FIRST_COLUMN, grid.rows + 1)
+    }
 }
 
 fn block_of(array: &[u8], block: usize, disk: usize) -> &[u8] {
@@ -60,8 +60,9 @@ fn sum(array: &[u8], block: usize, disks: &[usize]) -> Vec<u8> {
 }
 
 /// Refusal 1, with which every call begins; 0 where it does not apply.
-fn side_refusal(n: usize) -> usize {
-    if (2..=15).contains(&n) {
+fn side_refusal(grid: Grid) -> usize {
+    let fits = |side: usize| (2..=15).contains(&side);
+    if fits(grid.rows) && fits(grid.columns) {
         SUCCESS
     } else {
         1
@@ -69,113 +70,118 @@ fn side_refusal(n: usize) -> usize {
 }
 
 /// Refusals 1, 2 and 3, with which the calls on an array begin; 0 where none applies.
-fn array_refusal(n: usize, block: usize, array: &[u8]) -> usize {
-    if side_refusal(n) != SUCCESS {
-        return side_refusal(n);
+fn array_refusal(size: Size, array: &[u8]) -> usize {
+    if side_refusal(size.grid) != SUCCESS {
+        return side_refusal(size.grid);
     }
-    if !(1..=4096).contains(&block) {
+    if !(1..=4096).contains(&size.block) {
         return 2;
     }
-    if array.len() != disk_count(n) * block {
+    if array.len() != size.bytes() {
         return 3;
     }
     SUCCESS
 }
 
 /// Fills P with the sum of its row's data, Q with that of its column's data, and S with the sum of all P.
-pub fn seal(n: usize, block: usize, array: &[u8]) -> Outcome {
-    let refusal = array_refusal(n, block, array);
+pub fn seal(size: Size, array: &[u8]) -> Outcome {
+    let refusal = array_refusal(size, array);
     let mut sealed = array.to_vec();
     if refusal != SUCCESS {
         return Outcome::writing(refusal, sealed);
     }
-    for r in 0..n {
-        set_block(&mut sealed, block, disk_at(n, r, n), &sum(array, block, &row(n, r, n)));
+    let (grid, block) = (size.grid, size.block);
+    let (rows, columns) = (grid.rows, grid.columns);
+    for r in 0..rows {
+        set_block(&mut sealed, block, grid.disk_at(r, columns), &sum(array, block, &row(grid, r, columns)));
     }
-    for c in 0..n {
-        set_block(&mut sealed, block, disk_at(n, n, c), &sum(array, block, &column(n, c, n)));
+    for c in 0..columns {
+        set_block(&mut sealed, block, grid.disk_at(rows, c), &sum(array, block, &column(grid, c, rows)));
     }
-    let superparity = sum(&sealed, block, &column(n, n, n));
-    set_block(&mut sealed, block, disk_at(n, n, n), &superparity);
+    let superparity = sum(&sealed, block, &column(grid, columns, rows));
+    set_block(&mut sealed, block, grid.disk_at(rows, columns), &superparity);
     Outcome::writing(SUCCESS, sealed)
 }
 
 /// The lowest stripe whose sum is not zero at some place, none for a sealed array.
-fn lowest_unsealed(n: usize, block: usize, array: &[u8]) -> Option<usize> {
-    let rows = (0..=n).map(|r| (r, row(n, r, n + 1)));
-    let columns = (0..=n).map(|c| (FIRST_COLUMN + c, column(n, c, n + 1)));
-    rows.chain(columns).find(|(_, disks)| sum(array, block, disks).iter().any(|&b| b != 0)).map(|(stripe, _)| stripe)
+fn lowest_unsealed(size: Size, array: &[u8]) -> Option<usize> {
+    let rows = 0..=size.grid.rows;
+    let columns = FIRST_COLUMN..=FIRST_COLUMN + size.grid.columns;
+    let sum_of = |stripe: usize| sum(array, size.block, &stripe_disks(size.grid, stripe));
+    rows.chain(columns).find(|&stripe| sum_of(stripe).iter().any(|&byte| byte != 0))
 }
 
-pub fn check(n: usize, block: usize, array: &[u8]) -> Outcome {
-    let refusal = array_refusal(n, block, array);
+pub fn check(size: Size, array: &[u8]) -> Outcome {
+    let refusal = array_refusal(size, array);
     if refusal != SUCCESS {
         return Outcome::reading(refusal, None);
     }
-    match lowest_unsealed(n, block, array) {
+    match lowest_unsealed(size, array) {
         Some(stripe) => Outcome::reading(NOT_SEALED, Some(stripe)),
         None => Outcome::reading(SUCCESS, None),
     }
 }
 
 /// The row and the column of a data disk, none for a parity disk or a number outside the grid.
-fn data_place(n: usize, disk: usize) -> Option<(usize, usize)> {
-    let mut places = (0..n).flat_map(|r| (0..n).map(move |c| (r, c)));
-    places.find(|&(r, c)| disk_at(n, r, c) == disk)
+fn data_place(grid: Grid, disk: usize) -> Option<(usize, usize)> {
+    let mut places = (0..grid.rows).flat_map(|r| (0..grid.columns).map(move |c| (r, c)));
+    places.find(|&(r, c)| grid.disk_at(r, c) == disk)
 }
 
-fn write_refusal(n: usize, block: usize, array: &[u8], disk: usize, data: &[u8]) -> usize {
-    let refusal = array_refusal(n, block, array);
+fn write_refusal(size: Size, array: &[u8], disk: usize, data: &[u8]) -> usize {
+    let refusal = array_refusal(size, array);
     if refusal != SUCCESS {
         return refusal;
     }
-    if data_place(n, disk).is_none() {
+    if data_place(size.grid, disk).is_none() {
         return 8;
     }
-    if data.len() != block {
+    if data.len() != size.block {
         return 9;
     }
     SUCCESS
 }
 
 /// Stores the new block; P, Q and S of the disk change by the same difference.
-pub fn write(n: usize, block: usize, array: &[u8], disk: usize, data: &[u8]) -> Outcome {
-    let refusal = write_refusal(n, block, array, disk, data);
+pub fn write(size: Size, array: &[u8], disk: usize, data: &[u8]) -> Outcome {
+    let refusal = write_refusal(size, array, disk, data);
     let mut written = array.to_vec();
     if refusal != SUCCESS {
         return Outcome::writing(refusal, written);
     }
-    let (r, c) = data_place(n, disk).expect("refusal 8 has been tested");
+    let (grid, block) = (size.grid, size.block);
+    let (r, c) = data_place(grid, disk).expect("refusal 8 has been tested");
     let difference = exclusive_or(block_of(array, block, disk), data);
-    for changed in [disk, disk_at(n, r, n), disk_at(n, n, c), disk_at(n, n, n)] {
+    let (rows, columns) = (grid.rows, grid.columns);
+    for changed in [disk, grid.disk_at(r, columns), grid.disk_at(rows, c), grid.disk_at(rows, columns)] {
         let bytes = exclusive_or(block_of(array, block, changed), &difference);
         set_block(&mut written, block, changed, &bytes);
     }
     Outcome::writing(SUCCESS, written)
 }
 
-fn map_fits(n: usize, map: &[u8]) -> bool {
-    map.len() == disk_count(n) && map.iter().all(|&mark| mark <= 1)
+fn map_fits(grid: Grid, map: &[u8]) -> bool {
+    map.len() == grid.disks() && map.iter().all(|&mark| mark <= 1)
 }
 
 /// The block of one present disk, by its length and its place in the array; length 0 where anything is wrong.
-pub fn look(n: usize, block: usize, array: &[u8], map: &[u8], disk: usize) -> Outcome {
+pub fn look(size: Size, array: &[u8], map: &[u8], disk: usize) -> Outcome {
     let empty = Outcome::reading(0, None);
-    if array_refusal(n, block, array) != SUCCESS {
+    if array_refusal(size, array) != SUCCESS {
         return empty;
     }
-    if !map_fits(n, map) {
+    if !map_fits(size.grid, map) {
         return empty;
     }
-    if disk >= disk_count(n) || map[disk] == 1 {
+    if disk >= size.disks() || map[disk] == 1 {
         return empty;
     }
-    Outcome::reading(block, Some(disk * block))
+    Outcome::reading(size.block, Some(disk * size.block))
 }
 
 /// Refusals 4 and 5, which come after those of the size and the array.
-fn map_refusal(n: usize, map: &[u8], sheet: &[u8]) -> usize {
-    if !map_fits(n, map) {
+fn map_refusal(grid: Grid, map: &[u8], sheet: &[u8]) -> usize {
+    if !map_fits(grid, map) {
         return 4;
     }
     if sheet.len() != sheet::SHEET {
@@ -185,9 +191,9 @@ fn map_refusal(n: usize, map: &[u8], sheet: &[u8]) -> usize {
 }
 
 /// Refusals 1 to 5, with which rebuild and follow begin.
-fn restore_refusal(n: usize, block: usize, array: &[u8], map: &[u8], sheet: &[u8]) -> usize {
-    match array_refusal(n, block, array) {
-        SUCCESS => map_refusal(n, map, sheet),
+fn restore_refusal(size: Size, array: &[u8], map: &[u8], sheet: &[u8]) -> usize {
+    match array_refusal(size, array) {
+        SUCCESS => map_refusal(size.grid, map, sheet),
         refusal => refusal,
     }
 }
@@ -207,14 +213,15 @@ struct Loss {
 }
 
 impl Loss {
-    fn new(n: usize, map: &[u8]) -> Loss {
+    fn new(grid: Grid, map: &[u8]) -> Loss {
         let erased = erased_disks(map);
-        let mut equations = Equations::new(n);
+        let mut equations = Equations::new(grid);
         let independent = erased.iter().filter(|&&disk| equations.add(disk)).count();
         let fatal = independent < erased.len();
-        let (repairs, lost) = sheet::plans_order(n, &erased);
-        // Demand 3 says so. A model that contradicts itself would be nothing to compare with.
-        assert_eq!(fatal, !lost.is_empty(), "rank and repairs differ, n {n}, map {map:?}");
+        let (repairs, lost) = sheet::plans_order(grid, &erased);
+        // Demand 3 and the limit of repairs say so. A model that contradicts itself would be nothing to compare with.
+        assert_eq!(fatal, !lost.is_empty(), "rank and repairs differ, {grid}, map {map:?}");
+        assert!(repairs.len() <= grid.most_repairs(), "too many repairs, {grid}, map {map:?}");
         if fatal {
             return Loss { fatal, equations, count: lost.len(), sheet: sheet::ANY_LOOP.to_vec() };
         }
@@ -223,15 +230,15 @@ impl Loss {
 }
 
 /// The repairs in plan's order and their number, or any loop and the number of lost disks.
-pub fn plan(n: usize, map: &[u8], sheet: &[u8]) -> Outcome {
-    let mut refusal = side_refusal(n);
+pub fn plan(grid: Grid, map: &[u8], sheet: &[u8]) -> Outcome {
+    let mut refusal = side_refusal(grid);
     if refusal == SUCCESS {
-        refusal = map_refusal(n, map, sheet);
+        refusal = map_refusal(grid, map, sheet);
     }
     if refusal != SUCCESS {
         return Outcome { answer: refusal, out: None, written: vec![sheet.to_vec()] };
     }
-    let loss = Loss::new(n, map);
+    let loss = Loss::new(grid, map);
     Outcome { answer: if loss.fatal { FATAL } else { SUCCESS }, out: Some(loss.count), written: vec![loss.sheet] }
 }
 
@@ -245,53 +252,52 @@ fn with_erased(block: usize, array: &[u8], map: &[u8], erased: &[u8]) -> Vec<u8>
 }
 
 /// The sealed array to which the survivors belong. With 7 the erased blocks and the whole sheet are zero.
-pub fn rebuild(n: usize, block: usize, array: &[u8], map: &[u8], sheet: &[u8]) -> Outcome {
-    let refusal = restore_refusal(n, block, array, map, sheet);
+pub fn rebuild(size: Size, array: &[u8], map: &[u8], sheet: &[u8]) -> Outcome {
+    let refusal = restore_refusal(size, array, map, sheet);
     if refusal != SUCCESS {
         return Outcome { answer: refusal, out: None, written: vec![array.to_vec(), sheet.to_vec()] };
     }
-    let loss = Loss::new(n, map);
+    let loss = Loss::new(size.grid, map);
     if loss.fatal {
         return Outcome { answer: FATAL, out: Some(loss.count), written: vec![array.to_vec(), loss.sheet] };
     }
-    match loss.equations.solve(sums_of_survivors(n, block, array, map)) {
+    match loss.equations.solve(sums_of_survivors(size, array, map)) {
         Some(erased) => {
-            let restored = with_erased(block, array, map, &erased);
+            let restored = with_erased(size.block, array, map, &erased);
             Outcome { answer: SUCCESS, out: Some(loss.count), written: vec![restored, loss.sheet] }
         }
         None => {
-            let zeroed = with_erased(block, array, map, &vec![0; array.len()]);
+            let zeroed = with_erased(size.block, array, map, &vec![0; array.len()]);
             Outcome { answer: CONTRADICTORY, out: None, written: vec![zeroed, vec![0; sheet::SHEET]] }
         }
     }
 }
 
 /// Sets the block of a disk to the sum of the other disks of a stripe.
-fn repair(n: usize, block: usize, array: &mut [u8], disk: usize, stripe: usize) {
-    let mut others =
-        if stripe < FIRST_COLUMN { row(n, stripe, n + 1) } else { column(n, stripe - FIRST_COLUMN, n + 1) };
+fn repair(size: Size, array: &mut [u8], disk: usize, stripe: usize) {
+    let mut others = stripe_disks(size.grid, stripe);
     others.retain(|&other| other != disk);
-    let bytes = sum(array, block, &others);
-    set_block(array, block, disk, &bytes);
+    let bytes = sum(array, size.block, &others);
+    set_block(array, size.block, disk, &bytes);
 }
 
 /// The repairs of a sheet made one after another. With 7 the erased blocks are zero.
-pub fn follow(n: usize, block: usize, array: &[u8], map: &[u8], sheet: &[u8]) -> Outcome {
+pub fn follow(size: Size, array: &[u8], map: &[u8], sheet: &[u8]) -> Outcome {
     let refused = |status: usize| Outcome::writing(status, array.to_vec());
-    let refusal = restore_refusal(n, block, array, map, sheet);
+    let refusal = restore_refusal(size, array, map, sheet);
     if refusal != SUCCESS {
         return refused(refusal);
     }
     let Some(steps) = sheet::chain(sheet) else {
         return refused(BROKEN);
     };
-    if !sheet::clears(n, &erased_disks(map), &steps) {
+    if !sheet::clears(size.grid, &erased_disks(map), &steps) {
         return refused(NOT_ALLOWED);
     }
     let mut restored = array.to_vec();
-    steps.iter().for_each(|&(disk, stripe)| repair(n, block, &mut restored, disk, stripe));
-    if lowest_unsealed(n, block, &restored).is_some() {
-        return Outcome::writing(CONTRADICTORY, with_erased(block, array, map, &vec![0; array.len()]));
+    steps.iter().for_each(|&(disk, stripe)| repair(size, &mut restored, disk, stripe));
+    if lowest_unsealed(size, &restored).is_some() {
+        return Outcome::writing(CONTRADICTORY, with_erased(size.block, array, map, &vec![0; array.len()]));
     }
     Outcome { answer: SUCCESS, out: Some(steps.len()), written: vec![restored] }
 }

@@ -2,6 +2,7 @@
 //! rule for a loop.
 
 use crate::equations::{stripes_through, STRIPES};
+use crate::size::Grid;
 use std::collections::HashSet;
 
 pub const SHEET: usize = 98;
@@ -17,30 +18,30 @@ pub const ANY_LOOP: [u8; SHEET] = [LOOP; SHEET];
 /// A record of a sheet: a disk and a stripe.
 pub type Record = (usize, usize);
 
-fn lies_on(n: usize, disk: usize, stripe: usize) -> bool {
-    stripes_through(n, disk).contains(&stripe)
+fn lies_on(grid: Grid, disk: usize, stripe: usize) -> bool {
+    stripes_through(grid, disk).contains(&stripe)
 }
 
-fn count_on(n: usize, disks: &[usize], stripe: usize) -> usize {
-    disks.iter().filter(|&&disk| lies_on(n, disk, stripe)).count()
+fn count_on(grid: Grid, disks: &[usize], stripe: usize) -> usize {
+    disks.iter().filter(|&&disk| lies_on(grid, disk, stripe)).count()
 }
 
 /// The repairs that are allowed while these disks are erased, disk by disk, by its row and then by its column. A stripe is
 /// allowed if no other disk on it is still erased.
-pub fn allowed(n: usize, erased: &[usize]) -> impl Iterator<Item = Record> + '_ {
+pub fn allowed(grid: Grid, erased: &[usize]) -> impl Iterator<Item = Record> + '_ {
     let mut on = [0; STRIPES];
-    erased.iter().flat_map(|&disk| stripes_through(n, disk)).for_each(|stripe| on[stripe] += 1);
-    let repairs = erased.iter().flat_map(move |&disk| stripes_through(n, disk).map(|stripe| (disk, stripe)));
+    erased.iter().flat_map(|&disk| stripes_through(grid, disk)).for_each(|stripe| on[stripe] += 1);
+    let repairs = erased.iter().flat_map(move |&disk| stripes_through(grid, disk).map(|stripe| (disk, stripe)));
     repairs.filter(move |&(_, stripe)| on[stripe] == 1)
 }
 
 /// Plan's order, step by step: the repairs, and the disks that remain. The erased disks are given in rising order, so that
 /// the first repair that is allowed is that of the lowest-numbered disk, by its row if that is allowed.
-pub fn plans_order(n: usize, erased: &[usize]) -> (Vec<Record>, Vec<usize>) {
+pub fn plans_order(grid: Grid, erased: &[usize]) -> (Vec<Record>, Vec<usize>) {
     let mut left = erased.to_vec();
     let mut repairs = Vec::new();
     loop {
-        let next = allowed(n, &left).next();
+        let next = allowed(grid, &left).next();
         let Some((disk, stripe)) = next else {
             return (repairs, left);
         };
@@ -89,10 +90,10 @@ pub fn chain(sheet: &[u8]) -> Option<Vec<Record>> {
 
 /// Whether every step is an allowed repair at its turn, and no disk remains erased at the end. A repair is allowed if its
 /// disk is still erased, its stripe goes through the disk, and no other disk on the stripe is still erased.
-pub fn clears(n: usize, erased: &[usize], steps: &[Record]) -> bool {
+pub fn clears(grid: Grid, erased: &[usize], steps: &[Record]) -> bool {
     let mut left = erased.to_vec();
     for &(disk, stripe) in steps {
-        if !left.contains(&disk) || !lies_on(n, disk, stripe) || count_on(n, &left, stripe) != 1 {
+        if !left.contains(&disk) || !lies_on(grid, disk, stripe) || count_on(grid, &left, stripe) != 1 {
             return false;
         }
         left.retain(|&other| other != disk);
@@ -125,7 +126,7 @@ fn rule(holds: bool, words: &str, records: &[Record]) -> Result<(), String> {
 
 /// Whether a sheet holds a loop by the paper's rule: different erased disks, at least four, the lowest first; each shares
 /// the stripe of its record with the next, rows and columns in turn; each stripe touched holds exactly two of them.
-pub fn is_loop(n: usize, map: &[u8], sheet: &[u8]) -> Result<(), String> {
+pub fn is_loop(grid: Grid, map: &[u8], sheet: &[u8]) -> Result<(), String> {
     let records = records(sheet)?;
     let disks: Vec<usize> = records.iter().map(|&(disk, _)| disk).collect();
     let len = disks.len();
@@ -136,11 +137,11 @@ pub fn is_loop(n: usize, map: &[u8], sheet: &[u8]) -> Result<(), String> {
     rule(disks.iter().all(|&disk| disk >= disks[0]), "the first disk is not the lowest", &records)?;
     rule(len % 2 == 0, "the last and the first do not share a column", &records)?;
     for (i, &(disk, stripe)) in records.iter().enumerate() {
-        let turn = stripes_through(n, disk)[i % 2];
+        let turn = stripes_through(grid, disk)[i % 2];
         rule(stripe == turn, "rows and columns do not come in turn", &records)?;
-        rule(lies_on(n, disks[(i + 1) % len], stripe), "the next disk is on another stripe", &records)?;
-        let two = |&stripe: &usize| count_on(n, &disks, stripe) == 2;
-        rule(stripes_through(n, disk).iter().all(two), "a stripe has more than two of the disks", &records)?;
+        rule(lies_on(grid, disks[(i + 1) % len], stripe), "the next disk is on another stripe", &records)?;
+        let two = |&stripe: &usize| count_on(grid, &disks, stripe) == 2;
+        rule(stripes_through(grid, disk).iter().all(two), "a stripe has more than two of the disks", &records)?;
     }
     Ok(())
 }

@@ -2,17 +2,18 @@
 
 use crate::equations::{stripes_through, STRIPES};
 use crate::losses::shuffled;
-use crate::model::{disk_count, erased_disks};
+use crate::model::erased_disks;
 use crate::random::Random;
 use crate::sheet::{allowed, place_of, Record, RECORDS, REPAIRS, SHEET};
+use crate::size::Grid;
 
 /// Repairs that are allowed one after another, each chosen at random, until none is.
-pub fn any_order(random: &mut Random, n: usize, map: &[u8]) -> Vec<Record> {
+pub fn any_order(random: &mut Random, grid: Grid, map: &[u8]) -> Vec<Record> {
     let mut left = erased_disks(map);
-    left.retain(|&disk| disk < disk_count(n));
+    left.retain(|&disk| disk < grid.disks());
     let mut steps = Vec::new();
     loop {
-        let allowed: Vec<Record> = allowed(n, &left).collect();
+        let allowed: Vec<Record> = allowed(grid, &left).collect();
         if allowed.is_empty() {
             return steps;
         }
@@ -60,7 +61,7 @@ fn relink(random: &mut Random, sheet: &mut [u8], number: usize) {
 }
 
 /// What can be wrong with a sheet, each damage on a chain that ends.
-const DAMAGES: [fn(&mut Random, usize, &mut [u8]); 10] = [
+const DAMAGES: [fn(&mut Random, Grid, &mut [u8]); 10] = [
     // Another kind.
     |random, _, sheet| sheet[0] = random.pick(&[0, 2, 3, 255]),
     // A number that no record has.
@@ -82,10 +83,10 @@ const DAMAGES: [fn(&mut Random, usize, &mut [u8]); 10] = [
         sheet[links[links.len() - 1]] = sheet[back].max(1);
     },
     // Another disk: one of the grid, the next disk, one outside the grid.
-    |random, n, sheet| {
-        let disk = random.below(disk_count(n)) as u8;
+    |random, grid, sheet| {
+        let disk = random.below(grid.disks()) as u8;
         let at = record(random, sheet);
-        sheet[at] = random.pick(&[disk, sheet[at].wrapping_add(1), disk_count(n) as u8, 255]);
+        sheet[at] = random.pick(&[disk, sheet[at].wrapping_add(1), grid.disks() as u8, 255]);
     },
     // The disk of another record: it comes twice, and its own is left over.
     |random, _, sheet| {
@@ -94,11 +95,12 @@ const DAMAGES: [fn(&mut Random, usize, &mut [u8]); 10] = [
         sheet[at] = sheet[other];
     },
     // Another stripe: any, the disk's other one, or one that the grid has not.
-    |random, n, sheet| {
+    |random, grid, sheet| {
         let stripe = random.below(STRIPES) as u8;
         let at = record(random, sheet);
-        let [row, column] = stripes_through(n, sheet[at] as usize).map(|stripe| stripe as u8);
-        sheet[at + 1] = random.pick(&[stripe, row, column, n as u8 + 1, 17 + n as u8, STRIPES as u8, 255]);
+        let [row, column] = stripes_through(grid, sheet[at] as usize).map(|stripe| stripe as u8);
+        let (below, beside) = ((grid.rows + 1) as u8, (17 + grid.columns) as u8);
+        sheet[at + 1] = random.pick(&[stripe, row, column, below, beside, STRIPES as u8, 255]);
     },
     // Two records change places, so that the repairs come in another order.
     |random, _, sheet| {
@@ -107,12 +109,12 @@ const DAMAGES: [fn(&mut Random, usize, &mut [u8]); 10] = [
         sheet.swap(a + 1, b + 1);
     },
     // Random bytes in all of it, with numbers that records have.
-    |random, n, sheet| {
+    |random, grid, sheet| {
         sheet.copy_from_slice(&random.bytes(SHEET));
         (sheet[0], sheet[1]) = (REPAIRS, random.between(0, RECORDS) as u8);
         for number in 1..=RECORDS {
-            let disk = random.below(disk_count(n));
-            let stripe = random.pick(&stripes_through(n, disk));
+            let disk = random.below(grid.disks());
+            let stripe = random.pick(&stripes_through(grid, disk));
             let next = random.below(RECORDS + 2);
             let at = place_of(number);
             sheet[at..at + 3].copy_from_slice(&[disk as u8, stripe as u8, next as u8]);
@@ -121,8 +123,8 @@ const DAMAGES: [fn(&mut Random, usize, &mut [u8]); 10] = [
 ];
 
 /// A sheet whose chain ends, with one thing wrong. It may be none: a record may change places with itself.
-pub fn damaged(random: &mut Random, n: usize, sheet: &[u8]) -> Vec<u8> {
+pub fn damaged(random: &mut Random, grid: Grid, sheet: &[u8]) -> Vec<u8> {
     let mut damaged = sheet.to_vec();
-    DAMAGES[random.below(DAMAGES.len())](random, n, &mut damaged);
+    DAMAGES[random.below(DAMAGES.len())](random, grid, &mut damaged);
     damaged
 }

@@ -2,14 +2,20 @@
 
 use crate::outcome::Outcome;
 use std::collections::BTreeMap;
-use std::sync::atomic::{AtomicU64, Ordering};
+use std::sync::atomic::{AtomicBool, AtomicU64, Ordering};
 
 /// Failures printed in full; the rest are only counted.
 const PRINTED: u64 = 20;
 /// How many have failed in all tallies.
 static FAILED: AtomicU64 = AtomicU64::new(0);
+/// The first failure ends the program.
+static STOP: AtomicBool = AtomicBool::new(false);
 /// A buffer up to this length is printed whole.
 const WHOLE: usize = 256;
+
+pub fn stop_at_first() {
+    STOP.store(true, Ordering::Relaxed);
+}
 
 #[derive(Default)]
 pub struct Tally {
@@ -67,6 +73,9 @@ impl Tally {
         self.failed += 1;
         if FAILED.fetch_add(1, Ordering::Relaxed) < PRINTED {
             println!("FAILED: {complaint}\n  input: {input}");
+        }
+        if STOP.load(Ordering::Relaxed) {
+            std::process::exit(1);
         }
     }
 
