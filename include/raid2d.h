@@ -163,7 +163,8 @@ uint32_t raid2d_version_number(void);
 
 /*
  * Disks of an array, parity disks included: a map has as many bytes. And bytes
- * of an array. With constants both can size a static array.
+ * of an array. With constants both can size a static array. They are not
+ * tested: with numbers out of range they may wrap.
  */
 #ifdef __cplusplus
 #define RAID2D_DISKS(rows, columns) \

@@ -104,35 +104,29 @@ fn counted(rows: usize, columns: usize, map: &mut [u8]) {
     say::number(b"fatal sets of four", fatal_sets(size, map, 4));
 }
 
-fn two_rows() {
-    let mut two = [0u8; 9];
-    let mut three = [0u8; 12];
-    let mut four = [0u8; 15];
-    counted(2, 2, &mut two);
-    counted(2, 3, &mut three);
-    counted(2, 4, &mut four);
+fn squares() {
+    let mut nine = [0u8; 9];
+    let mut sixteen = [0u8; 16];
+    let mut twenty_five = [0u8; 25];
+    counted(2, 2, &mut nine);
+    counted(3, 3, &mut sixteen);
+    counted(4, 4, &mut twenty_five);
 }
 
-fn three_rows() {
-    let mut two = [0u8; 12];
-    let mut three = [0u8; 16];
-    let mut four = [0u8; 20];
-    counted(3, 2, &mut two);
-    counted(3, 3, &mut three);
-    counted(3, 4, &mut four);
-}
-
-fn four_rows() {
-    let mut two = [0u8; 15];
-    let mut three = [0u8; 20];
-    let mut four = [0u8; 25];
-    counted(4, 2, &mut two);
-    counted(4, 3, &mut three);
-    counted(4, 4, &mut four);
+// Each wider than high and higher than wide, with the same map.
+fn rectangles() {
+    let mut twelve = [0u8; 12];
+    let mut fifteen = [0u8; 15];
+    let mut twenty = [0u8; 20];
+    counted(2, 3, &mut twelve);
+    counted(3, 2, &mut twelve);
+    counted(2, 4, &mut fifteen);
+    counted(4, 2, &mut fifteen);
+    counted(3, 4, &mut twenty);
+    counted(4, 3, &mut twenty);
 }
 
 pub fn run() {
-    two_rows();
-    three_rows();
-    four_rows();
+    squares();
+    rectangles();
 }

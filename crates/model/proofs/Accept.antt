@@ -12,8 +12,9 @@ use lib.ListN.{length, getD}
 use Rattle.model.specs.Fold.{every}
 use Rattle.model.specs.Grid.{rectangle, rows, columns, across, disks, diskAt, isData, arrayBytes, sideFits, sizeFits, blockFits, mapFits}
 use Rattle.model.specs.Refusal.{Test, _unless_, refusal, arrayTests}
-use Rattle.model.specs.Array.{writeStatus}
-use Rattle.model.specs.Rebuild.{sheetTests, planTests, rebuildTests}
+use Rattle.model.specs.Array.{writeTests, writeStatus}
+use Rattle.model.specs.Rebuild.{sheetTests, planTests, rebuildTests, rebuildRefusal}
+use Rattle.model.specs.Follow.{followTests, followRefusal}
 use Rattle.model.specs.declared.Size.{Size}
 use Rattle.model.proofs.Fold.{by-cases, and-left, and-right, and-both, every-at, every-all}
 use Rattle.model.proofs.Grid.{size-fits, block-fits, disk-is, data-at, data-row, data-column}
@@ -28,11 +29,23 @@ size-accepts a b = (
 )
 
 -- So either number out of range is refused by 1, whatever the tests are that follow.
-pub outside-refused : (a b : ℕ) → ((2 ≤ a) × (a ≤ 15) × (2 ≤ b) × (b ≤ 15) → ⊥)
+outside-refused : (a b : ℕ) → ((2 ≤ a) × (a ≤ 15) × (2 ≤ b) × (b ≤ 15) → ⊥)
     → (ts : List Test) → refusal (1 unless sizeFits (rectangle a b) ∷ ts) ≡ 1
 outside-refused a b outside ts =
     by-cases (λ (t : Bool). refusal (1 unless t ∷ ts) ≡ 1) (sizeFits (rectangle a b)) (λ e. absurd (outside (size-accepts a b .0 e)))
     (λ e. fails 1 false ts refl)
+
+-- A size with either number out of range is refused by 1, whatever else is wrong: by seal and check, write, plan, rebuild and follow.
+pub size-refused : (a b : ℕ) → ((2 ≤ a) × (a ≤ 15) × (2 ≤ b) × (b ≤ 15) → ⊥)
+    → ((B len : ℕ) → refusal (arrayTests (rectangle a b) B len) ≡ 1)
+    × ((B : ℕ) (array : List ℕ) (d : ℕ) (new : List ℕ) → writeStatus (rectangle a b) B array d new ≡ 1)
+    × ((m : List ℕ) (len : ℕ) → refusal (planTests (rectangle a b) m len) ≡ 1)
+    × ((B : ℕ) (array m sheet : List ℕ) → rebuildRefusal (rectangle a b) B array m sheet ≡ 1)
+    × ((B : ℕ) (array m sheet : List ℕ) → followRefusal (rectangle a b) B array m sheet ≡ 1)
+unfolding arrayTests writeStatus writeTests planTests rebuildRefusal rebuildTests followRefusal followTests
+size-refused a b outside =
+    let one = outside-refused a b outside in
+    (λ B len. one _, λ B array d new. one _, λ m len. one _, λ B array m sheet. one _, λ B array m sheet. one _)
 
 pub array-accepts : (a b B len : ℕ) → (refusal (arrayTests (rectangle a b) B len) ≡ 0)
     ↔ ((2 ≤ a) × (a ≤ 15) × (2 ≤ b) × (b ≤ 15) × (1 ≤ B) × (B ≤ 4096) × (len ≡ (a + 1) * (b + 1) * B))

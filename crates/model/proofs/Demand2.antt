@@ -10,9 +10,7 @@ use Rattle.model.specs.Stripes.{whole, byte, stripeSum, Codeword}
 use Rattle.model.specs.Grid.{gridOf, grid, across, disks, arrayBytes, isData, rectangle}
 use Rattle.model.specs.Equations.{Equations}
 use Rattle.model.specs.Refusal.{refusal, arrayTests}
-use Rattle.model.specs.Array.{sealStatus, sealArray, checked, checkStatus, isParityOf, replaced, writeTests, writeStatus, writeArray}
-use Rattle.model.specs.Rebuild.{planTests, rebuildTests, rebuildRefusal}
-use Rattle.model.specs.Follow.{followTests, followRefusal}
+use Rattle.model.specs.Array.{sealStatus, sealArray, checked, checkStatus, isParityOf, replaced, writeStatus, writeArray}
 use Rattle.model.specs.declared.Size.{Size}
 use Rattle.model.specs.declared.Checked.the-variants.{Sealed, Unsealed, Refused}
 use Rattle.model.proofs.Equations.{equations-iff-sums}
@@ -20,21 +18,9 @@ use Rattle.model.proofs.Refusal.{given-refused}
 use Rattle.model.proofs.Seal.{Same, seal-fits, seal-is, encoded-length, encoded-same, encoded-equations, encoded-exact, encoded-small, same-of-data, data-of-same}
 use Rattle.model.proofs.Check.{answer-sealed, answer-unsealed, answer-zero}
 use Rattle.model.proofs.Write.{write-fits, write-is, written-sum, written-block, written-others, written-sealed, replaced-status}
-use Rattle.model.proofs.Accept.{outside-refused, array-accepts, block-accepts}
+use Rattle.model.proofs.Accept.{array-accepts, block-accepts}
 
 -- ---- which arguments are taken
-
--- A size with either number out of range is refused by 1, whatever else is wrong: by seal and check, write, plan, rebuild and follow.
-pub size-refused : (a b : ℕ) → ((2 ≤ a) × (a ≤ 15) × (2 ≤ b) × (b ≤ 15) → ⊥)
-    → ((B len : ℕ) → refusal (arrayTests (rectangle a b) B len) ≡ 1)
-    × ((B : ℕ) (array : List ℕ) (d : ℕ) (new : List ℕ) → writeStatus (rectangle a b) B array d new ≡ 1)
-    × ((m : List ℕ) (len : ℕ) → refusal (planTests (rectangle a b) m len) ≡ 1)
-    × ((B : ℕ) (array m sheet : List ℕ) → rebuildRefusal (rectangle a b) B array m sheet ≡ 1)
-    × ((B : ℕ) (array m sheet : List ℕ) → followRefusal (rectangle a b) B array m sheet ≡ 1)
-unfolding arrayTests writeStatus writeTests planTests rebuildRefusal rebuildTests followRefusal followTests
-size-refused a b outside =
-    let one = outside-refused a b outside in
-    (λ B len. one _, λ B array d new. one _, λ m len. one _, λ B array m sheet. one _, λ B array m sheet. one _)
 
 -- With a data rows and b data columns, just these sizes, blocks and lengths.
 pub accepts : (a b B len : ℕ) → (refusal (arrayTests (rectangle a b) B len) ≡ 0)
