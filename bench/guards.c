@@ -16,6 +16,7 @@ static const struct guard guards[] = {
     {CHECK, READ, 2.6},
     {SEAL, TUNED, 1.1},
     {CHECK, ISAL, 1.15},
+    {WRITE, TUNED, 1.15},
     {REBUILD, READ, 6.0},
     {REBUILD, TUNED, 1.1},
     {REBUILD, ISAL, 1.5},

@@ -354,9 +354,10 @@ uint32_t raid2d_check(size_t rows, size_t columns, size_t block,
  * a part of array.
  *
  * Do not write to an erased disk: what stands in its block is taken for its
- * old contents, and a later raid2d_rebuild gives neither the old block nor the
- * new one. Rebuild first. Other disks may be erased, the parities too: the
- * write is right, and what changes in their blocks counts for nothing.
+ * old contents, and what a later raid2d_rebuild gives need be neither the old
+ * block nor the new one. Rebuild first. Other disks may be erased, the
+ * parities too: the write is right, and what changes in their blocks counts
+ * for nothing.
  *
  *   rows       data rows, RAID2D_SIDE_MIN to RAID2D_SIDE_MAX
  *   columns    data columns, likewise

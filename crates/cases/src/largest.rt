@@ -39,9 +39,9 @@ pub fn run() {
     trial::put_every(&mut array, 2, 1048576, 4099, 203);
     say::status(
         b"seal the largest array",
-        array::seal(size, 4096, &mut array),
+        seal::seal(size, 4096, &mut array),
     );
-    say::checked(b"check it", array::check(size, 4096, &array));
+    say::checked(b"check it", scrub::check(size, 4096, &array));
     let sealed = array;
     let mut map = [0u8; 256];
     trial::put_every(&mut map, 0, 16, 1, 1);

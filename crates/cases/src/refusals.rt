@@ -13,15 +13,15 @@ fn heading(rows: usize, columns: usize, block: usize) {
 
 // What seal, check and write answer.
 fn parities(size: Size, block: usize, array: &mut [u8], new: &[u8]) {
-    say::status(b"seal", array::seal(size, block, array));
-    say::checked(b"check", array::check(size, block, array));
-    say::status(b"write", array::write(size, block, array, 0, new));
+    say::status(b"seal", seal::seal(size, block, array));
+    say::checked(b"check", scrub::check(size, block, array));
+    say::status(b"write", write::write(size, block, array, 0, new));
 }
 
 // What look, rebuild and follow answer. Look has no number: an empty part has length 0.
 fn losses(size: Size, block: usize, array: &mut [u8], map: &[u8]) {
     let mut sheet = [0u8; 98];
-    say::number(b"look", array::look(size, block, array, map, 0).len());
+    say::number(b"look", look::look(size, block, array, map, 0).len());
     say::outcome(
         b"rebuild",
         rebuild::rebuild(size, block, array, map, &mut sheet),
@@ -132,11 +132,11 @@ fn written(rows: usize, columns: usize) {
     heading(rows, columns, 1);
     say::status(
         b"write to disk 2",
-        array::write(size, 1, &mut array, 2, b"a"),
+        write::write(size, 1, &mut array, 2, b"a"),
     );
     say::status(
         b"write to disk 3",
-        array::write(size, 1, &mut array, 3, b"a"),
+        write::write(size, 1, &mut array, 3, b"a"),
     );
 }
 
@@ -152,9 +152,9 @@ fn parity_disk() {
     let mut array = [1u8, 2, 3, 4, 8, 12, 5, 10, 15];
     say::status(
         b"write to disk 2",
-        array::write(size, 1, &mut array, 2, b"a"),
+        write::write(size, 1, &mut array, 2, b"a"),
     );
-    say::checked(b"check after it", array::check(size, 1, &array));
+    say::checked(b"check after it", scrub::check(size, 1, &array));
 }
 
 pub fn run() {

@@ -1,90 +1,90 @@
--- What a step of a trace looks for: the lowest disk of a set, the other disk on a stripe, the other stripe of a disk.
+-- The search for the other disk of a set on a stripe, and for the other stripe of a disk.
 -- Assumes nothing.
-use mathlib.Core.Path.{_≡_, sym, _∙_, ap, ap₂}
-use mathlib.Core.Bool.{Bool, true, false, cond, not, _&&_, and-false}
+use mathlib.Core.Path.{_≡_, sym, _∙_, ap, ap₂, subst}
+use mathlib.Core.Bool.{Bool, true, false, cond, not, _&&_, and-false, or-false, true≢false}
+use mathlib.Core.Logic.{⊎-elim}
 use mathlib.Core.List.{List, [], _∷_}
-use Prim.Native.Nat.{ℕ, _+_, _*_, _/_, _%_, _≤_, _<_}
+use Prim.Native.Nat.{ℕ, _≤_, _<_}
 use native.Mathlib.Omega.{arith}
 use borrow.Author.Tests.{eq-eqb, ne-eqb}
 use lib.Dec.{eqb}
-use lib.ListN.{getD}
-use Rattle.model.specs.Stripes.{on}
-use Rattle.model.specs.Grid.{grid, rows, across, gridOf, disks}
-use Rattle.model.specs.Repair.{erasures}
-use Rattle.model.specs.Cycle.{lowestOf, partner, otherThan}
-use Rattle.model.specs.declared.Size.{Size}
-use Rattle.model.proofs.Fold.{and-left, and-right, and-both, lowest-found, lowest-end}
-use Rattle.model.proofs.Grid.{Fits, row-within}
-use Rattle.layout.specs.Stripe.{rowStripe, columnStripe}
-use Rattle.layout.specs.declared.Run.{Run}
-use Rattle.layout.proofs.Runs.{RunOf, lowest-on, none-on}
+use lib.ListN.{length}
+use Rattle.stripes.specs.System.{Layout, on, among}
+use Rattle.stripes.specs.Erased.{erasures}
+use Rattle.stripes.specs.Repair.{Entry}
+use Rattle.stripes.specs.Cycle.{partner, otherThan}
+use Rattle.stripes.proofs.Fold.{and-both, lt-or-le, lowest-is, lowest-found}
+use Rattle.tally.specs.Tally.{Table, nextErased}
+use Rattle.tally.proofs.Scanned.{next-erased, next-passed}
+use Rattle.tally.proofs.Counted.{erased-inside}
 
--- A byte of the set says whether the disk is in it.
-pub in-set : (set : List ℕ) (d : ℕ) → getD set d 0 ≡ 1 → erasures set d ≡ true
-unfolding erasures
-in-set set d e = eq-eqb (getD set d 0) 1 e
+-- ---- the two stripes of a disk
 
-pub not-in-set : (set : List ℕ) (d : ℕ) → (getD set d 0 ≡ 1 → ⊥) → erasures set d ≡ false
-unfolding erasures
-not-in-set set d e = ne-eqb (getD set d 0) 1 e
+-- What is found of its stripes is so of the disk.
+pub lies : (L : Layout) (d s : ℕ) {w : List ℕ} {b : Bool} → L .through d ≡ w → b ≡ among s w → on L d s ≡ b
+unfolding on
+lies L d s here e = ap (among s) here ∙ sym e
 
--- ---- the lowest disk
-module _ (z : Size) (set : List ℕ) where
-  pub lowest-here : (d : ℕ) → d < disks z → ((i : ℕ) → i < d → erasures set i ≡ false) → getD set d 0 ≡ 1
-      → d ≡ lowestOf (gridOf z) (erasures set)
-  unfolding lowestOf gridOf grid disks across
-  lowest-here d l none e = lowest-found (disks z) (erasures set) d l none (in-set set d e)
+module _ (s a b : ℕ) where
+  pub either-low : s ≡ a → true ≡ among s (a ∷ b ∷ [])
+  unfolding among
+  either-low e = rw (eq-eqb s a e)
 
-  pub lowest-nowhere : ((i : ℕ) → i < disks z → erasures set i ≡ false) → disks z ≡ lowestOf (gridOf z) (erasures set)
-  unfolding lowestOf gridOf grid disks across
-  lowest-nowhere none = lowest-end (disks z) (erasures set) none
+  pub either-high : (s ≡ a → ⊥) → eqb s b ≡ among s (a ∷ b ∷ [])
+  unfolding among
+  either-high n = rw (ne-eqb s a n, or-false)
+
+  pub other-high : a < b → a ≡ s → b ≡ otherThan s (a ∷ b ∷ [])
+  unfolding otherThan
+  other-high l e = sym (ap₂ (λ (p q : Bool). cond p (cond q 0 b) a) (eq-eqb a s e) (ne-eqb b s (λ q. omega arith)))
+
+  pub other-low : (a ≡ s → ⊥) → a ≡ otherThan s (a ∷ b ∷ [])
+  unfolding otherThan
+  other-low n = sym (ap (λ (p : Bool). cond p (cond (eqb b s) 0 b) a) (ne-eqb a s n))
 
 -- ---- the other disk on a stripe
 
--- Disk d is another disk of the set on stripe s than i.
-unfoldable pub isOther : Size → List ℕ → (i s d : ℕ) → Bool
-isOther z set i s d = erasures set d && (on (gridOf z) d s && not (eqb d i))
+-- Disk i is another disk of the set on the stripe along which a step leaves its disk.
+unfoldable pub isOther : Layout → List ℕ → Entry → ℕ → Bool
+isOther L set r i = erasures set i && (on L i (r .stripe) && not (eqb i (r .disk)))
 
-module _ (z : Size) (set : List ℕ) (i s : ℕ) where
-  pub other-absent : (d : ℕ) → (getD set d 0 ≡ 1 → ⊥) → isOther z set i s d ≡ false
+-- The search has come to disk n: a disk of the set, or the end.
+pub record Searched (L : Layout) (set : List ℕ) (r : Entry) (n : ℕ) : Type 0 where
+  pub erased : n < length set → erasures set n ≡ true
+  pub none : (i : ℕ) → i < n → isOther L set r i ≡ false
+
+module _ (L : Layout) (set : List ℕ) (r : Entry) where
+  none-absent : (i : ℕ) → erasures set i ≡ false → isOther L set r i ≡ false
   unfolding isOther
-  other-absent d e = ap (λ (b : Bool). b && (on (gridOf z) d s && not (eqb d i))) (not-in-set set d e)
+  none-absent i e = ap (λ (t : Bool). t && (on L i (r .stripe) && not (eqb i (r .disk)))) e
 
-  pub other-self : (d : ℕ) → d ≡ i → isOther z set i s d ≡ false
+  pub none-self : (i : ℕ) → i ≡ r .disk → isOther L set r i ≡ false
   unfolding isOther
-  other-self d e =
-      ap (λ (b : Bool). erasures set d && (on (gridOf z) d s && not b)) (eq-eqb d i e)
-      ∙ ap (λ (b : Bool). erasures set d && b) (and-false (on (gridOf z) d s)) ∙ and-false (erasures set d)
+  none-self i e = rw (eq-eqb i (r .disk) e, and-false, and-false)
 
-  other-on : (d : ℕ) → isOther z set i s d ≡ true → on (gridOf z) d s ≡ true
+  pub none-elsewhere : (i : ℕ) → on L i (r .stripe) ≡ false → isOther L set r i ≡ false
   unfolding isOther
-  other-on d h =
-      and-left (on (gridOf z) d s) (not (eqb d i)) (and-right (erasures set d) (on (gridOf z) d s && not (eqb d i)) h)
+  none-elsewhere i e = rw (e, and-false)
 
-  -- A search along the stripe's disks finds it.
-  module _ (run : Run) (place : ℕ → ℕ) (r : RunOf z s run place) where
-    pub partner-here : (k : ℕ) → k < run .count → ((j : ℕ) → j < k → isOther z set i s (run .first + j * run .step) ≡ false)
-        → getD set (run .first + k * run .step) 0 ≡ 1 → (run .first + k * run .step ≡ i → ⊥)
-        → run .first + k * run .step ≡ partner (gridOf z) (erasures set) (record { disk = i; stripe = s })
-    unfolding partner isOther gridOf grid disks across
-    partner-here k l none e apart =
-        lowest-on z s run place r (isOther z set i s) (λ d h. other-on d) k l none
-        (and-both (in-set set _ e) (and-both (r .here k l) (ap not (ne-eqb _ i apart))))
+  -- It goes on with the next disk of the set.
+  pub search-next : (from : ℕ) → from ≤ length set → ((i : ℕ) → i < from → isOther L set r i ≡ false)
+      → {n : ℕ} → n ≡ nextErased set from → Searched L set r n
+  search-next from room none e =
+      subst (Searched L set r) (sym e)
+      (record {
+        erased = next-erased set from;
+        none = λ i b. ⊎-elim (λ l. none i l) (λ l. none-absent i (next-passed set from room .none i l b)) (lt-or-le i from);
+      })
 
-    pub partner-nowhere : ((j : ℕ) → j < run .count → isOther z set i s (run .first + j * run .step) ≡ false)
-        → disks z ≡ partner (gridOf z) (erasures set) (record { disk = i; stripe = s })
-    unfolding partner isOther gridOf grid disks across
-    partner-nowhere none = none-on z s run place r (isOther z set i s) (λ d h. other-on d) none
+  module _ {stripes : List ℕ} (t : Table L set stripes) {n : ℕ} (p : Searched L set r n) where
+    pub partner-found : n < length set → (n ≡ r .disk → ⊥) → on L n (r .stripe) ≡ true → n ≡ partner L (erasures set) r
+    unfolding partner isOther
+    partner-found l apart lies =
+        lowest-found (L .disks) (isOther L set r) n (erased-inside t n (p .erased l)) (p .none)
+        (and-both (p .erased l) (and-both lies (ap not (ne-eqb n (r .disk) apart))))
 
--- ---- the other stripe of a disk
-module _ (z : Size) (d s : ℕ) where
-  pub column-other : Fits z → d < disks z → rowStripe z d ≡ s → columnStripe z d ≡ otherThan s (gridOf z .through d)
-  unfolding otherThan gridOf grid across rowStripe columnStripe
-  column-other fits l e =
-      let row : d / across z ≤ rows z = row-within z d l in
-      sym (ap₂ (λ (a b : Bool). cond a (cond b 0 (16 + d % across z)) (d / across z)) (eq-eqb (d / across z) s e)
-      (ne-eqb (16 + d % across z) s (λ q. let h = fits .rowsHigh in omega arith)))
-
-  pub row-other : (rowStripe z d ≡ s → ⊥) → rowStripe z d ≡ otherThan s (gridOf z .through d)
-  unfolding otherThan gridOf grid across rowStripe
-  row-other e = sym (ap (λ (a : Bool). cond a (otherThan s ((16 + d % across z) ∷ [])) (d / across z)) (ne-eqb (d / across z) s e))
+    -- It does not miss one that is there.
+    pub partner-missed : partner L (erasures set) r < L .disks → length set ≤ n → ⊥
+    unfolding partner isOther
+    partner-missed some l =
+        true≢false (sym (lowest-is (L .disks) (isOther L set r) .found some) ∙ p .none _ (let fits = t .disksFit in omega arith))

@@ -1,27 +1,33 @@
--- The turns of a trace: what the sheet holds so far, and where the trace stands.
+-- The turns of a trace in any stripe system whose disks lie on two stripes each: what is listed so far, and where it stands.
 -- Assumes nothing.
 use mathlib.Core.Path.{_≡_, refl, sym, _∙_, ap, ap₂, subst}
-use mathlib.Core.Bool.{Bool, true, cond}
+use mathlib.Core.Bool.{Bool, true, cond, _&&_}
 use mathlib.Core.List.{List, [], _∷_, _++_, append-assoc, append-nil}
-use Prim.Native.Nat.{ℕ, suc, _+_, _-_, _/_, _≤_, _<_}
+use Prim.Native.Nat.{ℕ, suc, _+_, _-_, _≤_, _<_, zero-le}
 use native.Mathlib.Nat.{sub-zero}
 use native.Mathlib.Omega.{arith}
-use borrow.Author.Tests.{eq-eqb, ne-eqb}
-use lib.ListN.{length, length-append}
-use Rattle.model.specs.Stripes.{Layout, on}
-use Rattle.model.specs.Grid.{grid, across, gridOf, disks, sizeFits}
-use Rattle.model.specs.Repair.{Entry, erasures}
-use Rattle.model.specs.Cycle.{Paired, partner, otherThan, firstOf, trace, lowestOf, cycleOf}
-use Rattle.model.specs.Sheet.{sheetOf}
+use borrow.Author.Tests.{eq-eqb, ne-eqb, le-leb}
+use lib.Dec.{leb}
+use lib.ListN.{length, set as put, length-append}
+use Rattle.stripes.specs.System.{Layout, TwoStripes}
+use Rattle.stripes.specs.Repair.{Entry}
+use Rattle.stripes.specs.Erased.{erasures}
+use Rattle.stripes.specs.Cycle.{Paired, partner, otherThan, firstOf, trace, lowestOf, cycleOf}
+use Rattle.model.specs.Grid.{layoutOf, disks}
 use Rattle.model.specs.declared.Size.{Size}
-use Rattle.model.proofs.Fold.{lowest-is}
-use Rattle.model.proofs.Grid.{size-fits, grid-disks, gridOf-two, disks-bound, across-bound, row-within, on-row}
-use Rattle.model.proofs.Degree.{on-bound}
-use Rattle.model.proofs.Walk.{Step, next, partner-is, next-step}
-use Rattle.model.proofs.Sheets.{sheet-length}
-use Rattle.layout.specs.Stripe.{rowStripe}
-use Rattle.sheet.specs.Record.{appended}
-use Rattle.sheet.proofs.Appended.{append-record}
+use Rattle.stripes.proofs.Fold.{lowest-is, lowest-found}
+use Rattle.stripes.proofs.Degree.{on-bound}
+use Rattle.stripes.proofs.Walk.{Step, next, partner-is, partner-inside, next-step}
+use Rattle.stripes.proofs.Trace.{cycle-of}
+use Rattle.model.proofs.Grid.{layout-disks, disks-bound, size-fits}
+use Rattle.model.proofs.Loop.{loop-fits}
+use Rattle.layout.specs.Stripe.{Numbered}
+use Rattle.layout.proofs.Runs.{numbered-two, stripes-few}
+use Rattle.entries.specs.Listed.{wordOf, listed}
+use Rattle.entries.proofs.Words.{listed-length, listed-put}
+use Rattle.tally.specs.Tally.{Table, nextErased}
+use Rattle.tally.proofs.Counted.{erased-inside}
+use Rattle.cycle.proofs.Search.{either-low, lies}
 
 -- ---- one step of the definition
 module _ (L : Layout) (c : ℕ → Bool) (first k : ℕ) (r : Entry) where
@@ -33,128 +39,150 @@ module _ (L : Layout) (c : ℕ → Bool) (first k : ℕ) (r : Entry) where
   unfolding trace next
   trace-closes e = ap (λ (b : Bool). r ∷ cond b [] (trace L c first k (next L c r))) (eq-eqb (partner L c r) first e)
 
+-- ---- what is traced
+
+-- A set of disks, two on each stripe touched, with their stripes in a table; cycle and numbers fit a list of words.
+pub record Traced (L : Layout) (set stripes : List ℕ) : Type 0 where
+  pub two : TwoStripes L
+  pub table : Table L set stripes
+  pub paired : Paired L (erasures set)
+  pub first : nextErased set 0 ≡ lowestOf L (erasures set)
+  pub erased : erasures set (nextErased set 0) ≡ true
+  pub disksFit : L .disks ≤ 65536
+  pub stripesFit : L .stripeBound ≤ 65536
+  pub cycleFits : length (cycleOf L (erasures set)) ≤ 32
+
+-- The lower of two stripes is listed first.
+pub pair-rises : {L : Layout} → TwoStripes L → {d a b : ℕ} → d < L .disks → L .through d ≡ a ∷ b ∷ [] → a < b
+pair-rises two {d} {a} {b} inside here =
+    let both = two .two d inside in
+    let l : two .low d ≡ a = cc in
+    let h : two .high d ≡ b = cc in
+    let order = two .order d inside in
+    omega arith
+
+-- The first disk of the set is the lowest of the layout's disks in it.
+first-is : (L : Layout) (set : List ℕ) → L .disks ≤ length set → lowestOf L (erasures set) < L .disks
+    → (nextErased set 0 ≡ lowestOf L (erasures set)) × (erasures set (lowestOf L (erasures set)) ≡ true)
+unfolding nextErased lowestOf
+first-is L set fits some =
+    let low = lowest-is (L .disks) (erasures set) in
+    let each : (i : ℕ) → (leb 0 i && erasures set i) ≡ erasures set i = λ i. ap (λ (b : Bool). b && erasures set i) (le-leb 0 i zero-le) in (
+      sym (lowest-found (length set) _ _ (omega arith) (λ i b. each i ∙ low .none i b) (each _ ∙ low .found some)),
+      low .found some,
+    )
+
+-- So it is of the layout of a size.
+pub traced : (z : Size) (base : ℕ) (set stripes : List ℕ) → Numbered z base → Table (layoutOf z base) set stripes
+    → Paired (layoutOf z base) (erasures set) → lowestOf (layoutOf z base) (erasures set) < disks z → Traced (layoutOf z base) set stripes
+traced z base set stripes n table paired some =
+    let same = layout-disks z base in
+    let few = disks-bound z (size-fits z (n .fits)) in
+    let low : lowestOf (layoutOf z base) (erasures set) < layoutOf z base .disks = omega arith in
+    let (first, erased) = first-is (layoutOf z base) set (table .disksFit) low in
+    record {
+      two = numbered-two n;
+      table = table;
+      paired = paired;
+      first = first;
+      erased = ap (erasures set) first ∙ erased;
+      disksFit = omega arith;
+      stripesFit = let c = stripes-few n in omega arith;
+      cycleFits = loop-fits z base (n .above) (erasures set) _ (cycle-of (layoutOf z base) (numbered-two n) (erasures set) paired _ low erased) (n .fits);
+    }
+
 -- ---- the turns
 
 -- What a trace of a set lists in at most n turns from a step on.
-abbrev pub onward : Size → List ℕ → ℕ → Entry → List Entry
-onward z set n r = trace (gridOf z) (erasures set) (lowestOf (gridOf z) (erasures set)) n r
+abbrev onward : Layout → List ℕ → ℕ → Entry → List Entry
+onward L set n r = trace L (erasures set) (lowestOf L (erasures set)) n r
 
--- After k turns the sheet lists the first k steps, and the trace goes on with the step r.
-pub record Turn (z : Size) (set sheet : List ℕ) (r : Entry) (k : ℕ) : Type 0 where
-  pub done : List Entry
-  pub number : length done ≡ k
-  pub listed : sheet ≡ sheetOf 2 done
-  pub whole : cycleOf (gridOf z) (erasures set) ≡ done ++ onward z set (16 + across z - k) r
-  pub step : Step (gridOf z) (erasures set) r
+-- After k turns the first k steps are listed, and the trace goes on with the step r.
+pub record Turn (L : Layout) (set list : List ℕ) (r : Entry) (k : ℕ) : Type 0 where
+  pub whole : cycleOf L (erasures set) ≡ listed list k ++ onward L set (L .stripeBound - k) r
+  pub step : Step L (erasures set) r
 
--- It begins at the lowest disk, with its row.
-module _ (z : Size) (fits : sizeFits z ≡ true) (set : List ℕ) (d s : ℕ)
-    (lowest : d ≡ lowestOf (gridOf z) (erasures set)) (row : s ≡ rowStripe z d) where
-  begins : cycleOf (gridOf z) (erasures set) ≡ onward z set (16 + across z - 0) (record { disk = d; stripe = s })
-  unfolding cycleOf firstOf gridOf grid across rowStripe
-  begins =
-      ap₂ (onward z set) (sym (sub-zero (16 + across z)))
-      (ap (λ (i : ℕ). record { disk = i; stripe = i / across z }) (sym lowest)
-      ∙ ap (λ (t : ℕ). record { disk = d; stripe = t }) (sym row))
-
-  on-first : d < disks z → on (gridOf z) d s ≡ true
-  unfolding rowStripe
-  on-first l =
-      let low : d / across z < 16 = let h = size-fits z fits .rowsHigh in let b = row-within z d l in omega arith in
-      ap (on (gridOf z) d) row ∙ on-row z d (d / across z) low ∙ eq-eqb (d / across z) (d / across z) refl
-
-  in-first : d < gridOf z .disks → erasures set d ≡ true
-  unfolding lowestOf
-  in-first l =
-      ap (erasures set) lowest
-      ∙ lowest-is (gridOf z .disks) (erasures set) .found (subst (λ (i : ℕ). i < gridOf z .disks) lowest l)
-
-  pub turn-first : lowestOf (gridOf z) (erasures set) < disks z → {sheet : List ℕ} → sheet ≡ sheetOf 2 []
-      → Turn z set sheet (record { disk = d; stripe = s }) 0
-  turn-first l e =
-      let below : d < disks z = omega arith in
-      let inside : d < gridOf z .disks = subst (λ (n : ℕ). d < n) (sym (grid-disks z)) below in
+module _ {L : Layout} {set stripes : List ℕ} (g : Traced L set stripes) where
+  -- It begins at the lowest disk, along its lower stripe.
+  pub turn-first : (list : List ℕ) {d a b : ℕ} → d ≡ nextErased set 0 → L .through d ≡ a ∷ b ∷ []
+      → Turn L set list (record { disk = d; stripe = a }) 0
+  unfolding cycleOf firstOf listed
+  turn-first list {d} {a} {b} at here =
+      let erased : erasures set d ≡ true = ap (erasures set) at ∙ g .erased in
       record {
-        done = [];
-        number = refl;
-        listed = e;
-        whole = begins;
-        step = record { disk = inside; inside = in-first inside; lies = on-first below };
+        whole =
+            ap₂ (onward L set) (sym (sub-zero (L .stripeBound)))
+            (ap (λ (i : ℕ). record { disk = i; stripe = firstOf (L .through i) }) (sym (at ∙ g .first))
+            ∙ ap (λ (t : ℕ). record { disk = d; stripe = t }) (ap firstOf here));
+        step = record { disk = erased-inside (g .table) d erased; inside = erased; lies = lies L d a here (either-low a a b refl) };
       }
 
-module _ {z : Size} (fits : sizeFits z ≡ true) {set sheet : List ℕ} {r : Entry} {k : ℕ} (t : Turn z set sheet r k) where
-  -- What is asked of disk and stripe, of the sheet, and of the disk that the step leads to.
-  pub turn-disk : r .disk < disks z
-  turn-disk = subst (λ (n : ℕ). r .disk < n) (grid-disks z) (t .step .disk)
+  module _ {list : List ℕ} {r : Entry} {k : ℕ} (t : Turn L set list r k) where
+    -- After the last turn nothing is left to list.
+    pub turn-ends : L .stripeBound ≤ k → cycleOf L (erasures set) ≡ listed list k
+    unfolding trace
+    turn-ends l =
+        let none : L .stripeBound - k ≡ 0 = omega arith in
+        t .whole ∙ ap (λ (n : ℕ). listed list k ++ onward L set n r) none ∙ append-nil (listed list k)
 
-  pub turn-small : (r .disk < 256) × (r .stripe < 256)
-  turn-small =
-      let b = disks-bound z (size-fits z fits) in
-      let w = across-bound z (size-fits z fits) in
-      let l = turn-disk in
-      let h : r .stripe < 16 + across z =
-      unfold gridOf grid across in on-bound (gridOf z) (gridOf-two z fits) (r .disk) (t .step .disk) (r .stripe) (t .step .lies) in
-      (omega arith, omega arith)
+    -- The disk that follows.
+    pub turn-some : partner L (erasures set) r < L .disks
+    turn-some = partner-is L (erasures set) (g .paired) r (t .step) .inside
 
-  pub turn-length : length sheet ≡ 98
-  turn-length = ap length (t .listed) ∙ sheet-length 2 (t .done)
+    pub turn-erased : {d : ℕ} → d ≡ partner L (erasures set) r → erasures set d ≡ true
+    turn-erased at = ap (erasures set) at ∙ partner-inside L (erasures set) (g .paired) r (t .step)
 
-  module _ (paired : Paired (gridOf z) (erasures set)) (i : ℕ) (at : i ≡ partner (gridOf z) (erasures set) r) where
-    pub turn-partner : i < disks z
-    turn-partner =
-        subst (λ (n : ℕ). i < n) (grid-disks z)
-        (subst (λ (j : ℕ). j < gridOf z .disks) (sym at) (partner-is (gridOf z) (erasures set) paired r (t .step) .inside))
+    module _ (l : k < L .stripeBound) (room : 32 ≤ length list) where
+      goes-on : cycleOf L (erasures set) ≡ listed list k ++ onward L set (suc (L .stripeBound - (k + 1))) r
+      goes-on =
+          let one : L .stripeBound - k ≡ suc (L .stripeBound - (k + 1)) = omega arith in
+          t .whole ∙ ap (λ (n : ℕ). listed list k ++ onward L set n r) one
 
-  -- After the last turn nothing is left to write.
-  pub turn-ends : 16 + across z ≤ k → sheet ≡ sheetOf 2 (cycleOf (gridOf z) (erasures set))
-  unfolding trace
-  turn-ends l =
-      let none : 16 + across z - k ≡ 0 = omega arith in
-      t .listed
-      ∙ ap (sheetOf 2) (sym (t .whole ∙ ap (λ (n : ℕ). t .done ++ onward z set n r) none ∙ append-nil (t .done)))
+      -- The step fits the list.
+      pub turn-fits : (k < length list) × ((r .disk < 65536) × (r .stripe < 65536))
+      unfolding trace
+      turn-fits =
+          let a = listed-length list k in
+          let few = g .cycleFits in
+          let b = g .disksFit in
+          let d = t .step .disk in
+          let c = g .stripesFit in
+          let s = on-bound L (g .two) (r .disk) (t .step .disk) (r .stripe) (t .step .lies) in
+          (omega (arith, simp length-append at (ap length goes-on)), (omega arith, omega arith))
 
-  module _ (l : k < 16 + across z) where
-    pub turn-number : k < 32
-    turn-number = let b = across-bound z (size-fits z fits) in omega arith
+      -- A turn lists its step,
+      module _ {new : List ℕ} (is-new : new ≡ put list k (wordOf (r .disk) (r .stripe))) {d : ℕ} (at : d ≡ partner L (erasures set) r) where
+        written : listed new (k + 1) ≡ listed list k ++ (r ∷ [])
+        written =
+            let (a, (b, c)) = turn-fits in
+            ap (λ (m : List ℕ). listed m (k + 1)) is-new ∙ listed-put list k (r .disk) (r .stripe) a b c
 
-    goes-on : cycleOf (gridOf z) (erasures set) ≡ t .done ++ onward z set (suc (16 + across z - (k + 1))) r
-    goes-on =
-        let one : 16 + across z - k ≡ suc (16 + across z - (k + 1)) = omega arith in
-        t .whole ∙ ap (λ (n : ℕ). t .done ++ onward z set n r) one
+        -- and is the last where it leads back to the first disk.
+        pub turn-closes : d ≡ nextErased set 0 → cycleOf L (erasures set) ≡ listed new (k + 1)
+        turn-closes e =
+            goes-on
+            ∙ ap (λ (w : List Entry). listed list k ++ w)
+            (trace-closes L (erasures set) (lowestOf L (erasures set)) (L .stripeBound - (k + 1)) r (sym at ∙ e ∙ g .first))
+            ∙ sym written
 
-    -- A turn writes the record of its step,
-    module _ (new : List ℕ) (is-new : new ≡ appended sheet k (r .disk) (r .stripe)) (i : ℕ) (at : i ≡ partner (gridOf z) (erasures set) r) where
-      written : new ≡ sheetOf 2 (t .done ++ (r ∷ []))
-      written =
-          is-new ∙ ap₂ (λ (x : List ℕ) (n : ℕ). appended x n (r .disk) (r .stripe)) (t .listed) (sym (t .number))
-          ∙ append-record 2 (t .done) (r .disk) (r .stripe) (let h = turn-number in let q = t .number in omega arith)
-
-      -- and is the last where it leads back to the first disk.
-      pub turn-closes : i ≡ lowestOf (gridOf z) (erasures set) → new ≡ sheetOf 2 (cycleOf (gridOf z) (erasures set))
-      turn-closes e =
-          let last = trace-closes (gridOf z) (erasures set) (lowestOf (gridOf z) (erasures set)) (16 + across z - (k + 1)) r (sym at ∙ e) in
-          written ∙ ap (sheetOf 2) (sym (goes-on ∙ ap (λ (w : List Entry). t .done ++ w) last))
-
-      -- Else the other stripe of the disk reached is next.
-      module _ (apart : i ≡ lowestOf (gridOf z) (erasures set) → ⊥) (u : ℕ) (other : u ≡ otherThan (r .stripe) (gridOf z .through i)) where
-        reached : next (gridOf z) (erasures set) r ≡ record { disk = i; stripe = u }
+        -- Else the next one follows.
+        pub turn-next : (d ≡ nextErased set 0 → ⊥) → (s : ℕ) {w : List ℕ} → L .through d ≡ w → s ≡ otherThan (r .stripe) w
+            → Turn L set new (record { disk = d; stripe = s }) (k + 1)
         unfolding next
-        reached =
-            ap (λ (j : ℕ). record { disk = j; stripe = otherThan (r .stripe) (gridOf z .through j) }) (sym at)
-            ∙ ap (λ (v : ℕ). record { disk = i; stripe = v }) (sym other)
-
-        goes-to : onward z set (suc (16 + across z - (k + 1))) r ≡ r ∷ onward z set (16 + across z - (k + 1)) (record { disk = i; stripe = u })
-        goes-to =
-            trace-goes (gridOf z) (erasures set) (lowestOf (gridOf z) (erasures set)) (16 + across z - (k + 1)) r (λ e. apart (at ∙ e))
-            ∙ ap (λ (q : Entry). r ∷ onward z set (16 + across z - (k + 1)) q) reached
-
-        pub turn-next : Paired (gridOf z) (erasures set) → Turn z set new (record { disk = i; stripe = u }) (k + 1)
-        turn-next paired =
+        turn-next apart s here along =
+            let onto : next L (erasures set) r ≡ record { disk = d; stripe = s } =
+            ap (λ (i : ℕ). record { disk = i; stripe = otherThan (r .stripe) (L .through i) }) (sym at)
+            ∙ ap (λ (n : ℕ). record { disk = d; stripe = n }) (ap (otherThan (r .stripe)) here ∙ sym along) in
             record {
-              done = t .done ++ (r ∷ []);
-              number = let q = t .number in length-append (t .done) (r ∷ []) ∙ (omega arith);
-              listed = written;
-              whole = goes-on ∙ ap (λ (w : List Entry). t .done ++ w) goes-to ∙ sym (append-assoc (t .done) (r ∷ []) _);
-              step = subst (Step (gridOf z) (erasures set)) reached
-                  (next-step (gridOf z) (erasures set) paired r (t .step) (gridOf-two z fits));
+              whole =
+                  goes-on
+                  ∙ ap (λ (w : List Entry). listed list k ++ w)
+                  (trace-goes L (erasures set) (lowestOf L (erasures set)) (L .stripeBound - (k + 1)) r (λ e. apart (at ∙ e ∙ sym (g .first))))
+                  ∙ sym (append-assoc (listed list k) (r ∷ []) _)
+                  ∙ ap₂ (λ (w : List Entry) (q : Entry). w ++ onward L set (L .stripeBound - (k + 1)) q) (sym written) onto;
+              step = subst (Step L (erasures set)) onto (next-step L (erasures set) (g .paired) r (t .step) (g .two));
             }
+
+-- What a list that has the cycle answers.
+pub answers : {w : List Entry} (list : List ℕ) (k : ℕ) → w ≡ listed list k → (k ≡ length w) × (listed list k ≡ w)
+answers list k e = (sym (ap length e ∙ listed-length list k), sym e)

@@ -1,91 +1,87 @@
-// The cycle that a set of disks forms, where each stripe touched holds two of them.
+// The cycle that a set of disks forms, where each stripe touched holds two of them. A disk is known here by its two stripes
+// alone, which are read from the table.
 ghost use mathlib.Core.Path.{_≡_};
-ghost use mathlib.Core.Bool.{true};
-ghost use mathlib.Core.List.{[]};
-ghost use Prim.Native.Nat.{_<_};
+ghost use mathlib.Core.List.{[], _∷_};
+ghost use Prim.Native.Nat.{_≤_, _<_};
 ghost use lib.ListN.{length};
-ghost use Rattle.model.specs.Stripes.{on};
-ghost use Rattle.model.specs.Grid.{sizeFits, gridOf, disks};
-ghost use Rattle.model.specs.Repair.{erasures};
-ghost use Rattle.model.specs.Cycle.{partner, otherThan, lowestOf, cycleOf, Paired};
-ghost use Rattle.model.specs.Sheet.{sheetOf};
+ghost use Rattle.stripes.specs.System.{among};
+ghost use Rattle.stripes.specs.Erased.{erasures};
+ghost use Rattle.stripes.specs.Cycle.{partner as Cycle·partner, otherThan, lowestOf, cycleOf, Paired};
+ghost use Rattle.model.specs.Grid.{layoutOf, disks};
+ghost use Rattle.layout.specs.Stripe.{Numbered};
+ghost use Rattle.entries.specs.Listed.{listed};
+ghost use Rattle.tally.specs.Tally.{Table};
+use layout::stripe::Pair;
 use model::Size;
 
-// The lowest disk of a set.
-fn lowest(size: Size, set: &[u8]) -> usize
-    requires { ⌜ sizeFits size ≡ true ⌝ }
-    requires { ⌜ length (now set) ≡ 256 ⌝ }
-    ensures { λ r. ⌜ r ≡ lowestOf (gridOf size) (erasures (now (set .entry))) ⌝ }
+// One of two stripes is the given one.
+fn either_is(pair: Pair, stripe: usize) -> bool
+    ensures { λ r. ⌜ r ≡ among stripe (pair .low ∷ pair .high ∷ []) ⌝ }
 {
-    let all = layout::disks(size);
-    let mut d = 0;
-    while d < all {
-        if set[d] == 1 {
-            return d;
-        }
-        d += 1;
+    if stripe == pair.low {
+        return true;
     }
-    all
+    stripe == pair.high
 }
 
-// The lowest other disk of a set on a stripe of a disk.
-fn partner_on(size: Size, set: &[u8], disk: usize, stripe: usize) -> usize
-    requires { ⌜ sizeFits size ≡ true ⌝ }
-    requires { ⌜ length (now set) ≡ 256 ⌝ }
-    requires { ⌜ disk < disks size ⌝ }
-    requires { ⌜ on (gridOf size) disk stripe ≡ true ⌝ }
-    ensures { λ r. ⌜ r ≡ partner (gridOf size) (erasures (now (set .entry))) (record { disk = disk; stripe = stripe }) ⌝ }
+// The one of two stripes that is not the given one.
+fn other_of(pair: Pair, stripe: usize) -> usize
+    requires { ⌜ pair .low < pair .high ⌝ }
+    ensures { λ r. ⌜ r ≡ otherThan stripe (pair .low ∷ pair .high ∷ []) ⌝ }
 {
-    let run = layout::disks_on(size, stripe);
-    let first = run.first;
-    let step = run.step;
-    let count = run.count;
-    let mut k = 0;
-    while k < count {
-        let d = first + k * step;
-        if set[d] == 1 {
-            if d != disk {
+    if pair.low == stripe {
+        return pair.high;
+    }
+    pair.low
+}
+
+// The lowest disk of a set besides `disk` that lies on the stripe. There is one.
+fn partner(size: Size, base: usize, set: &[u8], stripes: &[u8], disk: usize, stripe: usize) -> usize
+    requires { ⌜ Table (layoutOf size base) (now set) (now stripes) ⌝ }
+    requires { ⌜ Cycle·partner (layoutOf size base) (erasures (now set)) (record { disk = disk; stripe = stripe }) < layoutOf size base .disks ⌝ }
+    ensures { λ r. ⌜ r ≡ Cycle·partner (layoutOf size base) (erasures (now (set .entry))) (record { disk = disk; stripe = stripe }) ⌝ }
+{
+    let mut d = tally::scan::next_erased(set, 0);
+    while d < set.len() {
+        if d != disk {
+            if either_is(
+                tally::table::stripes_of(size, base, set, stripes, d),
+                stripe,
+            ) {
                 return d;
             }
         }
-        k += 1;
+        d = tally::scan::next_erased(set, d + 1);
     }
-    layout::disks(size)
+    d
 }
 
-// The other stripe of a disk.
-fn other_stripe(size: Size, disk: usize, stripe: usize) -> usize
-    requires { ⌜ sizeFits size ≡ true ⌝ }
-    requires { ⌜ disk < disks size ⌝ }
-    ensures { λ r. ⌜ r ≡ otherThan stripe (gridOf size .through disk) ⌝ }
+// Lists the cycle that the disks of a set form, and says how many they are. A list of entries::CAPACITY words has room for
+// every cycle.
+pub fn trace(size: Size, base: usize, set: &[u8], stripes: &[u8], list: &mut [u32]) -> usize
+    requires { ⌜ Numbered size base ⌝ }
+    requires { ⌜ Table (layoutOf size base) (now set) (now stripes) ⌝ }
+    requires { ⌜ Paired (layoutOf size base) (erasures (now set)) ⌝ }
+    requires { ⌜ lowestOf (layoutOf size base) (erasures (now set)) < disks size ⌝ }
+    requires { ⌜ 32 ≤ length (now list) ⌝ }
+    ensures number { λ r. ⌜ r ≡ length (cycleOf (layoutOf size base) (erasures (now (set .entry)))) ⌝ }
+    ensures list { λ r. ⌜ listed (now (list .exit)) r ≡ cycleOf (layoutOf size base) (erasures (now (set .entry))) ⌝ }
 {
-    let row = layout::row_stripe(size, disk);
-    if row == stripe {
-        return layout::column_stripe(size, disk);
-    }
-    row
-}
-
-// Writes the cycle that the disks of a set form into the sheet.
-pub fn trace(size: Size, set: &[u8], sheet: &mut [u8])
-    requires { ⌜ sizeFits size ≡ true ⌝ }
-    requires { ⌜ length (now set) ≡ 256 ⌝ }
-    requires { ⌜ Paired (gridOf size) (erasures (now set)) ⌝ }
-    requires { ⌜ lowestOf (gridOf size) (erasures (now set)) < disks size ⌝ }
-    requires { ⌜ now sheet ≡ sheetOf 2 [] ⌝ }
-    ensures { λ r. ⌜ now (sheet .exit) ≡ sheetOf 2 (cycleOf (gridOf size) (erasures (now (set .entry)))) ⌝ }
-{
-    let start = lowest(size, set);
+    let start = tally::scan::next_erased(set, 0);
     let mut disk = start;
-    let mut stripe = layout::row_stripe(size, start);
+    let mut stripe = tally::table::stripes_of(size, base, set, stripes, start).low;
     let mut k = 0;
-    while k < 16 + layout::across(size) {
-        sheet::append(sheet, k, disk, stripe);
-        disk = partner_on(size, set, disk, stripe);
+    while k < layout::stripe::bound(size, base) {
+        entries::put(list, k, disk, stripe);
+        k += 1;
+        disk = partner(size, base, set, stripes, disk, stripe);
         if disk == start {
             break;
         }
-        stripe = other_stripe(size, disk, stripe);
-        k += 1;
+        stripe = other_of(
+            tally::table::stripes_of(size, base, set, stripes, disk),
+            stripe,
+        );
     }
+    k
 }

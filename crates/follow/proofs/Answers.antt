@@ -6,26 +6,28 @@ use mathlib.Core.List.{List}
 use Prim.Native.Nat.{ℕ, _≤_}
 use native.Mathlib.Omega.{arith}
 use lib.ListN.{length}
-use Rattle.model.specs.Grid.{gridOf}
+use Rattle.stripes.specs.Erased.{erasures}
+use Rattle.stripes.specs.Repair.{Peels, clears}
+use Rattle.model.specs.Grid.{layoutOf}
 use Rattle.model.specs.Refusal.{refusal, arrayTests}
-use Rattle.model.specs.Repair.{erasures, Peels}
-use Rattle.model.specs.Sheet.{sheetOf}
+use Rattle.model.specs.Sheet.{sheetOf, narrow}
 use Rattle.model.specs.Chain.{chainFits, chainEntries}
-use Rattle.model.specs.Rebuild.{sheetTests, rebuildTests, rebuildRefusal}
-use Rattle.model.specs.Follow.{clears, followedArray, followOutcome, followArray}
+use Rattle.model.specs.Plan.{sheetTests, sheetLayout}
+use Rattle.model.specs.Rebuild.{rebuildTests, rebuildRefusal}
+use Rattle.model.specs.Follow.{followedArray, followOutcome, followArray}
 use Rattle.model.specs.declared.Size.{Size}
 use Rattle.model.specs.declared.Outcome.{Outcome}
 use Rattle.model.specs.declared.Outcome.the-variants.{Repairs, Refused}
+use Rattle.stripes.proofs.Clears.{clears-peels}
+use Rattle.stripes.specs.System.{whole}
 use Rattle.model.proofs.Refusal.{refused-first, array-fits, array-passed}
-use Rattle.model.proofs.Clears.{clears-peels}
 use Rattle.model.proofs.Chain.{chain-few}
 use Rattle.model.proofs.Sheets.{sheet-length}
 use Rattle.model.proofs.Follow.{Gives, follow-given, follow-first, follow-order, follow-ten, follow-eleven}
-use Rattle.sheet.specs.Record.{records}
+use Rattle.entries.specs.Listed.{listed}
 use Rattle.sheet.specs.Found.{chainRead}
 use Rattle.sheet.specs.declared.chain.Chain.{Chain}
 use Rattle.sheet.specs.declared.chain.Chain.the-variants.{Records, Broken}
-use Rattle.sheet.proofs.Appended.{records-are}
 use Rattle.restore.specs.Restored.{fits, restored}
 
 -- What follow promises of its answer and of the array after it.
@@ -57,77 +59,71 @@ module _ (z : Size) (B : ℕ) (a m s : List ℕ) where
 
 -- ---- the sheet
 
--- Straightening has answered that the chain is broken.
+-- Reading has answered that the chain is broken.
 pub broken : (z : Size) (B : ℕ) (a m s : List ℕ) → rebuildRefusal z B a m s ≡ 0
     → (answer : Chain) → answer ≡ chainRead s → answer ≡ Broken → Followed z B a m s (Refused 10) a
 unfolding chainRead
-broken z B a m s ok answer answer-is e = go (chainFits s) refl
+broken z B a m s ok answer answer-is e = go (chainFits narrow s) refl
   where
-    go : (t : Bool) → chainFits s ≡ t → Followed z B a m s (Refused 10) a
+    go : (t : Bool) → chainFits narrow s ≡ t → Followed z B a m s (Refused 10) a
     go true q =
-        let found : answer ≡ Records (length (chainEntries s)) = answer-is ∙ rw q in
+        let found : answer ≡ Records (length (chainEntries narrow s)) = answer-is ∙ rw q in
         let clash : _≡_ {A = ℕ} 0 1 = cc in
         absurd (omega arith)
     go false q = as-given z B a m s (follow-ten z B a m s ok q)
 
--- The chain fits: `own` lists its records in their order, `count` of them.
-pub record Listed (s own : List ℕ) (count : ℕ) : Type 0 where
-  pub chain : chainFits s ≡ true
-  pub counted : count ≡ length (chainEntries s)
-  pub written : own ≡ sheetOf 1 (chainEntries s)
+-- The chain fits: the list `own` has its records in their order, `count` of them.
+pub record Read (s own : List ℕ) (count : ℕ) : Type 0 where
+  pub chain : chainFits narrow s ≡ true
+  pub counted : count ≡ length (chainEntries narrow s)
+  pub written : listed own (length (chainEntries narrow s)) ≡ chainEntries narrow s
 
 pub records-listed : (s own : List ℕ) (answer : Chain) → answer ≡ chainRead s
-    → (chainFits s ≡ true → own ≡ sheetOf 1 (chainEntries s)) → (count : ℕ) → answer ≡ Records count → Listed s own count
+    → (chainFits narrow s ≡ true → listed own (length (chainEntries narrow s)) ≡ chainEntries narrow s) → (count : ℕ) → answer ≡ Records count → Read s own count
 unfolding chainRead
-records-listed s own answer answer-is own-is count e = go (chainFits s) refl
+records-listed s own answer answer-is own-is count e = go (chainFits narrow s) refl
   where
-    go : (t : Bool) → chainFits s ≡ t → Listed s own count
+    go : (t : Bool) → chainFits narrow s ≡ t → Read s own count
     go true q =
-        let found : answer ≡ Records (length (chainEntries s)) = answer-is ∙ rw q in
+        let found : answer ≡ Records (length (chainEntries narrow s)) = answer-is ∙ rw q in
         record { chain = q; counted = cc; written = own-is q }
     go false q =
         let found : answer ≡ Broken = answer-is ∙ rw q in
         let clash : _≡_ {A = ℕ} 0 1 = cc in
         absurd (omega arith)
 
-module _ {s own : List ℕ} {count : ℕ} (listed : Listed s own count) where
-  pub own-98 : length own ≡ 98
-  own-98 = ap length (listed .written) ∙ sheet-length 1 (chainEntries s)
-
-  few : length (chainEntries s) ≤ 32
-  few = chain-few s (listed .chain)
-
+module _ {s own : List ℕ} {count : ℕ} (is : Read s own count) where
   pub count-few : count ≤ 32
-  count-few = let h = few in let e = listed .counted in omega arith
+  count-few = let h = chain-few narrow s (is .chain) in let e = is .counted in omega arith
 
-  own-records : records own count ≡ chainEntries s
-  own-records = ap₂ records (listed .written) (listed .counted) ∙ records-are 1 (chainEntries s) few
+  own-entries : listed own count ≡ chainEntries narrow s
+  own-entries = ap (listed own) (is .counted) ∙ is .written
 
   -- ---- the steps, then the survivors
   module _ (z : Size) (B : ℕ) (a m : List ℕ) (ok : rebuildRefusal z B a m s ≡ 0) where
-    pub steps-refused : clears (gridOf z) (erasures m) (records own count) ≡ false → Followed z B a m s (Refused 11) a
+    pub steps-refused : clears (sheetLayout z) (erasures m) (listed own count) ≡ false → Followed z B a m s (Refused 11) a
     steps-refused unclear =
         as-given z B a m s
-        (follow-eleven z B a m s ok (listed .chain) (ap (clears (gridOf z) (erasures m)) (sym own-records) ∙ unclear))
+        (follow-eleven z B a m s ok (is .chain) (ap (clears (sheetLayout z) (erasures m)) (sym own-entries) ∙ unclear))
 
-    module _ (clear : clears (gridOf z) (erasures m) (records own count) ≡ true) where
-      pub peels : Peels (gridOf z) (erasures m) (records own count)
-      peels = clears-peels (gridOf z) (erasures m) (records own count) clear
+    module _ (clear : clears (sheetLayout z) (erasures m) (listed own count) ≡ true) where
+      pub peels : Peels (sheetLayout z) (erasures m) (listed own count)
+      peels = clears-peels (sheetLayout z) (erasures m) (listed own count) clear
 
-      usable : clears (gridOf z) (erasures m) (chainEntries s) ≡ true
-      usable = ap (clears (gridOf z) (erasures m)) (sym own-records) ∙ clear
+      usable : clears (sheetLayout z) (erasures m) (chainEntries narrow s) ≡ true
+      usable = ap (clears (sheetLayout z) (erasures m)) (sym own-entries) ∙ clear
 
-      module _ (b : List ℕ) (array-is : b ≡ restored z B a m (records own count)) where
-        pub agreed : fits z B a (records own count) ≡ true → Followed z B a m s (Repairs count) b
+      module _ (b : List ℕ) (array-is : b ≡ restored (sheetLayout z) (whole B) a (erasures m) (listed own count)) where
+        pub agreed : fits (sheetLayout z) (whole B) a (listed own count) ≡ true → Followed z B a m s (Repairs count) b
         unfolding fits restored followedArray
         agreed fit =
-            let c : fits z B a (chainEntries s) ≡ true = ap (fits z B a) (sym own-records) ∙ fit in
-            let g = as-given z B a m s (follow-given z B a m s 0 (follow-order z B a m s ok ∙ rw (listed .chain, usable, c))) in
-            (ap Repairs (listed .counted) ∙ g .0, array-is ∙ ap (restored z B a m) own-records ∙ (rw c) ∙ g .1)
+            let c : fits (sheetLayout z) (whole B) a (chainEntries narrow s) ≡ true = ap (fits (sheetLayout z) (whole B) a) (sym own-entries) ∙ fit in
+            let g = as-given z B a m s (follow-given z B a m s 0 (follow-order z B a m s ok ∙ rw (is .chain, usable, c))) in
+            (ap Repairs (is .counted) ∙ g .0, array-is ∙ ap (restored (sheetLayout z) (whole B) a (erasures m)) own-entries ∙ (rw c) ∙ g .1)
 
-        pub contradicted : fits z B a (records own count) ≡ false → Followed z B a m s (Refused 7) b
+        pub contradicted : fits (sheetLayout z) (whole B) a (listed own count) ≡ false → Followed z B a m s (Refused 7) b
         unfolding fits restored followedArray
         contradicted unfit =
-            let c : fits z B a (chainEntries s) ≡ false = ap (fits z B a) (sym own-records) ∙ unfit in
-            let g = as-given z B a m s (follow-given z B a m s 7 (follow-order z B a m s ok ∙ rw (listed .chain, usable, c))) in
-            (g .0, array-is ∙ ap (restored z B a m) own-records ∙ (rw c) ∙ g .1)
+            let c : fits (sheetLayout z) (whole B) a (chainEntries narrow s) ≡ false = ap (fits (sheetLayout z) (whole B) a) (sym own-entries) ∙ unfit in
+            let g = as-given z B a m s (follow-given z B a m s 7 (follow-order z B a m s ok ∙ rw (is .chain, usable, c))) in
+            (g .0, array-is ∙ ap (restored (sheetLayout z) (whole B) a (erasures m)) own-entries ∙ (rw c) ∙ g .1)

@@ -4,6 +4,7 @@ ghost use Rattle.model.specs.Follow.{followOutcome, followArray};
 use model::Outcome;
 use model::Size;
 use sheet::chain::Chain;
+use stripes::Stretch;
 
 // Restores the erased blocks by the repairs that a sheet lists. The sheet is judged as a whole before any block is changed.
 // Where the survivors contradict each other, the erased blocks become zero. The map and the sheet are only read.
@@ -13,23 +14,28 @@ pub fn follow(size: Size, block: usize, array: &mut [u8], map: &[u8], sheet: &[u
         now (array .exit) ≡ followArray size block (now (array .entry)) (now (map .entry)) (now (sheet .entry))
         ⌝ }
 {
-    let of_array = layout::array_refusal(size, block, array.len());
+    let of_array = refusal::array_refusal(size, block, array.len());
     if of_array != 0 {
         return Outcome::Refused(of_array);
     }
-    let of_sheet = layout::sheet_refusal(size, map, sheet.len());
+    let of_sheet = refusal::sheet_refusal(size, map, sheet.len());
     if of_sheet != 0 {
         return Outcome::Refused(of_sheet);
     }
-    let mut own = [0u8; 98];
-    let chain = sheet::chain::straighten(sheet, &mut own);
+    let mut list = [0u32; entries::CAPACITY];
+    let chain = sheet::chain::read(sheet, &mut list);
     let Chain::Records(count) = chain else {
         return Outcome::Refused(10);
     };
-    if !peel::replay::clears(size, map, &own, count) {
+    if !replay::clears(size, sheet::BASE, map, &list, count) {
         return Outcome::Refused(11);
     }
-    if !restore::restore(size, block, array, map, &own, count) {
+    let whole = Stretch {
+        block: block,
+        offset: 0,
+        width: block,
+    };
+    if !restore::restore(size, sheet::BASE, whole, array, map, &list, count) {
         return Outcome::Refused(7);
     }
     Outcome::Repairs(count)

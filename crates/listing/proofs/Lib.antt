@@ -1,3 +1,0 @@
-pub mod Joined
-pub mod Entries
-pub mod Answers

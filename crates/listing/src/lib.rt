@@ -4,10 +4,6 @@ ghost use Prim.Native.Nat.{_-_, _≤_};
 ghost use lib.ListN.{length, take, drop, getD, replicate};
 ghost use Rattle.model.specs.Grid.{rectangle};
 ghost use Rattle.model.specs.Listing.{listing};
-
-mod put;
-mod report;
-
 use model::Size;
 
 // The text stands in the first `len` bytes, with zeros behind it.
@@ -55,9 +51,7 @@ pub fn listing_of(input: &[u8]) -> Text
     ensures size { λ r. ⌜ length (r .bytes) ≡ 320 ⌝ }
 {
     let mut bytes = [0u8; 320];
-    let mut sheet = [0u8; 98];
-    let answer = plan::plan(size_of(input), map_of(input), &mut sheet);
-    let len = report::report(&mut bytes, answer, &sheet);
+    let len = report::report(&mut bytes, size_of(input), map_of(input));
     Text {
         bytes: bytes,
         len: len,

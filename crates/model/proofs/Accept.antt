@@ -9,14 +9,15 @@ use Prim.Native.Nat.{ℕ, _+_, _*_, _/_, _%_, _≤_, _<_}
 use borrow.Author.Tests.{le-leb, leb-true, eq-eqb, eqb-true}
 use lib.Dec.{leb, eqb}
 use lib.ListN.{length, getD}
-use Rattle.model.specs.Fold.{every}
-use Rattle.model.specs.Grid.{rectangle, rows, columns, across, disks, diskAt, isData, arrayBytes, sideFits, sizeFits, blockFits, mapFits}
+use Rattle.stripes.specs.Fold.{every}
+use Rattle.model.specs.Grid.{rectangle, rows, columns, across, disks, diskAt, isData, arrayBytes, sideFits, sizeFits, blockFits, mapFits, down}
 use Rattle.model.specs.Refusal.{Test, _unless_, refusal, arrayTests}
 use Rattle.model.specs.Array.{writeTests, writeStatus}
-use Rattle.model.specs.Rebuild.{sheetTests, planTests, rebuildTests, rebuildRefusal}
+use Rattle.model.specs.Plan.{sheetTests, planTests}
+use Rattle.model.specs.Rebuild.{rebuildTests, rebuildRefusal}
 use Rattle.model.specs.Follow.{followTests, followRefusal}
 use Rattle.model.specs.declared.Size.{Size}
-use Rattle.model.proofs.Fold.{by-cases, and-left, and-right, and-both, every-at, every-all}
+use Rattle.stripes.proofs.Fold.{by-cases, and-left, and-right, and-both, every-at, every-all}
 use Rattle.model.proofs.Grid.{size-fits, block-fits, disk-is, data-at, data-row, data-column}
 use Rattle.model.proofs.Refusal.{no-tests, fails, passes, by-test, passed, array-fits, array-accepted, array-tests, array-passed}
 use Rattle.model.proofs.Write.{write-fits, status-none}
@@ -49,7 +50,7 @@ size-refused a b outside =
 
 pub array-accepts : (a b B len : ℕ) → (refusal (arrayTests (rectangle a b) B len) ≡ 0)
     ↔ ((2 ≤ a) × (a ≤ 15) × (2 ≤ b) × (b ≤ 15) × (1 ≤ B) × (B ≤ 4096) × (len ≡ (a + 1) * (b + 1) * B))
-unfolding rectangle blockFits arrayBytes disks across rows columns
+unfolding rectangle blockFits arrayBytes disks across down rows columns
 array-accepts a b B len = (
   λ e.
       let fits = array-fits (rectangle a b) B len e in
@@ -92,7 +93,7 @@ sheet-fits z m len e =
     (map, eqb-true len 98 (passed 5 (eqb len 98) _ (omega arith) e₂ .0))
 
 sheet-accepts : (a b : ℕ) (m : List ℕ) (len : ℕ) → (refusal (sheetTests (rectangle a b) m len) ≡ 0) ↔ SheetFits a b m len
-unfolding sheetTests mapFits rectangle disks across rows columns
+unfolding sheetTests mapFits rectangle disks across down rows columns
 sheet-accepts a b m len = (
   λ e.
       let (map, long) = sheet-fits (rectangle a b) m len e in (

@@ -5,18 +5,20 @@ use mathlib.Core.Path.{_≡_, refl}
 use mathlib.Core.List.{List, [], _∷_, _++_, map}
 use Prim.Native.Nat.{ℕ}
 use lib.ListN.{replicate}
-use Rattle.model.specs.Fold.{_⊕_, xsum, gate, every, bit, count, lowest, tabulate}
-use Rattle.model.specs.Stripes.{among, on, whole, byte, sumOver, stripeSum, sumsToZero}
-use Rattle.model.specs.Grid.{grid, gridOf, rectangle, rows, columns, across, disks, diskAt, isData, arrayBytes, arrayOf, sideFits, sizeFits, blockFits, mapFits}
+use Rattle.stripes.specs.Fold.{xsum, gate, every, bit, count, lowest, tabulate, _⊕_}
+use Rattle.stripes.specs.System.{among, on, whole, byte, sumOver, stripeSum, sumsToZero, changed, consistent}
+use Rattle.stripes.specs.Erased.{erasures, without, below}
+use Rattle.stripes.specs.Repair.{alone, allowed, firstAllowed, someAllowed, nextDisk, repairOf, peel, repairs, after, residual, lost, fatal, sumOfOthers, repaired, rebuilt, zeroed, allAllowed, clears, residualCount}
+use Rattle.stripes.specs.Cycle.{closing, core, partner, firstOf, otherThan, trace, lowestOf, cycleOf, shownCycle}
+use Rattle.model.specs.Grid.{grid, layoutOf, rectangle, rows, columns, across, disks, diskAt, isData, arrayBytes, arrayOf, sideFits, sizeFits, blockFits, mapFits, down}
 use Rattle.model.specs.Equations.{cell, rowData, columnData}
 use Rattle.model.specs.Refusal.{refusal, arrayTests}
 use Rattle.model.specs.Array.{encodedByte, encoded, sealStatus, sealArray, writeTests, isParityOf, writtenByte, written, writeStatus, writeArray}
-use Rattle.model.specs.Repair.{erasures, without, alone, allowed, firstAllowed, someAllowed, nextDisk, repairOf, peel, repairs, after, residual, lost, fatal, changed, sumOfOthers, repaired, rebuilt, zeroed, consistent}
-use Rattle.model.specs.Cycle.{below, closing, core, partner, firstOf, otherThan, trace, lowestOf, cycleOf, shownCycle}
-use Rattle.model.specs.Sheet.{chainBytes, sheetOf, blankSheet}
+use Rattle.model.specs.Sheet.{chainBytes, sheetOf, blankSheet, numberBytes, numberAt}
 use Rattle.model.specs.Chain.{entryAt, nextNumber, visited, chainNumbers, within, different, chainFits, entriesAt, chainEntries}
-use Rattle.model.specs.Rebuild.{sheetTests, planTests, mapOutcome, mapSheet, planOutcome, planSheet, outcomeStatus, outcomeCount, rebuildTests, rebuildRefusal, repairedArray, choose, rebuildOutcome, rebuildArray, rebuildSheet}
-use Rattle.model.specs.Follow.{allAllowed, clears, followedArray, followTests, followRefusal, followOutcome, followArray}
+use Rattle.model.specs.Plan.{sheetTests, planTests, planOutcome, outcomeStatus, outcomeCount, lossOutcome, lossSheet, planSheet}
+use Rattle.model.specs.Rebuild.{rebuildTests, rebuildRefusal, repairedArray, choose, rebuildOutcome, rebuildArray, rebuildSheet, loss}
+use Rattle.model.specs.Follow.{followedArray, followTests, followRefusal, followOutcome, followArray}
 use Rattle.model.specs.Listing.{digit, decimal, repairWord, fatalWord, refusedWord, entryLines, listed, listing}
 use Rattle.model.specs.declared.Size.{Size}
 
@@ -145,6 +147,12 @@ cases =
           114 ∷ 101 ∷ 102 ∷ 117 ∷ 115 ∷ 101 ∷ 100 ∷ 32 ∷ 49 ∷ 10 ∷ 114 ∷ 101 ∷ 102 ∷ 117 ∷ 115 ∷ 101 ∷ 100 ∷ 32 ∷ 49 ∷ 10
           ∷ 114 ∷ 101 ∷ 102 ∷ 117 ∷ 115 ∷ 101 ∷ 100 ∷ 32 ∷ 52 ∷ 10 ∷ [];
     }
+    -- Disks 0 to 5 and 8 erased: fatal. Seven are erased, six of them are lost, for 8 can be repaired, and four are in the loop.
+    ∷ record {
+      number = 0;
+      computed = planned two (1 ∷ 1 ∷ 1 ∷ 1 ∷ 1 ∷ 1 ∷ 0 ∷ 0 ∷ 1 ∷ []);
+      expected = 6 ∷ 6 ∷ 2 ∷ 1 ∷ 0 ∷ 0 ∷ 2 ∷ 1 ∷ 17 ∷ 3 ∷ 4 ∷ 1 ∷ 4 ∷ 3 ∷ 16 ∷ 0 ∷ replicate 84 0;
+    }
     -- Case 3's repairs from a sheet whose chain visits records 3, 1 and 2, with other bytes behind them; the same with a ring; the
     -- same with a disk left over.
     ∷ record {
@@ -205,5 +213,5 @@ cases =
     ∷ []
 
 pub cases-hold : map (λ (c : Case). c .computed) cases ≡ map (λ (c : Case). c .expected) cases
-unfolding cases sealStatus sealArray encoded encodedByte writeStatus writeArray writeTests written writtenByte isParityOf refusal arrayTests sideFits sizeFits blockFits arrayBytes arrayOf disks across rows columns diskAt isData rowData columnData cell byte whole xsum _⊕_ tabulate gate every bit count lowest among on sumOver stripeSum sumsToZero grid gridOf mapFits erasures without alone allowed firstAllowed someAllowed nextDisk repairOf peel repairs after residual lost fatal changed sumOfOthers repaired rebuilt zeroed consistent below closing core partner firstOf otherThan trace lowestOf cycleOf shownCycle chainBytes sheetOf blankSheet sheetTests planTests mapOutcome mapSheet planOutcome planSheet outcomeStatus outcomeCount rebuildTests rebuildRefusal repairedArray choose rebuildOutcome rebuildArray rebuildSheet entryAt nextNumber visited chainNumbers within different chainFits entriesAt chainEntries allAllowed clears followedArray followTests followRefusal followOutcome followArray rectangle digit decimal repairWord fatalWord refusedWord entryLines listed listing
+unfolding cases sealStatus sealArray encoded encodedByte writeStatus writeArray writeTests written writtenByte isParityOf refusal arrayTests sideFits sizeFits blockFits arrayBytes arrayOf disks across down rows columns diskAt isData rowData columnData cell byte whole xsum _⊕_ tabulate gate every bit count lowest among on sumOver stripeSum sumsToZero grid layoutOf mapFits erasures without alone allowed firstAllowed someAllowed nextDisk repairOf peel repairs after residual residualCount lost fatal changed sumOfOthers repaired rebuilt zeroed consistent below closing core partner firstOf otherThan trace lowestOf cycleOf shownCycle numberBytes numberAt chainBytes sheetOf blankSheet sheetTests planTests lossOutcome lossSheet planOutcome planSheet outcomeStatus outcomeCount rebuildTests rebuildRefusal repairedArray loss choose rebuildOutcome rebuildArray rebuildSheet entryAt nextNumber visited chainNumbers within different chainFits entriesAt chainEntries allAllowed clears followedArray followTests followRefusal followOutcome followArray rectangle digit decimal repairWord fatalWord refusedWord entryLines listed listing
 cases-hold = refl

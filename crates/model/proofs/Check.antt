@@ -7,41 +7,23 @@ use mathlib.Core.List.{List}
 use Prim.Native.Nat.{ℕ, _<_}
 use native.Mathlib.Nat.{le-of-lt, lt-of-lt-of-le}
 use native.Mathlib.Omega.{arith}
-use borrow.Author.Tests.{eq-eqb, ne-eqb, eqb-true, eqb-false, ltb-true, ltb-false, lt-ltb, le-ltb, not-true, not-false}
+use borrow.Author.Tests.{eqb-true, eqb-false, ltb-true, ltb-false, lt-ltb, le-ltb, not-true, not-false}
 use lib.Dec.{eqb, ltb}
 use lib.ListN.{length}
-use Rattle.model.specs.Fold.{lowest}
-use Rattle.model.specs.Stripes.{Layout, Stretch, whole, stripeSum, sumsToZero}
-use Rattle.model.specs.Grid.{gridOf}
+use Rattle.stripes.specs.Fold.{lowest}
+use Rattle.stripes.specs.System.{whole, stripeSum, sumsToZero, consistent}
+use Rattle.model.specs.Grid.{layoutOf, columnBase}
 use Rattle.model.specs.Equations.{Equations}
 use Rattle.model.specs.Refusal.{refusal, arrayTests}
 use Rattle.model.specs.Array.{lowestUnsealed, checked, checkStatus}
 use Rattle.model.specs.declared.Size.{Size}
 use Rattle.model.specs.declared.Checked.{Checked}
 use Rattle.model.specs.declared.Checked.the-variants.{Sealed, Unsealed, Refused}
-use Rattle.model.proofs.Fold.{every-at, every-all, every-not, every-fails, Lowest, lowest-is, lowest-unique}
+use Rattle.stripes.proofs.Fold.{Lowest, lowest-is, lowest-unique}
+use Rattle.stripes.proofs.Sums.{place-of-nonzero, sums-of-zero, nonzero-of-place, consistent-iff, zero-of-sums}
 use Rattle.model.proofs.Equations.{equations-iff-sums}
 use Rattle.model.proofs.Refusal.{given-accepted, array-fits}
-
--- The test of a stripe holds where its sum is zero at every place, and fails where it is not at some place.
-module _ (L : Layout) (x : Stretch) (a : List ℕ) (s : ℕ) where
-  pub sums-of-zero : sumsToZero L x a s ≡ true → (p : ℕ) → p < x .width → stripeSum L x a s p ≡ 0
-  unfolding sumsToZero
-  sums-of-zero e p h = eqb-true (stripeSum L x a s p) 0 (every-at (x .width) _ e p h)
-
-  pub zero-of-sums : ((p : ℕ) → p < x .width → stripeSum L x a s p ≡ 0) → sumsToZero L x a s ≡ true
-  unfolding sumsToZero
-  zero-of-sums h = every-all (x .width) (λ p l. eq-eqb (stripeSum L x a s p) 0 (h p l))
-
-  pub place-of-nonzero : sumsToZero L x a s ≡ false → (p : ℕ) × (p < x .width) × (stripeSum L x a s p ≡ 0 → ⊥)
-  unfolding sumsToZero
-  place-of-nonzero e =
-      let (p, h, q) = every-fails (x .width) _ e in
-      (p, h, eqb-false (stripeSum L x a s p) 0 q)
-
-  pub nonzero-of-place : (p : ℕ) → p < x .width → (stripeSum L x a s p ≡ 0 → ⊥) → sumsToZero L x a s ≡ false
-  unfolding sumsToZero
-  nonzero-of-place p h q = every-not (x .width) _ p h (ne-eqb _ 0 q)
+use Rattle.model.proofs.Grid.{rows-below}
 
 -- What it tells that the answer is Sealed, or Unsealed.
 of-sealed : (b : Bool) (k : ℕ) → cond b (Unsealed k) Sealed ≡ Sealed → b ≡ false
@@ -82,31 +64,31 @@ module _ (n : ℕ) (t : ℕ → Bool) where
 
 -- The answer of a check that is not refused.
 module _ (z : Size) (B : ℕ) (a : List ℕ) (ok : refusal (arrayTests z B (length a)) ≡ 0) where
-  is-answer : checked z B a ≡ answer (gridOf z .stripeBound) (λ s. not (sumsToZero (gridOf z) (whole B) a s))
+  is-answer : checked z B a ≡ answer (layoutOf z (columnBase z) .stripeBound) (λ s. not (sumsToZero (layoutOf z (columnBase z)) (whole B) a s))
   unfolding checked lowestUnsealed answer
   is-answer = given-accepted (refusal (arrayTests z B (length a))) _ _ ok
 
   pub answer-sealed : (checked z B a ≡ Sealed) ↔ Equations z (whole B) a
   answer-sealed =
-      let (sums, equations) = equations-iff-sums z (array-fits z B (length a) ok .size) (whole B) a in
-      let (none, back) = sealed-iff (gridOf z .stripeBound) (λ s. not (sumsToZero (gridOf z) (whole B) a s)) in (
-        λ e. equations (λ s l. sums-of-zero (gridOf z) (whole B) a s (not-false _ (none (sym is-answer ∙ e) s l))),
-        λ q. is-answer ∙ back (λ s l. ap not (zero-of-sums (gridOf z) (whole B) a s (sums q s l))),
+      let (sums, equations) = equations-iff-sums z (columnBase z) (rows-below z (array-fits z B (length a) ok .size)) (whole B) a in
+      let (none, back) = sealed-iff (layoutOf z (columnBase z) .stripeBound) (λ s. not (sumsToZero (layoutOf z (columnBase z)) (whole B) a s)) in (
+        λ e. equations (λ s l. sums-of-zero (layoutOf z (columnBase z)) (whole B) a s (not-false _ (none (sym is-answer ∙ e) s l))),
+        λ q. is-answer ∙ back (λ s l. ap not (zero-of-sums (layoutOf z (columnBase z)) (whole B) a s (sums q s l))),
       )
 
   pub answer-unsealed : (s : ℕ) → (checked z B a ≡ Unsealed s)
-      ↔ ((s < gridOf z .stripeBound) × ((p : ℕ) × (p < B) × (stripeSum (gridOf z) (whole B) a s p ≡ 0 → ⊥))
-      × ((i : ℕ) → i < s → (p : ℕ) → p < B → stripeSum (gridOf z) (whole B) a i p ≡ 0))
+      ↔ ((s < layoutOf z (columnBase z) .stripeBound) × ((p : ℕ) × (p < B) × (stripeSum (layoutOf z (columnBase z)) (whole B) a s p ≡ 0 → ⊥))
+      × ((i : ℕ) → i < s → (p : ℕ) → p < B → stripeSum (layoutOf z (columnBase z)) (whole B) a i p ≡ 0))
   unfolding whole
   answer-unsealed s =
-      let (found, back) = unsealed-iff (gridOf z .stripeBound) (λ i. not (sumsToZero (gridOf z) (whole B) a i)) s in (
+      let (found, back) = unsealed-iff (layoutOf z (columnBase z) .stripeBound) (λ i. not (sumsToZero (layoutOf z (columnBase z)) (whole B) a i)) s in (
         λ e.
             let (l, here, lower) = found (sym is-answer ∙ e) in
-            (l, place-of-nonzero (gridOf z) (whole B) a s (not-true _ here), λ i k. sums-of-zero (gridOf z) (whole B) a i (not-false _ (lower i k))),
+            (l, place-of-nonzero (layoutOf z (columnBase z)) (whole B) a s (not-true _ here), λ i k. sums-of-zero (layoutOf z (columnBase z)) (whole B) a i (not-false _ (lower i k))),
         λ h.
             let (p, b, q) = h .1 in
             is-answer
-            ∙ back (h .0, ap not (nonzero-of-place (gridOf z) (whole B) a s p b q), λ i k. ap not (zero-of-sums (gridOf z) (whole B) a i (h .2 i k))),
+            ∙ back (h .0, ap not (nonzero-of-place (layoutOf z (columnBase z)) (whole B) a s p b q), λ i k. ap not (zero-of-sums (layoutOf z (columnBase z)) (whole B) a i (h .2 i k))),
       )
 
 -- The number of an answer is 0 where it is Sealed, and never else.
@@ -126,7 +108,16 @@ pub answer-zero : (z : Size) (B : ℕ) (a : List ℕ)
 unfolding checked checkStatus
 answer-zero z B a = (
   λ e.
-      let (ok, none) = of-zero (refusal (arrayTests z B (length a))) (ltb (lowestUnsealed z B a) (gridOf z .stripeBound)) (lowestUnsealed z B a) e in
+      let (ok, none) = of-zero (refusal (arrayTests z B (length a))) (ltb (lowestUnsealed z B a) (layoutOf z (columnBase z) .stripeBound)) (lowestUnsealed z B a) e in
       (ok, answer-sealed z B a ok .0 (given-accepted _ _ (Refused (refusal (arrayTests z B (length a)))) ok ∙ none)),
   λ h. ap checkStatus (answer-sealed z B a (h .0) .1 (h .1)),
 )
+
+-- All sums are zero exactly if check says sealed.
+pub consistent-sealed : (z : Size) (B : ℕ) (a : List ℕ) → refusal (arrayTests z B (length a)) ≡ 0
+    → (consistent (layoutOf z (columnBase z)) (whole B) a ≡ true) ↔ (checked z B a ≡ Sealed)
+consistent-sealed z B a ok =
+    let (sums, zeros) = consistent-iff (layoutOf z (columnBase z)) (whole B) a in
+    let (of-equations, to-equations) = equations-iff-sums z (columnBase z) (rows-below z (array-fits z B (length a) ok .size)) (whole B) a in
+    let (of-sealed, to-sealed) = answer-sealed z B a ok in
+    (λ e. to-sealed (to-equations (sums e)), λ e. zeros (of-equations (of-sealed e)))

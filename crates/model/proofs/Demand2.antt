@@ -6,19 +6,21 @@ use mathlib.Core.Logic.{_↔_}
 use mathlib.Core.List.{List}
 use Prim.Native.Nat.{ℕ, _+_, _*_, _≤_, _<_}
 use lib.ListN.{length, getD}
-use Rattle.model.specs.Stripes.{whole, byte, stripeSum, Codeword}
-use Rattle.model.specs.Grid.{gridOf, grid, across, disks, arrayBytes, isData, rectangle}
+use Rattle.stripes.specs.System.{whole, byte, stripeSum, Codeword}
+use Rattle.model.specs.Grid.{layoutOf, columnBase, grid, across, disks, arrayBytes, isData, rectangle, down}
 use Rattle.model.specs.Equations.{Equations}
 use Rattle.model.specs.Refusal.{refusal, arrayTests}
 use Rattle.model.specs.Array.{sealStatus, sealArray, checked, checkStatus, isParityOf, replaced, writeStatus, writeArray}
 use Rattle.model.specs.declared.Size.{Size}
 use Rattle.model.specs.declared.Checked.the-variants.{Sealed, Unsealed, Refused}
+use Rattle.model.specs.Demand2.{SealDemand, CheckDemand, WriteDemand}
 use Rattle.model.proofs.Equations.{equations-iff-sums}
 use Rattle.model.proofs.Refusal.{given-refused}
 use Rattle.model.proofs.Seal.{Same, seal-fits, seal-is, encoded-length, encoded-same, encoded-equations, encoded-exact, encoded-small, same-of-data, data-of-same}
 use Rattle.model.proofs.Check.{answer-sealed, answer-unsealed, answer-zero}
 use Rattle.model.proofs.Write.{write-fits, write-is, written-sum, written-block, written-others, written-sealed, replaced-status}
 use Rattle.model.proofs.Accept.{array-accepts, block-accepts}
+use Rattle.model.proofs.Grid.{rows-below}
 
 -- ---- which arguments are taken
 
@@ -59,13 +61,13 @@ module _ (z : Size) (B : ℕ) (a : List ℕ) (ok : sealStatus z B a ≡ 0) where
   seal-exact b long kept e = encoded-exact z B a b (long ∙ seal-fits z B a ok .long) (same-of-data z B a b kept) e ∙ sym (seal-is z B a ok)
 
   -- An array of bytes is sealed to a codeword of the grid.
-  pub seal-codeword : ((i : ℕ) → i < length a → getD a i 0 < 256) → Codeword (gridOf z) (whole B) (sealArray z B a)
-  unfolding gridOf grid whole arrayBytes disks across
+  pub seal-codeword : ((i : ℕ) → i < length a → getD a i 0 < 256) → Codeword (layoutOf z (columnBase z)) (whole B) (sealArray z B a)
+  unfolding layoutOf grid whole arrayBytes disks across down
   seal-codeword small =
       record {
         sized = seal-length ∙ seal-fits z B a ok .long;
         bytes = subst (λ (b : List ℕ). (i : ℕ) → i < length b → getD b i 0 < 256) (sym (seal-is z B a ok)) (encoded-small z B a small);
-        sums = equations-iff-sums z (seal-fits z B a ok .size) (whole B) (sealArray z B a) .0 seal-equations;
+        sums = equations-iff-sums z (columnBase z) (rows-below z (seal-fits z B a ok .size)) (whole B) (sealArray z B a) .0 seal-equations;
       }
 
 -- ---- check
@@ -88,8 +90,8 @@ module _ (z : Size) (B : ℕ) (a : List ℕ) (ok : refusal (arrayTests z B (leng
 
   -- A check answers Unsealed s if and only if the sum of stripe s is not zero at some place, and no lower stripe's is.
   pub check-unsealed : (s : ℕ) → (checked z B a ≡ Unsealed s)
-      ↔ ((s < gridOf z .stripeBound) × ((p : ℕ) × (p < B) × (stripeSum (gridOf z) (whole B) a s p ≡ 0 → ⊥))
-      × ((i : ℕ) → i < s → (p : ℕ) → p < B → stripeSum (gridOf z) (whole B) a i p ≡ 0))
+      ↔ ((s < layoutOf z (columnBase z) .stripeBound) × ((p : ℕ) × (p < B) × (stripeSum (layoutOf z (columnBase z)) (whole B) a s p ≡ 0 → ⊥))
+      × ((i : ℕ) → i < s → (p : ℕ) → p < B → stripeSum (layoutOf z (columnBase z)) (whole B) a i p ≡ 0))
   check-unsealed = answer-unsealed z B a ok
 
 -- ---- write
@@ -101,8 +103,8 @@ module _ (z : Size) (B : ℕ) (a : List ℕ) (d : ℕ) (new : List ℕ) where
   write-refused refused = given-refused (writeStatus z B a d new) _ _ refused
 
   -- A write keeps every stripe's sum at every place, also of an array that is not sealed.
-  pub write-sums : writeStatus z B a d new ≡ 0 → (s : ℕ) → s < gridOf z .stripeBound → (p : ℕ) → p < B
-      → stripeSum (gridOf z) (whole B) (writeArray z B a d new) s p ≡ stripeSum (gridOf z) (whole B) a s p
+  pub write-sums : writeStatus z B a d new ≡ 0 → (s : ℕ) → s < layoutOf z (columnBase z) .stripeBound → (p : ℕ) → p < B
+      → stripeSum (layoutOf z (columnBase z)) (whole B) (writeArray z B a d new) s p ≡ stripeSum (layoutOf z (columnBase z)) (whole B) a s p
   write-sums ok s l p h = rw (write-is z B a d new ok) (written-sum z B a d new (write-fits z B a d new ok) s l p h)
 
   -- The disk then holds the new block, and a disk that is none of its parities keeps its block.
@@ -122,3 +124,15 @@ module _ (z : Size) (B : ℕ) (a : List ℕ) (d : ℕ) (new : List ℕ) where
         write-is z B a d new ok ∙ written-sealed z B a d new (write-fits z B a d new ok) e
             ∙ sym (seal-is z B (replaced z B a d new) sealable),
       )
+
+-- ---- demand 2 of the calls, where nothing is refused
+
+pub seal-demand : (z : Size) (B : ℕ) (a : List ℕ) → sealStatus z B a ≡ 0 → SealDemand z B a (sealArray z B a)
+seal-demand z B a ok = record { long = seal-length z B a ok; equations = seal-equations z B a ok; kept = seal-data z B a ok }
+
+pub check-demand : (z : Size) (B : ℕ) (a : List ℕ) → refusal (arrayTests z B (length a)) ≡ 0 → CheckDemand z B a (checkStatus (checked z B a))
+check-demand z B a ok = (λ e. check-zero z B a .0 e .1, λ e. check-zero z B a .1 (ok, e))
+
+pub write-demand : (z : Size) (B : ℕ) (a : List ℕ) (d : ℕ) (new : List ℕ) → writeStatus z B a d new ≡ 0
+    → WriteDemand z B a d new (writeArray z B a d new)
+write-demand z B a d new ok = record { sealed = write-sealed z B a d new ok; sums = write-sums z B a d new ok }

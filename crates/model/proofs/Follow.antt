@@ -11,26 +11,28 @@ use native.Mathlib.Omega.{arith}
 use borrow.Author.Tests.{ne-eqb, eqb-true, eqb-false}
 use lib.Dec.{eqb}
 use lib.ListN.{length, getD}
-use Rattle.model.specs.Fold.{count}
-use Rattle.model.specs.Stripes.{among, whole, Codeword, Bytes}
-use Rattle.model.specs.Grid.{gridOf, disks, sizeFits, blockFits, arrayBytes, mapFits}
+use Rattle.stripes.specs.Fold.{count}
+use Rattle.stripes.specs.System.{among, whole, Codeword, Bytes, consistent}
+use Rattle.stripes.specs.Erased.{erasures, Agree, Belongs}
+use Rattle.stripes.specs.Repair.{Entry, repairs, fatal, zeroed, clears}
+use Rattle.stripes.specs.Cycle.{shownCycle}
+use Rattle.model.specs.Grid.{layoutOf, disks, sizeFits, blockFits, arrayBytes, mapFits}
 use Rattle.model.specs.Refusal.{Test, refusal, arrayTests}
-use Rattle.model.specs.Repair.{erasures, Entry, repairs, fatal, zeroed, consistent, Agree, Belongs}
-use Rattle.model.specs.Cycle.{shownCycle}
-use Rattle.model.specs.Sheet.{sheetOf}
+use Rattle.model.specs.Sheet.{sheetOf, narrow, sheetBytes}
 use Rattle.model.specs.Chain.{entryAt, nextNumber, chainNumbers, within, chainFits, chainEntries}
-use Rattle.model.specs.Rebuild.{sheetTests, planTests, mapOutcome, mapSheet, planSheet, outcomeStatus, rebuildTests, rebuildRefusal, repairedArray, choose, rebuildOutcome, rebuildArray}
-use Rattle.model.specs.Follow.{clears, Usable, followedArray, followTests, followRefusal, followOutcome, followArray}
+use Rattle.model.specs.Plan.{sheetTests, planTests, outcomeStatus, lossOutcome, lossSheet, planSheet, sheetLayout}
+use Rattle.model.specs.Rebuild.{rebuildTests, rebuildRefusal, repairedArray, choose, rebuildOutcome, rebuildArray, loss}
+use Rattle.model.specs.Follow.{Usable, followedArray, followTests, followRefusal, followOutcome, followArray}
 use Rattle.model.specs.declared.Size.{Size}
 use Rattle.model.specs.declared.Outcome.{Outcome}
 use Rattle.model.specs.declared.Outcome.the-variants.{Repairs, Refused}
-use Rattle.model.proofs.Fold.{by-cases}
-use Rattle.model.proofs.Grid.{grid-disks}
+use Rattle.stripes.proofs.Fold.{by-cases}
+use Rattle.stripes.proofs.Peel.{repairs-peels, repairs-count}
+use Rattle.stripes.proofs.Sums.{consistent-iff}
+use Rattle.stripes.proofs.Clears.{clears-peels, clears-length, clears-fine, repairs-clear, clears-restored, clears-judged, clears-alike}
+use Rattle.model.proofs.Grid.{layout-disks, layout-ordered, layout-sized, rows-below}
 use Rattle.model.proofs.Refusal.{passes, by-test, refused-first, passed, ArrayFits, array-tests, array-passed}
-use Rattle.model.proofs.Peel.{repairs-peels, repairs-count}
-use Rattle.model.proofs.Degree.{grid-repairs-bound}
-use Rattle.model.proofs.Restore.{consistent-iff, grid-bounded, grid-sized}
-use Rattle.model.proofs.Clears.{clears-peels, clears-length, clears-fine, repairs-clear, clears-restored, clears-judged, clears-alike}
+use Rattle.model.proofs.Limits.{grid-repairs-bound, peels-fitting}
 use Rattle.model.proofs.Accept.{sheet-small}
 use Rattle.model.proofs.Sheets.{sheet-length}
 use Rattle.model.proofs.Chain.{written-chain, loop-sheet-unfit, Linked, linked-fits, off-chain}
@@ -59,12 +61,12 @@ module _ (z : Size) (B : ℕ) (a m s : List ℕ) where
   decided ok ts =
       let (array, e) = array-tests z B (length a) _ ok in
       let (map, e₂) = passed 4 (mapFits z m) _ (omega arith) e in
-      let (long, e₃) = passed 5 (eqb (length s) 98) _ (omega arith) e₂ in
-      array-passed z B (length a) array _ ∙ passes 4 (mapFits z m) _ map ∙ passes 5 (eqb (length s) 98) ts long
+      let (long, e₃) = passed 5 (eqb (length s) (sheetBytes narrow)) _ (omega arith) e₂ in
+      array-passed z B (length a) array _ ∙ passes 4 (mapFits z m) _ map ∙ passes 5 (eqb (length s) (sheetBytes narrow)) ts long
 
   -- What follow gives where it refuses by k, or where k is 0.
   pub follow-given : (k : ℕ) → followRefusal z B a m s ≡ k
-      → Gives z B a m s (cond (eqb k 0) (Repairs (length (chainEntries s))) (Refused k))
+      → Gives z B a m s (cond (eqb k 0) (Repairs (length (chainEntries narrow s))) (Refused k))
       (cond (eqb k 0) (followedArray z B a s) (cond (eqb k 7) (zeroed (whole B) a (erasures m)) a))
   unfolding followOutcome followArray
   follow-given k e = (rw e, rw e)
@@ -73,7 +75,7 @@ module _ (z : Size) (B : ℕ) (a m s : List ℕ) where
   unfolding followOutcome outcomeStatus
   status-is =
       let k = followRefusal z B a m s in
-      by-cases (λ (t : Bool). outcomeStatus (cond t (Repairs (length (chainEntries s))) (Refused k)) ≡ k) (eqb k 0)
+      by-cases (λ (t : Bool). outcomeStatus (cond t (Repairs (length (chainEntries narrow s))) (Refused k)) ≡ k) (eqb k 0)
       (λ e. sym (eqb-true k 0 e)) (λ e. refl)
 
 -- It is 7 in one case only.
@@ -84,8 +86,8 @@ seven-only true false r e = absurd (omega arith)
 seven-only false q r e = absurd (omega arith)
 
 -- Rebuild keeps the array where the loss is fatal.
-rebuild-kept : (z : Size) (B : ℕ) (a m t : List ℕ) → fatal (gridOf z) (erasures m) ≡ true → rebuildArray z B a m t ≡ a
-unfolding rebuildArray choose
+rebuild-kept : (z : Size) (B : ℕ) (a m t : List ℕ) → fatal (sheetLayout z) (erasures m) ≡ true → rebuildArray z B a m t ≡ a
+unfolding rebuildArray choose loss
 rebuild-kept z B a m t lossy = rw lossy (by-cases (λ (u : Bool). cond u a a ≡ a) (eqb (rebuildRefusal z B a m t) 0) (λ e. refl) (λ e. refl))
 
 -- ---- paper 01's words
@@ -103,8 +105,8 @@ module _ (z : Size) (B : ℕ) (a m s : List ℕ) where
   -- exactly if a stripe's sum is not zero after the repairs.
   pub follow-order : rebuildRefusal z B a m s ≡ 0
       → followRefusal z B a m s
-      ≡ cond (chainFits s)
-      (cond (clears (gridOf z) (erasures m) (chainEntries s)) (cond (consistent (gridOf z) (whole B) (followedArray z B a s)) 0 7) 11) 10
+      ≡ cond (chainFits narrow s)
+      (cond (clears (sheetLayout z) (erasures m) (chainEntries narrow s)) (cond (consistent (sheetLayout z) (whole B) (followedArray z B a s)) 0 7) 11) 10
   unfolding followRefusal followTests refusal
   follow-order ok = decided z B a m s ok _
 
@@ -118,51 +120,51 @@ module _ (z : Size) (B : ℕ) (a m s : List ℕ) where
 
   module _ (ok : rebuildRefusal z B a m s ≡ 0) where
     -- 10, and nothing changes.
-    pub follow-ten : chainFits s ≡ false → Gives z B a m s (Refused 10) a
+    pub follow-ten : chainFits narrow s ≡ false → Gives z B a m s (Refused 10) a
     follow-ten unfit = follow-given z B a m s 10 (follow-order ok ∙ (rw unfit))
 
     -- 11, and nothing changes.
-    pub follow-eleven : chainFits s ≡ true → clears (gridOf z) (erasures m) (chainEntries s) ≡ false → Gives z B a m s (Refused 11) a
+    pub follow-eleven : chainFits narrow s ≡ true → clears (sheetLayout z) (erasures m) (chainEntries narrow s) ≡ false → Gives z B a m s (Refused 11) a
     follow-eleven chain unclear = follow-given z B a m s 11 (follow-order ok ∙ (rw (chain, unclear)))
 
     -- The repairs of a usable sheet leave all sums zero exactly if the survivors belong to a sealed array.
     pub follow-judged : Usable z m s → Bytes a
-        → (consistent (gridOf z) (whole B) (followedArray z B a s) ≡ true) ↔ Belongs (gridOf z) (whole B) (erasures m) a
+        → (consistent (sheetLayout z) (whole B) (followedArray z B a s) ≡ true) ↔ Belongs (sheetLayout z) (whole B) (erasures m) a
     unfolding followedArray
     follow-judged (chain, clear) =
         let array = fits z B a m s ok in
-        clears-judged (gridOf z) (grid-bounded z (array .size)) B (erasures m) a (grid-sized z B a (array .long)) (chainEntries s) clear
+        clears-judged (sheetLayout z) (layout-ordered z (narrow .base) (rows-below z (array .size)) .bounded) B (erasures m) a (layout-sized z (narrow .base) B a (array .long)) (chainEntries narrow s) clear
 
     -- If they do, the array becomes that one, and the count of repairs is that of the erased disks.
-    pub follow-restores : Usable z m s → (b : List ℕ) → Codeword (gridOf z) (whole B) b → Agree (gridOf z) (whole B) (erasures m) a b
+    pub follow-restores : Usable z m s → (b : List ℕ) → Codeword (sheetLayout z) (whole B) b → Agree (sheetLayout z) (whole B) (erasures m) a b
         → Gives z B a m s (Repairs (count (disks z) (erasures m))) b
     unfolding followedArray
     follow-restores (chain, clear) b word agree =
         let array = fits z B a m s ok in
         let is : followedArray z B a s ≡ b =
-        clears-restored (gridOf z) (grid-bounded z (array .size)) B (erasures m) a (grid-sized z B a (array .long))
-        (chainEntries s) clear b word agree in
-        let sealed : consistent (gridOf z) (whole B) (followedArray z B a s) ≡ true =
-        ap (consistent (gridOf z) (whole B)) is ∙ consistent-iff (gridOf z) (whole B) b .1 (word .sums) in
+        clears-restored (sheetLayout z) (layout-ordered z (narrow .base) (rows-below z (array .size)) .bounded) B (erasures m) a (layout-sized z (narrow .base) B a (array .long))
+        (chainEntries narrow s) clear b word agree in
+        let sealed : consistent (sheetLayout z) (whole B) (followedArray z B a s) ≡ true =
+        ap (consistent (sheetLayout z) (whole B)) is ∙ consistent-iff (sheetLayout z) (whole B) b .1 (word .sums) in
         let (answer, left) = follow-given z B a m s 0 (follow-order ok ∙ (rw (chain, clear, sealed))) in
-        (answer ∙ (rw (clears-length (gridOf z) (erasures m) (chainEntries s) clear, grid-disks z)), left ∙ is)
+        (answer ∙ (rw (clears-length (sheetLayout z) (erasures m) (chainEntries narrow s) clear, layout-disks z (narrow .base))), left ∙ is)
 
     -- If they belong to none, follow refuses by 7, with zeros in the erased blocks;
-    pub follow-seven : Usable z m s → Bytes a → (Belongs (gridOf z) (whole B) (erasures m) a → ⊥)
+    pub follow-seven : Usable z m s → Bytes a → (Belongs (sheetLayout z) (whole B) (erasures m) a → ⊥)
         → Gives z B a m s (Refused 7) (zeroed (whole B) a (erasures m))
     follow-seven usable small none =
-        let unsealed : consistent (gridOf z) (whole B) (followedArray z B a s) ≡ false =
-        by-cases (λ (t : Bool). t ≡ false) (consistent (gridOf z) (whole B) (followedArray z B a s))
+        let unsealed : consistent (sheetLayout z) (whole B) (followedArray z B a s) ≡ false =
+        by-cases (λ (t : Bool). t ≡ false) (consistent (sheetLayout z) (whole B) (followedArray z B a s))
         (λ e. absurd (none (follow-judged usable small .0 e))) (λ e. refl) in
         follow-given z B a m s 7 (follow-order ok ∙ (rw (usable .0, usable .1, unsealed)))
 
     -- and it does so just then.
     pub follow-contradicted : Bytes a
-        → (outcomeStatus (followOutcome z B a m s) ≡ 7) ↔ (Usable z m s × (Belongs (gridOf z) (whole B) (erasures m) a → ⊥))
+        → (outcomeStatus (followOutcome z B a m s) ≡ 7) ↔ (Usable z m s × (Belongs (sheetLayout z) (whole B) (erasures m) a → ⊥))
     unfolding outcomeStatus
     follow-contradicted small = (
       λ e.
-          let (chain, clear, unsealed) = seven-only (chainFits s) _ _ (sym (follow-order ok) ∙ sym (status-is z B a m s) ∙ e) in
+          let (chain, clear, unsealed) = seven-only (chainFits narrow s) _ _ (sym (follow-order ok) ∙ sym (status-is z B a m s) ∙ e) in
           ((chain, clear), λ belongs. true≢false (sym (follow-judged (chain, clear) small .1 belongs) ∙ unsealed)),
       λ (usable, none). ap outcomeStatus (follow-seven usable small none .0),
     )
@@ -172,13 +174,13 @@ module _ (z : Size) (B : ℕ) (a m s : List ℕ) where
   follow-zeros e = follow-given z B a m s 7 (sym (status-is z B a m s) ∙ e) .1
 
   -- On a map whose loss is fatal follow changes nothing, whatever the sheet, and refuses by 10 or 11 where it has not refused before.
-  pub follow-fatal : fatal (gridOf z) (erasures m) ≡ true
+  pub follow-fatal : fatal (sheetLayout z) (erasures m) ≡ true
       → (followArray z B a m s ≡ a)
       × (rebuildRefusal z B a m s ≡ 0 → (followOutcome z B a m s ≡ Refused 10) ⊎ (followOutcome z B a m s ≡ Refused 11))
-  follow-fatal lossy = go (eqb (rebuildRefusal z B a m s) 0) refl (chainFits s) refl (clears (gridOf z) (erasures m) (chainEntries s)) refl
+  follow-fatal lossy = go (eqb (rebuildRefusal z B a m s) 0) refl (chainFits narrow s) refl (clears (sheetLayout z) (erasures m) (chainEntries narrow s)) refl
     where
-      go : (u : Bool) → eqb (rebuildRefusal z B a m s) 0 ≡ u → (p : Bool) → chainFits s ≡ p
-          → (q : Bool) → clears (gridOf z) (erasures m) (chainEntries s) ≡ q
+      go : (u : Bool) → eqb (rebuildRefusal z B a m s) 0 ≡ u → (p : Bool) → chainFits narrow s ≡ p
+          → (q : Bool) → clears (sheetLayout z) (erasures m) (chainEntries narrow s) ≡ q
           → (followArray z B a m s ≡ a)
           × (rebuildRefusal z B a m s ≡ 0 → (followOutcome z B a m s ≡ Refused 10) ⊎ (followOutcome z B a m s ≡ Refused 11))
       go false e p chain q clear =
@@ -188,7 +190,7 @@ module _ (z : Size) (B : ℕ) (a m s : List ℕ) where
       go true e true chain false unclear =
           let (answer, kept) = follow-eleven (eqb-true (rebuildRefusal z B a m s) 0 e) chain unclear in (kept, λ ok. inr answer)
       go true e true chain true clear =
-          absurd (true≢false (sym lossy ∙ clears-fine (gridOf z) (erasures m) (chainEntries s) clear))
+          absurd (true≢false (sym lossy ∙ clears-fine (sheetLayout z) (erasures m) (chainEntries narrow s) clear))
 
 -- Otherwise the array is as after rebuild: follow on s and rebuild on t give the same answer and the same array.
 abbrev pub AsRebuild : Size → ℕ → (a m s t : List ℕ) → Type 0
@@ -197,99 +199,99 @@ AsRebuild z B a m s t = Gives z B a m s (rebuildOutcome z B a m t) (rebuildArray
 -- It is so for every usable sheet: in which order disks are repaired, and by which stripes, counts for nothing. Where the other
 -- arguments or the survivors are refused, they are refused alike.
 pub follow-any : (z : Size) (B : ℕ) (a m s t : List ℕ) → length s ≡ length t → Bytes a → Usable z m s → AsRebuild z B a m s t
-unfolding rebuildRefusal rebuildOutcome rebuildArray choose mapOutcome followedArray repairedArray
+unfolding rebuildRefusal rebuildOutcome rebuildArray choose loss lossOutcome followedArray repairedArray
 follow-any z B a m s t long small (chain, clear) =
-    go (eqb (rebuildRefusal z B a m t) 0) refl (consistent (gridOf z) (whole B) (repairedArray z B a m)) refl
+    go (eqb (rebuildRefusal z B a m t) 0) refl (consistent (sheetLayout z) (whole B) (repairedArray (sheetLayout z) (whole B) a (erasures m))) refl
   where
     same : rebuildRefusal z B a m s ≡ rebuildRefusal z B a m t
     same = rw long
 
-    fine : fatal (gridOf z) (erasures m) ≡ false
-    fine = clears-fine (gridOf z) (erasures m) (chainEntries s) clear
+    fine : fatal (sheetLayout z) (erasures m) ≡ false
+    fine = clears-fine (sheetLayout z) (erasures m) (chainEntries narrow s) clear
 
     alike : rebuildRefusal z B a m s ≡ 0
-        → (consistent (gridOf z) (whole B) (followedArray z B a s) ≡ consistent (gridOf z) (whole B) (repairedArray z B a m))
-        × (consistent (gridOf z) (whole B) (repairedArray z B a m) ≡ true → followedArray z B a s ≡ repairedArray z B a m)
+        → (consistent (sheetLayout z) (whole B) (followedArray z B a s) ≡ consistent (sheetLayout z) (whole B) (repairedArray (sheetLayout z) (whole B) a (erasures m)))
+        × (consistent (sheetLayout z) (whole B) (repairedArray (sheetLayout z) (whole B) a (erasures m)) ≡ true → followedArray z B a s ≡ repairedArray (sheetLayout z) (whole B) a (erasures m))
     alike ok =
         let array = fits z B a m s ok in
-        clears-alike (gridOf z) (grid-bounded z (array .size)) B (erasures m) a (grid-sized z B a (array .long)) small
-        (chainEntries s) (repairs (gridOf z) (erasures m)) clear (repairs-clear (gridOf z) (erasures m) fine)
+        clears-alike (sheetLayout z) (layout-ordered z (narrow .base) (rows-below z (array .size)) .bounded) B (erasures m) a (layout-sized z (narrow .base) B a (array .long)) small
+        (chainEntries narrow s) (repairs (sheetLayout z) (erasures m)) clear (repairs-clear (sheetLayout z) (erasures m) fine)
 
     go : (u : Bool) → eqb (rebuildRefusal z B a m t) 0 ≡ u
-        → (v : Bool) → consistent (gridOf z) (whole B) (repairedArray z B a m) ≡ v → AsRebuild z B a m s t
+        → (v : Bool) → consistent (sheetLayout z) (whole B) (repairedArray (sheetLayout z) (whole B) a (erasures m)) ≡ v → AsRebuild z B a m s t
     go false e v j =
         let (answer, left) = follow-first z B a m s (λ q. eqb-false (rebuildRefusal z B a m t) 0 e (sym same ∙ q)) in
         rw e (answer ∙ ap Refused same, left)
     go true e true j =
         let ok = same ∙ eqb-true (rebuildRefusal z B a m t) 0 e in
         let (answer, left) = follow-given z B a m s 0 (follow-order z B a m s ok ∙ (rw (chain, clear, alike ok .0, j))) in
-        let count-is = clears-length (gridOf z) (erasures m) (chainEntries s) clear ∙ sym (repairs-count (gridOf z) (erasures m) fine) in
+        let count-is = clears-length (sheetLayout z) (erasures m) (chainEntries narrow s) clear ∙ sym (repairs-count (sheetLayout z) (erasures m) fine) in
         rw (e, fine, j) (answer ∙ ap Repairs count-is, left ∙ alike ok .1 j)
     go true e false j =
         let ok = same ∙ eqb-true (rebuildRefusal z B a m t) 0 e in
         rw (e, fine, j) (follow-given z B a m s 7 (follow-order z B a m s ok ∙ (rw (chain, clear, alike ok .0, j))))
 
-module _ (z : Size) (B : ℕ) (a m s₁ t : List ℕ) (planOk : refusal (planTests z m (length s₁)) ≡ 0) (long : length t ≡ 98) where
+module _ (z : Size) (B : ℕ) (a m s₁ t : List ℕ) (planOk : refusal (planTests z m (length s₁)) ≡ 0) (long : length t ≡ sheetBytes narrow) where
   -- It is so for the sheet that plan leaves,
-  pub follow-plan : fatal (gridOf z) (erasures m) ≡ false → Bytes a → AsRebuild z B a m (planSheet z m s₁) t
-  unfolding planSheet mapSheet planTests
+  pub follow-plan : fatal (sheetLayout z) (erasures m) ≡ false → Bytes a → AsRebuild z B a m (planSheet z m s₁) t
+  unfolding planSheet lossSheet planTests
   follow-plan fine small =
-      let w : List Entry = repairs (gridOf z) (erasures m) in
+      let w : List Entry = repairs (sheetLayout z) (erasures m) in
       let size = passed 1 (sizeFits z) _ (omega arith) planOk .0 in
-      let (chain, lists) = written-chain w (le-of-lt (grid-repairs-bound z size (erasures m) w (repairs-peels (gridOf z) (erasures m)))) in
-      let clear = rw (← lists) at (repairs-clear (gridOf z) (erasures m) fine) in
-      rw (planOk, fine) (follow-any z B a m (sheetOf 1 w) t (sheet-length 1 w ∙ sym long) small (chain, clear))
+      let (chain, lists) = written-chain narrow w (omega arith) (peels-fitting z size (erasures m) w (repairs-peels (sheetLayout z) (erasures m))) in
+      let clear = rw (← lists) at (repairs-clear (sheetLayout z) (erasures m) fine) in
+      rw (planOk, fine) (follow-any z B a m (sheetOf narrow 1 w) t (sheet-length narrow 1 w ∙ sym long) small (chain, clear))
 
   -- unless it shows a loop: then neither changes the array, and follow refuses by 10 where rebuild calls the loss fatal.
-  pub follow-loop : fatal (gridOf z) (erasures m) ≡ true
+  pub follow-loop : fatal (sheetLayout z) (erasures m) ≡ true
       → (followArray z B a m (planSheet z m s₁) ≡ a) × (rebuildArray z B a m t ≡ a)
       × (rebuildRefusal z B a m t ≡ 0 → followOutcome z B a m (planSheet z m s₁) ≡ Refused 10)
-  unfolding planSheet mapSheet rebuildRefusal
+  unfolding planSheet lossSheet rebuildRefusal
   follow-loop lossy =
-      let w : List Entry = shownCycle (gridOf z) (erasures m) in (
+      let w : List Entry = shownCycle (sheetLayout z) (erasures m) in (
         follow-fatal z B a m (planSheet z m s₁) lossy .0,
         rebuild-kept z B a m t lossy,
-        λ ok. rw (planOk, lossy) (follow-ten z B a m (sheetOf 2 w) (rw (sheet-length 2 w, ← long) ok) (loop-sheet-unfit w) .0),
+        λ ok. rw (planOk, lossy) (follow-ten z B a m (sheetOf narrow 2 w) (rw (sheet-length narrow 2 w, ← long) ok) (loop-sheet-unfit narrow w (λ q. omega arith)) .0),
       )
 
 -- Bytes off the chain are ignored: two sheets of one length that agree on the kind, on the first number and on the records that the
 -- chain visits give the same.
 pub follow-off-chain : (z : Size) (B : ℕ) (a m s t : List ℕ) → length s ≡ length t → getD s 0 0 ≡ getD t 0 0 → getD s 1 0 ≡ getD t 1 0
-    → ((k : ℕ) → among k (chainNumbers s) ≡ true → (entryAt s k ≡ entryAt t k) × (nextNumber s k ≡ nextNumber t k))
+    → ((k : ℕ) → among k (chainNumbers narrow s) ≡ true → (entryAt narrow s k ≡ entryAt narrow t k) × (nextNumber narrow s k ≡ nextNumber narrow t k))
     → Gives z B a m s (followOutcome z B a m t) (followArray z B a m t)
 unfolding followOutcome followArray followRefusal followTests followedArray
-follow-off-chain z B a m s t long kind first same = let (fit, lists) = off-chain s t kind first same in rw (long, fit, lists) (refl, refl)
+follow-off-chain z B a m s t long kind first same = let (fit, lists) = off-chain narrow s t kind first same in rw (long, fit, lists) (refl, refl)
 
 -- Its chain may visit records in any order: every chain of records up to 32 that lists allowed repairs and leaves nothing erased
 -- gives what rebuild gives.
 pub follow-any-order : (z : Size) (B : ℕ) (a m s t : List ℕ) → length s ≡ length t → Bytes a
-    → (w : List Entry) → clears (gridOf z) (erasures m) w ≡ true
-    → getD s 0 0 ≡ 1 → (ks : List ℕ) → within 32 ks ≡ true → Linked s (getD s 1 0) ks w → AsRebuild z B a m s t
+    → (w : List Entry) → clears (sheetLayout z) (erasures m) w ≡ true
+    → getD s 0 0 ≡ 1 → (ks : List ℕ) → within 32 ks ≡ true → Linked narrow s (getD s 1 0) ks w → AsRebuild z B a m s t
 follow-any-order z B a m s t long small w clear kind ks inside linked =
-    let (chain, lists, numbers) = linked-fits s ks w kind linked inside in
+    let (chain, lists, numbers) = linked-fits narrow s ks w kind linked inside in
     follow-any z B a m s t long small (chain, rw lists clear)
 
 -- So does every such list that the library writes into a sheet, and each has room there.
-pub follow-list : (z : Size) → sizeFits z ≡ true → (B : ℕ) (a m t : List ℕ) → length t ≡ 98 → Bytes a
-    → (w : List Entry) → clears (gridOf z) (erasures m) w ≡ true → AsRebuild z B a m (sheetOf 1 w) t
+pub follow-list : (z : Size) → sizeFits z ≡ true → (B : ℕ) (a m t : List ℕ) → length t ≡ sheetBytes narrow → Bytes a
+    → (w : List Entry) → clears (sheetLayout z) (erasures m) w ≡ true → AsRebuild z B a m (sheetOf narrow 1 w) t
 follow-list z size B a m t long small w clear =
-    let few = le-of-lt (grid-repairs-bound z size (erasures m) w (clears-peels (gridOf z) (erasures m) w clear)) in
-    let (chain, lists) = written-chain w few in
-    follow-any z B a m (sheetOf 1 w) t (sheet-length 1 w ∙ sym long) small (chain, rw lists clear)
+    let fits = peels-fitting z size (erasures m) w (clears-peels (sheetLayout z) (erasures m) w clear) in
+    let (chain, lists) = written-chain narrow w (omega arith) fits in
+    follow-any z B a m (sheetOf narrow 1 w) t (sheet-length narrow 1 w ∙ sym long) small (chain, rw lists clear)
 
 -- The contents of an erased block count for nothing: two arrays with the same survivors get the same answer and, from a usable
 -- sheet, the same array.
 pub follow-contents-free : (z : Size) (B : ℕ) (a b m s : List ℕ) → rebuildRefusal z B a m s ≡ 0 → Bytes a → Bytes b
-    → length b ≡ length a → Agree (gridOf z) (whole B) (erasures m) a b
+    → length b ≡ length a → Agree (sheetLayout z) (whole B) (erasures m) a b
     → (followOutcome z B b m s ≡ followOutcome z B a m s) × (Usable z m s → followArray z B b m s ≡ followArray z B a m s)
 unfolding rebuildRefusal
 follow-contents-free z B a b m s ok small small₂ long same =
-    go (chainFits s) refl (clears (gridOf z) (erasures m) (chainEntries s)) refl
+    go (chainFits narrow s) refl (clears (sheetLayout z) (erasures m) (chainEntries narrow s)) refl
   where
     ok₂ : rebuildRefusal z B b m s ≡ 0
     ok₂ = (rw long) ∙ ok
 
-    go : (p : Bool) → chainFits s ≡ p → (q : Bool) → clears (gridOf z) (erasures m) (chainEntries s) ≡ q
+    go : (p : Bool) → chainFits narrow s ≡ p → (q : Bool) → clears (sheetLayout z) (erasures m) (chainEntries narrow s) ≡ q
         → (followOutcome z B b m s ≡ followOutcome z B a m s) × (Usable z m s → followArray z B b m s ≡ followArray z B a m s)
     go false unfit q clear = (
       follow-ten z B b m s ok₂ unfit .0 ∙ sym (follow-ten z B a m s ok unfit .0),
@@ -304,5 +306,5 @@ follow-contents-free z B a b m s ok small small₂ long same =
         let (answer₂, left₂) = follow-any z B b m s s refl small₂ (chain, clear) in
         let (outcome, sheet, array) = contents-free z B a b m s ok long same in (
           answer₂ ∙ outcome ∙ sym answer,
-          λ usable. left₂ ∙ array (clears-fine (gridOf z) (erasures m) (chainEntries s) clear) ∙ sym left,
+          λ usable. left₂ ∙ array (clears-fine (sheetLayout z) (erasures m) (chainEntries narrow s) clear) ∙ sym left,
         )

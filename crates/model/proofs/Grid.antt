@@ -4,18 +4,21 @@ use mathlib.Core.Path.{_≡_, refl, sym, _∙_, ap, ap₂, subst}
 use mathlib.Core.Bool.{Bool, true, false, _&&_, _||_, or-false}
 use mathlib.Core.List.{List}
 use Prim.Native.Nat.{ℕ, _+_, _*_, _/_, _%_, _-_, _≤_, _<_}
-use native.Mathlib.Nat.{mul-le-mul, zero-add, mul-zero, add-sub-of-le, le-of-lt, lt-of-not-le, mod-lt, div-lt-iff-lt-mul, div-add-mod', pos-of-ne-zero}
+use native.Mathlib.Nat.{mul-le-mul, add-sub-of-le, le-of-lt, lt-of-not-le, mod-lt, div-lt-iff-lt-mul, div-add-mod'}
 use native.Mathlib.Decide.{decLe, decLt}
 use native.Mathlib.Omega.{arith}
 use borrow.Author.Tests.{eq-eqb, ne-eqb, eqb-true, eqb-false, leb-true, ltb-true, lt-ltb}
 use lib.Arith.{digits-div, digits-mod, digits-lt}
 use lib.Dec.{eqb, leb, ltb}
-use lib.ListN.{length, getD, List·getD-eq-default}
-use Rattle.model.specs.Fold.{xsum, gate}
-use Rattle.model.specs.Stripes.{TwoStripes, among, on, Stretch, whole, byte, sumOver, stripeSum}
-use Rattle.model.specs.Grid.{grid, rows, columns, across, gridOf, disks, diskAt, isData, arrayBytes, arrayOf, sideFits, sizeFits, blockFits, mapFits}
+use lib.ListN.{length, getD}
+use Rattle.stripes.specs.Fold.{xsum, gate}
+use Rattle.stripes.specs.System.{TwoStripes, among, on, whole, byte, sumOver, stripeSum, changed, Ordered}
+use Rattle.model.specs.Grid.{grid, rows, columns, across, layoutOf, columnBase, disks, diskAt, isData, arrayBytes, arrayOf, sideFits, sizeFits, blockFits, mapFits, down}
+use Rattle.stripes.specs.declared.Stretch.{Stretch}
 use Rattle.model.specs.declared.Size.{Size}
-use Rattle.model.proofs.Fold.{and-left, and-right, and-both, same-test, xsum-ext, xsum-zero, xsum-swap, xsum-mul, xsum-only, length-tabulate, getD-tabulate, list-is}
+use Rattle.stripes.proofs.Fold.{and-left, and-right, and-both, same-test, xsum-ext, xsum-zero, xsum-swap, xsum-mul, xsum-only, length-tabulate, getD-tabulate, list-is}
+use Rattle.stripes.proofs.Bytes.{block-before, byte-whole, by-block, length-changed, byte-changed, whole-inside}
+use Rattle.stripes.proofs.Degree.{two-ordered}
 
 -- ---- the stripes of a grid
 
@@ -125,7 +128,7 @@ module _ (z : Size) (fits : Fits z) where
   across-bound = let h = fits .columnsHigh in omega arith
 
   pub disks-bound : disks z ≤ 256
-  unfolding disks
+  unfolding disks down
   disks-bound = let h = fits .rowsHigh in mul-le-mul {n₂ = 16} {m₂ = 16} (omega arith) across-bound
 
   pub bytes-bound : (B : ℕ) → BlockFits B → arrayBytes z B ≤ 1048576
@@ -134,61 +137,69 @@ module _ (z : Size) (fits : Fits z) where
 
 -- ---- the stripes of a size
 
--- The sum over the row, over the column, and over a stripe that no disk lists, at a size that fits.
-module _ (z : Size) (fits : Fits z) (f : ℕ → ℕ) where
-  pub row-over : (r : ℕ) → r ≤ rows z → sumOver (gridOf z) f r ≡ xsum (across z) (λ c. f (diskAt z r c))
-  unfolding gridOf across diskAt
-  row-over r l = row-sum (rows z) (columns z) 16 (omega arith) f r l
+-- A size that fits has fewer rows than the base of its columns.
+pub rows-below : (z : Size) → sizeFits z ≡ true → rows z < columnBase z
+rows-below z fits = let f : Fits z = size-fits z fits in omega arith
 
-  pub column-over : (c : ℕ) → c ≤ columns z → sumOver (gridOf z) f (16 + c) ≡ xsum (rows z + 1) (λ r. f (diskAt z r c))
-  unfolding gridOf across diskAt
-  column-over c l = column-sum (rows z) (columns z) 16 (omega arith) f c l
+-- The sum over the row, over the column, and over a stripe that no disk lists.
+module _ (z : Size) (base : ℕ) (above : rows z < base) (f : ℕ → ℕ) where
+  pub row-over : (r : ℕ) → r ≤ rows z → sumOver (layoutOf z base) f r ≡ xsum (across z) (λ c. f (diskAt z r c))
+  unfolding layoutOf across diskAt
+  row-over r l = row-sum (rows z) (columns z) base above f r l
 
-  pub empty-over : (s : ℕ) → rows z < s → s < 16 → sumOver (gridOf z) f s ≡ 0
-  unfolding gridOf
-  empty-over s l b = empty-sum (rows z) (columns z) 16 (omega arith) f s l b
+  pub column-over : (c : ℕ) → c ≤ columns z → sumOver (layoutOf z base) f (base + c) ≡ xsum (rows z + 1) (λ r. f (diskAt z r c))
+  unfolding layoutOf across diskAt
+  column-over c l = column-sum (rows z) (columns z) base above f c l
+
+  pub empty-over : (s : ℕ) → rows z < s → s < base → sumOver (layoutOf z base) f s ≡ 0
+  unfolding layoutOf
+  empty-over s l b = empty-sum (rows z) (columns z) base above f s l b
 
 -- The same of the bytes at a place.
-module _ (z : Size) (fits : sizeFits z ≡ true) (x : Stretch) (a : List ℕ) where
-  pub row-stripe : (r : ℕ) → r ≤ rows z → (p : ℕ) → stripeSum (gridOf z) x a r p ≡ xsum (across z) (λ c. byte x a (diskAt z r c) p)
+module _ (z : Size) (base : ℕ) (above : rows z < base) (x : Stretch) (a : List ℕ) where
+  pub row-stripe : (r : ℕ) → r ≤ rows z → (p : ℕ) → stripeSum (layoutOf z base) x a r p ≡ xsum (across z) (λ c. byte x a (diskAt z r c) p)
   unfolding stripeSum
-  row-stripe r l p = row-over z (size-fits z fits) (λ d. byte x a d p) r l
+  row-stripe r l p = row-over z base above (λ d. byte x a d p) r l
 
-  pub column-stripe : (c : ℕ) → c ≤ columns z → (p : ℕ) → stripeSum (gridOf z) x a (16 + c) p ≡ xsum (rows z + 1) (λ r. byte x a (diskAt z r c) p)
+  pub column-stripe : (c : ℕ) → c ≤ columns z → (p : ℕ) → stripeSum (layoutOf z base) x a (base + c) p ≡ xsum (rows z + 1) (λ r. byte x a (diskAt z r c) p)
   unfolding stripeSum
-  column-stripe c l p = column-over z (size-fits z fits) (λ d. byte x a d p) c l
+  column-stripe c l p = column-over z base above (λ d. byte x a d p) c l
 
-  pub empty-stripe : (s : ℕ) → rows z < s → s < 16 → (p : ℕ) → stripeSum (gridOf z) x a s p ≡ 0
+  pub empty-stripe : (s : ℕ) → rows z < s → s < base → (p : ℕ) → stripeSum (layoutOf z base) x a s p ≡ 0
   unfolding stripeSum
-  empty-stripe s l b p = empty-over z (size-fits z fits) (λ d. byte x a d p) s l b
+  empty-stripe s l b p = empty-over z base above (λ d. byte x a d p) s l b
 
--- A size's grid has its disks, and its stripes are the rows, the numbers from there to 15, and the columns.
-pub grid-disks : (z : Size) → gridOf z .disks ≡ disks z
-unfolding gridOf grid disks across
-grid-disks z = refl
+-- A size's layout has its disks, and its stripes are the rows, the numbers from there to the base, and the columns.
+module _ (z : Size) (base : ℕ) where
+  pub layout-disks : layoutOf z base .disks ≡ disks z
+  unfolding layoutOf grid disks across down
+  layout-disks = refl
 
-pub gridOf-two : (z : Size) → sizeFits z ≡ true → TwoStripes (gridOf z)
-unfolding gridOf
-gridOf-two z fits = let f : Fits z = size-fits z fits in grid-two (rows z) (columns z) 16 (omega arith)
+  pub layout-two : rows z < base → TwoStripes (layoutOf z base)
+  unfolding layoutOf
+  layout-two above = grid-two (rows z) (columns z) base above
 
-pub row-number : (z : Size) → Fits z → (r : ℕ) → r ≤ rows z → r < gridOf z .stripeBound
-unfolding gridOf grid
-row-number z fits r l = omega arith
+  pub layout-ordered : rows z < base → Ordered (layoutOf z base)
+  layout-ordered above = two-ordered (layoutOf z base) (layout-two above)
 
-pub column-number : (z : Size) (c : ℕ) → c ≤ columns z → 16 + c < gridOf z .stripeBound
-unfolding gridOf grid
-column-number z c l = omega arith
+  pub row-number : rows z < base → (r : ℕ) → r ≤ rows z → r < layoutOf z base .stripeBound
+  unfolding layoutOf grid
+  row-number above r l = omega arith
 
-pub by-stripe : (z : Size) (P : ℕ → Type 0)
-    → ((r : ℕ) → r ≤ rows z → P r) → ((s : ℕ) → rows z < s → s < 16 → P s) → ((c : ℕ) → c ≤ columns z → P (16 + c))
-    → (s : ℕ) → s < gridOf z .stripeBound → P s
-unfolding gridOf grid
-by-stripe z P row between column s l = go (decLe s (rows z)) (decLt s 16)
-  where
-    go : Dec (s ≤ rows z) → Dec (s < 16) → P s
-    go (yes h) k = row s h
-    go (no h) (yes k) = between s (lt-of-not-le h) k
-    go (no h) (no k) = subst P (add-sub-of-le (omega arith)) (column (s - 16) (omega arith))
+  pub column-number : (c : ℕ) → c ≤ columns z → base + c < layoutOf z base .stripeBound
+  unfolding layoutOf grid
+  column-number c l = omega arith
+
+  pub by-stripe : (P : ℕ → Type 0)
+      → ((r : ℕ) → r ≤ rows z → P r) → ((s : ℕ) → rows z < s → s < base → P s) → ((c : ℕ) → c ≤ columns z → P (base + c))
+      → (s : ℕ) → s < layoutOf z base .stripeBound → P s
+  unfolding layoutOf grid
+  by-stripe P row between column s l = go (decLe s (rows z)) (decLt s base)
+    where
+      go : Dec (s ≤ rows z) → Dec (s < base) → P s
+      go (yes h) k = row s h
+      go (no h) (yes k) = between s (lt-of-not-le h) k
+      go (no h) (no k) = subst P (add-sub-of-le (omega arith)) (column (s - base) (omega arith))
 
 -- ---- disks
 
@@ -208,7 +219,7 @@ module _ (z : Size) where
   column-of r c l = digits-mod r l
 
   pub disk-below : (r c : ℕ) → r ≤ rows z → c ≤ columns z → diskAt z r c < disks z
-  unfolding diskAt disks across
+  unfolding diskAt disks across down
   disk-below r c l k = digits-lt {q = r} {m = rows z + 1} {r = c} {c = columns z + 1} (omega arith) (omega arith)
 
   pub disk-is : (d : ℕ) → d ≡ diskAt z (d / across z) (d % across z)
@@ -216,7 +227,7 @@ module _ (z : Size) where
   disk-is d = sym (div-add-mod' d (across z))
 
   pub row-within : (d : ℕ) → d < disks z → d / across z ≤ rows z
-  unfolding disks across
+  unfolding disks across down
   row-within d l = let b : d / (columns z + 1) < rows z + 1 = div-lt-iff-lt-mul {k = columns z + 1} (omega arith) .1 l in omega arith
 
   pub column-within : (d : ℕ) → d % across z ≤ columns z
@@ -263,49 +274,27 @@ module _ (z : Size) where
       subst (λ (k : ℕ). k < disks z) (sym (disk-is d)) (disk-below (d / across z) (d % across z) (le-of-lt (data-row d e)) (le-of-lt (data-column d e)))
 
 -- ---- which disks lie on a row and on a column
-module _ (z : Size) where
-  pub on-row : (d r : ℕ) → r < 16 → on (gridOf z) d r ≡ eqb r (d / across z)
-  unfolding on among gridOf grid across
+module _ (z : Size) (base : ℕ) where
+  pub on-row : (d r : ℕ) → r < base → on (layoutOf z base) d r ≡ eqb r (d / across z)
+  unfolding on among layoutOf grid across
   on-row d r l =
-      ap (λ (b : Bool). eqb r (d / across z) || (b || false)) (ne-eqb r (16 + d % across z) (λ q. omega arith))
+      ap (λ (b : Bool). eqb r (d / across z) || (b || false)) (ne-eqb r (base + d % across z) (λ q. omega arith))
       ∙ or-false (eqb r (d / across z))
 
-  pub on-column : Fits z → (d c : ℕ) → d < disks z → on (gridOf z) d (16 + c) ≡ eqb c (d % across z)
-  unfolding on among gridOf grid across
-  on-column fits d c l =
+  pub on-column : rows z < base → (d c : ℕ) → d < disks z → on (layoutOf z base) d (base + c) ≡ eqb c (d % across z)
+  unfolding on among layoutOf grid across
+  on-column above d c l =
       let row : d / across z ≤ rows z = row-within z d l in
-      ap₂ (λ (a b : Bool). a || (b || false)) (ne-eqb (16 + c) (d / across z) (λ q. let h = fits .rowsHigh in omega arith))
-      (same-test (eqb (16 + c) (16 + d % across z)) (eqb c (d % across z))
-      (λ e. let q = eqb-true (16 + c) (16 + d % across z) e in eq-eqb c (d % across z) (omega arith))
-      (λ e. eq-eqb (16 + c) (16 + d % across z) (ap (λ (k : ℕ). 16 + k) (eqb-true c (d % across z) e))))
+      ap₂ (λ (a b : Bool). a || (b || false)) (ne-eqb (base + c) (d / across z) (λ q. omega arith))
+      (same-test (eqb (base + c) (base + d % across z)) (eqb c (d % across z))
+      (λ e. let q = eqb-true (base + c) (base + d % across z) e in eq-eqb c (d % across z) (omega arith))
+      (λ e. eq-eqb (base + c) (base + d % across z) (ap (λ (k : ℕ). base + k) (eqb-true c (d % across z) e))))
       ∙ or-false (eqb c (d % across z))
 
 -- A map that fits has a byte for each disk.
 pub map-length : (z : Size) (m : List ℕ) → mapFits z m ≡ true → length m ≡ disks z
 unfolding mapFits
 map-length z m e = eqb-true (length m) (disks z) (and-left (eqb (length m) (disks z)) _ e)
-
--- ---- bytes
-
--- Where a disk's byte stands in the array.
-pub byte-whole : (B : ℕ) (a : List ℕ) (d p : ℕ) → byte (whole B) a d p ≡ getD a (d * B + p) 0
-unfolding byte whole
-byte-whole B a d p = rw zero-add
-
--- Where all bytes of an array are below 256, so is the byte that is read at any place, also outside the array.
-pub small-byte : (a : List ℕ) → ((i : ℕ) → i < length a → getD a i 0 < 256) → (x : Stretch) (d p : ℕ) → byte x a d p < 256
-unfolding byte
-small-byte a small x d p = go (d * x .block + (x .offset + p)) (decLt _ (length a))
-  where
-    go : (i : ℕ) → Dec (i < length a) → getD a i 0 < 256
-    go i (yes h) = small i h
-    go i (no h) = let out = List·getD-eq-default a 0 {n = i} (omega arith) in omega arith
-
--- What holds of each byte of each of n blocks holds of every byte, and so for an array's disks.
-pub by-block : (n B : ℕ) (P : ℕ → Type 0) → ((d p : ℕ) → d < n → p < B → P (d * B + p)) → (i : ℕ) → i < n * B → P i
-by-block n B P all i l =
-    let some : 0 < B = pos-of-ne-zero (λ q. let none : n * B ≡ 0 = ap (λ (k : ℕ). n * k) q ∙ mul-zero n in omega arith) in
-    subst P (div-add-mod' i B) (all (i / B) (i % B) (div-lt-iff-lt-mul {k = B} some .1 l) (mod-lt i some))
 
 pub by-byte : (z : Size) (B : ℕ) (P : ℕ → Type 0) → ((d p : ℕ) → d < disks z → p < B → P (d * B + p)) → (i : ℕ) → i < arrayBytes z B → P i
 unfolding arrayBytes
@@ -336,3 +325,20 @@ module _ (z : Size) (B : ℕ) (f : ℕ → ℕ → ℕ) where
 
   pub byte-arrayOf : (d p : ℕ) → d < disks z → p < B → byte (whole B) (arrayOf z B f) d p ≡ f d p
   byte-arrayOf d p l b = byte-whole B (arrayOf z B f) d p ∙ array-at d p l b
+
+-- The block of a disk lies within the array.
+pub block-within : (z : Size) (B len : ℕ) → len ≡ arrayBytes z B → (d : ℕ) → d < disks z → d * B + B ≤ len
+unfolding arrayBytes
+block-within z B len long d below = let end = block-before B below in omega arith
+
+-- Where the stretch is the whole block, nothing is left of the array.
+pub changed-whole : (z : Size) (B : ℕ) (a : List ℕ) (f : ℕ → ℕ → ℕ) → length a ≡ arrayBytes z B → changed (whole B) a f ≡ arrayOf z B f
+unfolding whole arrayBytes
+changed-whole z B a f long =
+    array-is z B f (changed (whole B) a f) (length-changed (whole B) a f ∙ long)
+    (λ d p l h. sym (byte-whole B (changed (whole B) a f) d p) ∙ byte-changed (whole B) (whole-inside B) (disks z) a long f d p l h)
+
+-- An array of the right length holds a block for each disk of the layout.
+pub layout-sized : (z : Size) (base B : ℕ) (a : List ℕ) → length a ≡ arrayBytes z B → length a ≡ layoutOf z base .disks * whole B .block
+unfolding arrayBytes whole
+layout-sized z base B a long = long ∙ ap (λ (n : ℕ). n * B) (sym (layout-disks z base))

@@ -10,13 +10,13 @@ use borrow.Author.Tests.{ne-eqb}
 use lib.Dec.{leb}
 use lib.ListN.{length, getD, take, drop, length-take, length-drop}
 use lib.Seq.{take-all, getD-take}
-use Rattle.model.specs.Fold.{every}
+use Rattle.stripes.specs.Fold.{every}
 use Rattle.model.specs.Grid.{rectangle, disks, sizeFits, mapFits}
 use Rattle.model.specs.Refusal.{refusal}
 use Rattle.model.specs.Listing.{decimal, refusedWord, listing}
-use Rattle.model.specs.Rebuild.{sheetTests, planTests}
+use Rattle.model.specs.Plan.{sheetTests, planTests}
 use Rattle.model.specs.declared.Size.{Size}
-use Rattle.model.proofs.Fold.{lt-or-le}
+use Rattle.stripes.proofs.Fold.{lt-or-le}
 use Rattle.model.proofs.Grid.{size-fits, disks-bound}
 use Rattle.model.proofs.Refusal.{given-refused, fails, passes, by-test}
 use Rattle.model.proofs.Accept.{sheet-small}

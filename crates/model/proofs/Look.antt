@@ -13,7 +13,7 @@ use Rattle.model.specs.Grid.{disks, mapFits}
 use Rattle.model.specs.Refusal.{refusal, arrayTests}
 use Rattle.model.specs.Array.{canLook, lookLength}
 use Rattle.model.specs.declared.Size.{Size}
-use Rattle.model.proofs.Fold.{by-cases, and-left, and-right, and-both}
+use Rattle.stripes.proofs.Fold.{by-cases, and-left, and-right, and-both}
 use Rattle.model.proofs.Grid.{block-fits}
 use Rattle.model.proofs.Refusal.{array-fits}
 

@@ -11,17 +11,18 @@ use native.Mathlib.Omega.{arith}
 use borrow.Author.Tests.{eq-eqb, eqb-true, eqb-false}
 use lib.Dec.{eqb}
 use lib.ListN.{length}
-use Rattle.model.specs.Fold.{count}
-use Rattle.model.specs.Stripes.{Layout, on}
-use Rattle.model.specs.Grid.{rows, columns, across, gridOf, disks, diskAt, sizeFits}
-use Rattle.model.specs.Repair.{Entry, fatal}
-use Rattle.model.specs.Cycle.{diskOf, stripeOf, following, Cycle, Loop, shownCycle}
+use Rattle.stripes.specs.Fold.{count}
+use Rattle.stripes.specs.System.{Layout, on}
+use Rattle.stripes.specs.Repair.{Entry, fatal, diskOf, stripeOf}
+use Rattle.stripes.specs.Cycle.{following, Cycle, shownCycle}
+use Rattle.model.specs.Grid.{rows, columns, across, layoutOf, disks, diskAt, sizeFits}
+use Rattle.model.specs.Loop.{Loop}
 use Rattle.model.specs.declared.Size.{Size}
-use Rattle.model.proofs.Fold.{by-cases, lt-or-le, count-ext}
-use Rattle.model.proofs.Grid.{Fits, size-fits, grid-disks, gridOf-two, disk-is, row-within, column-within, on-row, on-column}
-use Rattle.model.proofs.Degree.{two-each}
-use Rattle.model.proofs.Counts.{count-different}
-use Rattle.model.proofs.Trace.{following-last, following-inner, following-is, following-below, cycle-fatal, shown}
+use Rattle.stripes.proofs.Fold.{by-cases, lt-or-le, count-ext}
+use Rattle.stripes.proofs.Degree.{two-each}
+use Rattle.stripes.proofs.Counts.{count-different}
+use Rattle.stripes.proofs.Trace.{following-last, following-inner, following-is, following-below, cycle-fatal, shown}
+use Rattle.model.proofs.Grid.{Fits, size-fits, layout-disks, layout-two, disk-is, row-within, column-within, on-row, on-column}
 
 -- ---- the stripes of a cycle
 
@@ -48,67 +49,67 @@ module _ (L : Layout) (e : ℕ → Bool) (w : List Entry) (y : Cycle L e w) wher
       }
 
 -- ---- the stripes of a disk are its row and its column
-module _ (z : Size) (fits : sizeFits z ≡ true) (d : ℕ) (l : d < disks z) where
-  -- Rows have numbers below 16.
-  row-small : d / across z < 16
-  row-small = let f : Fits z = size-fits z fits in let r = row-within z d l in omega arith
+module _ (z : Size) (base : ℕ) (above : rows z < base) (d : ℕ) (l : d < disks z) where
+  -- Rows have numbers below base.
+  row-small : d / across z < base
+  row-small = let r = row-within z d l in omega arith
 
-  own-row : on (gridOf z) d (d / across z) ≡ true
-  own-row = on-row z d (d / across z) row-small ∙ eq-eqb (d / across z) (d / across z) refl
+  own-row : on (layoutOf z base) d (d / across z) ≡ true
+  own-row = on-row z base d (d / across z) row-small ∙ eq-eqb (d / across z) (d / across z) refl
 
-  own-column : on (gridOf z) d (16 + d % across z) ≡ true
-  own-column = on-column z (size-fits z fits) d (d % across z) l ∙ eq-eqb (d % across z) (d % across z) refl
+  own-column : on (layoutOf z base) d (base + d % across z) ≡ true
+  own-column = on-column z base above d (d % across z) l ∙ eq-eqb (d % across z) (d % across z) refl
 
-  is-row : (s : ℕ) → on (gridOf z) d s ≡ true → s < 16 → s ≡ d / across z
-  is-row s h b = eqb-true s (d / across z) (sym (on-row z d s b) ∙ h)
+  is-row : (s : ℕ) → on (layoutOf z base) d s ≡ true → s < base → s ≡ d / across z
+  is-row s h b = eqb-true s (d / across z) (sym (on-row z base d s b) ∙ h)
 
-  is-column : (s : ℕ) → on (gridOf z) d s ≡ true → 16 ≤ s → s ≡ 16 + d % across z
+  is-column : (s : ℕ) → on (layoutOf z base) d s ≡ true → base ≤ s → s ≡ base + d % across z
   is-column s h b =
-      let q : 16 + (s - 16) ≡ s = add-sub-of-le b in
-      let c = eqb-true (s - 16) (d % across z) (sym (on-column z (size-fits z fits) d (s - 16) l) ∙ ap (on (gridOf z) d) q ∙ h) in
+      let q : base + (s - base) ≡ s = add-sub-of-le b in
+      let c = eqb-true (s - base) (d % across z) (sym (on-column z base above d (s - base) l) ∙ ap (on (layoutOf z base) d) q ∙ h) in
       omega arith
 
 -- ---- the rows and columns of a loop
 
 -- Each one touched holds two disks, so there are at most twice as many disks as rows, and as columns.
-pub loop-bound : (z : Size) (e : ℕ → Bool) (w : List Entry) → Loop z e w → (length w ≤ 2 * (rows z + 1)) × (length w ≤ 2 * (columns z + 1))
-loop-bound z e w y = (
+pub loop-bound : (z : Size) (base : ℕ) (e : ℕ → Bool) (w : List Entry) → Loop z base e w → (length w ≤ 2 * (rows z + 1)) × (length w ≤ 2 * (columns z + 1))
+loop-bound z base e w y = (
   two-each (length w) (rows z + 1) (λ i. diskOf w i / across z) (λ i l. let b = row-within z (diskOf w i) (y .disk i l) in omega arith) (y .twoInRow),
   two-each (length w) (columns z + 1) (λ i. diskOf w i % across z) (λ i l. let b = column-within z (diskOf w i) in omega arith) (y .twoInColumn),
 )
 
 -- ---- a cycle of a grid is a loop: rows and columns in turn
-module _ (z : Size) (fits : sizeFits z ≡ true) (e : ℕ → Bool) (w : List Entry) (y : Cycle (gridOf z) e w) where
+module _ (z : Size) (base : ℕ) (above : rows z < base) (e : ℕ → Bool) (w : List Entry) (y : Cycle (layoutOf z base) e w) where
   inside : (i : ℕ) → i < length w → diskOf w i < disks z
-  inside i l = subst (λ (n : ℕ). diskOf w i < n) (grid-disks z) (y .disk i l)
+  inside i l = subst (λ (n : ℕ). diskOf w i < n) (layout-disks z base) (y .disk i l)
 
   -- A disk left along its row shares it with the next, which is left along its column, and the other way round.
-  by-row : (i : ℕ) → i < length w → stripeOf w i < 16 → Turn (λ d. d / across z) (λ s. 16 ≤ s) w i
-  by-row = turn (gridOf z) e w y (λ d. d / across z) (λ s. s < 16) (λ s. 16 ≤ s) (λ s. lt-or-le s 16) (λ i l. is-row z fits (diskOf w i) (inside i l))
+  by-row : (i : ℕ) → i < length w → stripeOf w i < base → Turn (λ d. d / across z) (λ s. base ≤ s) w i
+  by-row = turn (layoutOf z base) e w y (λ d. d / across z) (λ s. s < base) (λ s. base ≤ s) (λ s. lt-or-le s base) (λ i l. is-row z base above (diskOf w i) (inside i l))
 
-  by-column : (i : ℕ) → i < length w → 16 ≤ stripeOf w i → Turn (λ d. 16 + d % across z) (λ s. s < 16) w i
+  by-column : (i : ℕ) → i < length w → base ≤ stripeOf w i → Turn (λ d. base + d % across z) (λ s. s < base) w i
   by-column =
-      turn (gridOf z) e w y (λ d. 16 + d % across z) (λ s. 16 ≤ s) (λ s. s < 16) (λ s. ⊎-elim inr inl (lt-or-le s 16))
-      (λ i l. is-column z fits (diskOf w i) (inside i l))
+      turn (layoutOf z base) e w y (λ d. base + d % across z) (λ s. base ≤ s) (λ s. s < base) (λ s. ⊎-elim inr inl (lt-or-le s base))
+      (λ i l. is-column z base above (diskOf w i) (inside i l))
 
   -- The first is left along its row, the second along its column, and so on.
-  in-turn : (i : ℕ) → i < length w → ((i % 2 ≡ 0) × (stripeOf w i < 16)) ⊎ ((i % 2 ≡ 1) × (16 ≤ stripeOf w i))
+  in-turn : (i : ℕ) → i < length w → ((i % 2 ≡ 0) × (stripeOf w i < base)) ⊎ ((i % 2 ≡ 1) × (base ≤ stripeOf w i))
   in-turn zero l =
-      let low = y .lowerFirst (diskOf w 0 / across z) (own-row z fits (diskOf w 0) (inside 0 l)) in
-      let r = row-small z fits (diskOf w 0) (inside 0 l) in
+      let low = y .lowerFirst (diskOf w 0 / across z) (own-row z base above (diskOf w 0) (inside 0 l)) in
+      let r = row-small z base above (diskOf w 0) (inside 0 l) in
       inl (refl, omega arith)
   in-turn (suc i) l =
       let b : i < length w = le-of-suc-le l in
       let step : following w i ≡ suc i = following-inner w i l in
       ⊎-elim
-      (λ p. inr (omega (arith, p .0), subst (λ (k : ℕ). 16 ≤ stripeOf w k) step (by-row i b (p .1) .next)))
-      (λ p. inl (omega (arith, p .0), subst (λ (k : ℕ). stripeOf w k < 16) step (by-column i b (p .1) .next)))
+      (λ p. inr (omega (arith, p .0), subst (λ (k : ℕ). base ≤ stripeOf w k) step (by-row i b (p .1) .next)))
+      (λ p. inl (omega (arith, p .0), subst (λ (k : ℕ). stripeOf w k < base) step (by-column i b (p .1) .next)))
       (in-turn i b)
 
-  row-turn : (i : ℕ) → i < length w → i % 2 ≡ 0 → Turn (λ d. d / across z) (λ s. 16 ≤ s) w i
+  row-turn : (i : ℕ) → i < length w → i % 2 ≡ 0 → Turn (λ d. d / across z) (λ s. base ≤ s) w i
   row-turn i l h = ⊎-elim (λ p. by-row i l (p .1)) (λ p. absurd (omega (arith, p .0))) (in-turn i l)
 
-  column-turn : (i : ℕ) → i < length w → i % 2 ≡ 1 → Turn (λ d. 16 + d % across z) (λ s. s < 16) w i
+  column-turn : (i : ℕ) → i < length w → i % 2 ≡ 1 → Turn (λ d. base + d % across z) (λ s. s < base) w i
   column-turn i l h = ⊎-elim (λ p. absurd (omega (arith, p .0))) (λ p. by-column i l (p .1)) (in-turn i l)
 
   -- The last shares a column with the first, which is left along its row: so their number is even.
@@ -117,11 +118,11 @@ module _ (z : Size) (fits : sizeFits z ≡ true) (e : ℕ → Bool) (w : List En
       let some = y .some in
       let m : ℕ = length w - 1 in
       let l : m < length w = omega arith in
-      let first : stripeOf w 0 < 16 = ⊎-elim (λ p. p .1) (λ p. absurd (omega (arith, p .0))) (in-turn 0 some) in
+      let first : stripeOf w 0 < base = ⊎-elim (λ p. p .1) (λ p. absurd (omega (arith, p .0))) (in-turn 0 some) in
       let back : following w m ≡ 0 = following-last w m (omega arith) in
       ⊎-elim
       (λ p.
-      let n : 16 ≤ stripeOf w 0 = subst (λ (k : ℕ). 16 ≤ stripeOf w k) back (by-row m l (p .1) .next) in
+      let n : base ≤ stripeOf w 0 = subst (λ (k : ℕ). base ≤ stripeOf w k) back (by-row m l (p .1) .next) in
       absurd (omega arith))
       (λ p. omega (arith, p .0))
       (in-turn m l)
@@ -143,7 +144,7 @@ module _ (z : Size) (fits : sizeFits z ≡ true) (e : ℕ → Bool) (w : List En
           let row : diskOf w 1 / across z ≡ diskOf w 0 / across z =
           ap (λ (k : ℕ). diskOf w k / across z) (sym next) ∙ row-turn 0 a refl .shared in
           let column : diskOf w 1 % across z ≡ diskOf w 0 % across z =
-          sym (add-left-cancel 16 (column-turn 1 b refl .shared)) ∙ ap (λ (k : ℕ). diskOf w k % across z) back in
+          sym (add-left-cancel base (column-turn 1 b refl .shared)) ∙ ap (λ (k : ℕ). diskOf w k % across z) back in
           let same : _≡_ {A = ℕ} 1 0 =
           y .different 1 0 b a (disk-is z (diskOf w 1) ∙ ap₂ (diskAt z) row column ∙ sym (disk-is z (diskOf w 0))) in
           omega arith
@@ -152,16 +153,16 @@ module _ (z : Size) (fits : sizeFits z ≡ true) (e : ℕ → Bool) (w : List En
   two-in-row : (i : ℕ) → i < length w → count (length w) (λ j. eqb (diskOf w i / across z) (diskOf w j / across z)) ≡ 2
   two-in-row i l =
       let d : ℕ = diskOf w i in
-      count-ext (length w) (λ j k. sym (on-row z (diskOf w j) (d / across z) (row-small z fits d (inside i l))))
-      ∙ y .two i l (d / across z) (own-row z fits d (inside i l))
+      count-ext (length w) (λ j k. sym (on-row z base (diskOf w j) (d / across z) (row-small z base above d (inside i l))))
+      ∙ y .two i l (d / across z) (own-row z base above d (inside i l))
 
   two-in-column : (i : ℕ) → i < length w → count (length w) (λ j. eqb (diskOf w i % across z) (diskOf w j % across z)) ≡ 2
   two-in-column i l =
       let d : ℕ = diskOf w i in
-      count-ext (length w) (λ j k. sym (on-column z (size-fits z fits) (diskOf w j) (d % across z) (inside j k)))
-      ∙ y .two i l (16 + d % across z) (own-column z fits d (inside i l))
+      count-ext (length w) (λ j k. sym (on-column z base above (diskOf w j) (d % across z) (inside j k)))
+      ∙ y .two i l (base + d % across z) (own-column z base above d (inside i l))
 
-  pub loop-is : Loop z e w
+  pub loop-is : Loop z base e w
   loop-is =
       record {
         disk = inside;
@@ -170,43 +171,43 @@ module _ (z : Size) (fits : sizeFits z ≡ true) (e : ℕ → Bool) (w : List En
         long = cycle-long;
         even = cycle-even;
         row = λ i l h. let t = row-turn i l h in (t .left, t .shared);
-        column = λ i l h. let t = column-turn i l h in (t .left, add-left-cancel 16 (t .shared));
+        column = λ i l h. let t = column-turn i l h in (t .left, add-left-cancel base (t .shared));
         twoInRow = two-in-row;
         twoInColumn = two-in-column;
         lowestFirst = y .lowestFirst;
       }
 
   -- So its disks fit a sheet.
-  pub loop-fits : length w ≤ 32
-  loop-fits = let f : Fits z = size-fits z fits in let b = loop-bound z e w loop-is .0 in omega arith
+  pub loop-fits : sizeFits z ≡ true → length w ≤ 32
+  loop-fits fits = let f : Fits z = size-fits z fits in let b = loop-bound z base e w loop-is .0 in omega arith
 
 -- ---- a loop is a cycle
-module _ (z : Size) (fits : sizeFits z ≡ true) (e : ℕ → Bool) (w : List Entry) (y : Loop z e w) where
+module _ (z : Size) (base : ℕ) (above : rows z < base) (e : ℕ → Bool) (w : List Entry) (y : Loop z base e w) where
   -- A disk that is left along its row, or along its column, and the next disk.
   record Leaves (Kind : ℕ → Type 0) (i : ℕ) : Type 0 where
     kind : Kind (stripeOf w i)
-    here : on (gridOf z) (diskOf w i) (stripeOf w i) ≡ true
-    there : on (gridOf z) (diskOf w (following w i)) (stripeOf w i) ≡ true
+    here : on (layoutOf z base) (diskOf w i) (stripeOf w i) ≡ true
+    there : on (layoutOf z base) (diskOf w (following w i)) (stripeOf w i) ≡ true
 
-  leaves : (f : ℕ → ℕ) (Kind : ℕ → Type 0) → ((d : ℕ) → d < disks z → Kind (f d)) → ((d : ℕ) → d < disks z → on (gridOf z) d (f d) ≡ true)
+  leaves : (f : ℕ → ℕ) (Kind : ℕ → Type 0) → ((d : ℕ) → d < disks z → Kind (f d)) → ((d : ℕ) → d < disks z → on (layoutOf z base) d (f d) ≡ true)
       → (i : ℕ) → i < length w → stripeOf w i ≡ f (diskOf w i) → f (diskOf w (following w i)) ≡ f (diskOf w i) → Leaves Kind i
   leaves f Kind kinds own i l left shared =
       let k : ℕ = following w i in
       record {
         kind = subst Kind (sym left) (kinds (diskOf w i) (y .disk i l));
-        here = ap (on (gridOf z) (diskOf w i)) left ∙ own (diskOf w i) (y .disk i l);
-        there = ap (on (gridOf z) (diskOf w k)) (left ∙ sym shared) ∙ own (diskOf w k) (y .disk k (following-below w i l));
+        here = ap (on (layoutOf z base) (diskOf w i)) left ∙ own (diskOf w i) (y .disk i l);
+        there = ap (on (layoutOf z base) (diskOf w k)) (left ∙ sym shared) ∙ own (diskOf w k) (y .disk k (following-below w i l));
       }
 
-  leaves-row : (i : ℕ) → i < length w → i % 2 ≡ 0 → Leaves (λ s. s < 16) i
+  leaves-row : (i : ℕ) → i < length w → i % 2 ≡ 0 → Leaves (λ s. s < base) i
   leaves-row i l h =
       let (left, shared) = y .row i l h in
-      leaves (λ d. d / across z) (λ s. s < 16) (row-small z fits) (own-row z fits) i l left shared
+      leaves (λ d. d / across z) (λ s. s < base) (row-small z base above) (own-row z base above) i l left shared
 
-  leaves-column : (i : ℕ) → i < length w → i % 2 ≡ 1 → Leaves (λ s. 16 ≤ s) i
+  leaves-column : (i : ℕ) → i < length w → i % 2 ≡ 1 → Leaves (λ s. base ≤ s) i
   leaves-column i l h =
       let (left, shared) = y .column i l h in
-      leaves (λ d. 16 + d % across z) (λ s. 16 ≤ s) (λ d k. omega arith) (own-column z fits) i l left (ap (λ (c : ℕ). 16 + c) shared)
+      leaves (λ d. base + d % across z) (λ s. base ≤ s) (λ d k. omega arith) (own-column z base above) i l left (ap (λ (c : ℕ). base + c) shared)
 
   -- Even and odd numbers take turns, also from the last to the first.
   odd-next : (i : ℕ) → i < length w → i % 2 ≡ 0 → following w i % 2 ≡ 1
@@ -227,31 +228,31 @@ module _ (z : Size) (fits : sizeFits z ≡ true) (e : ℕ → Bool) (w : List En
       (λ h. let r = leaves-row i l h .kind in let c = leaves-column k b (odd-next i l h) .kind in omega arith)
       (λ h. let c = leaves-column i l h .kind in let r = leaves-row k b (even-next i l h) .kind in omega arith)
 
-  two-on : (i : ℕ) → i < length w → (s : ℕ) → on (gridOf z) (diskOf w i) s ≡ true → count (length w) (λ j. on (gridOf z) (diskOf w j) s) ≡ 2
-  two-on i l s h = ⊎-elim row column (lt-or-le s 16)
+  two-on : (i : ℕ) → i < length w → (s : ℕ) → on (layoutOf z base) (diskOf w i) s ≡ true → count (length w) (λ j. on (layoutOf z base) (diskOf w j) s) ≡ 2
+  two-on i l s h = ⊎-elim row column (lt-or-le s base)
     where
       d : ℕ
       d = diskOf w i
 
-      row : s < 16 → count (length w) (λ j. on (gridOf z) (diskOf w j) s) ≡ 2
+      row : s < base → count (length w) (λ j. on (layoutOf z base) (diskOf w j) s) ≡ 2
       row b =
-          count-ext (length w) (λ j k. on-row z (diskOf w j) s b ∙ ap (λ (r : ℕ). eqb r (diskOf w j / across z)) (is-row z fits d (y .disk i l) s h b))
+          count-ext (length w) (λ j k. on-row z base (diskOf w j) s b ∙ ap (λ (r : ℕ). eqb r (diskOf w j / across z)) (is-row z base above d (y .disk i l) s h b))
           ∙ y .twoInRow i l
 
-      column : 16 ≤ s → count (length w) (λ j. on (gridOf z) (diskOf w j) s) ≡ 2
+      column : base ≤ s → count (length w) (λ j. on (layoutOf z base) (diskOf w j) s) ≡ 2
       column b =
           count-ext (length w) (λ j k.
-          ap (on (gridOf z) (diskOf w j)) (is-column z fits d (y .disk i l) s h b)
-          ∙ on-column z (size-fits z fits) (diskOf w j) (d % across z) (y .disk j k))
+          ap (on (layoutOf z base) (diskOf w j)) (is-column z base above d (y .disk i l) s h b)
+          ∙ on-column z base above (diskOf w j) (d % across z) (y .disk j k))
           ∙ y .twoInColumn i l
 
-  pub loop-cycle : Cycle (gridOf z) e w
+  pub loop-cycle : Cycle (layoutOf z base) e w
   loop-cycle =
       let long = y .long in
       let some : 0 < length w = omega arith in
       record {
         some = some;
-        disk = λ i l. subst (λ (n : ℕ). diskOf w i < n) (sym (grid-disks z)) (y .disk i l);
+        disk = λ i l. subst (λ (n : ℕ). diskOf w i < n) (sym (layout-disks z base)) (y .disk i l);
         erased = y .erased;
         different = y .different;
         here = λ i l. by-turn _ i (λ h. leaves-row i l h .here) (λ h. leaves-column i l h .here);
@@ -263,33 +264,26 @@ module _ (z : Size) (fits : sizeFits z ≡ true) (e : ℕ → Bool) (w : List En
             λ s h.
             let first = leaves-row 0 some refl .kind in
             let row = y .row 0 some refl .0 in
-            ⊎-elim (λ b. let q = is-row z fits (diskOf w 0) (y .disk 0 some) s h b in omega arith) (λ b. omega arith) (lt-or-le s 16);
+            ⊎-elim (λ b. let q = is-row z base above (diskOf w 0) (y .disk 0 some) s h b in omega arith) (λ b. omega arith) (lt-or-le s base);
       }
 
 -- ---- fatal losses of a grid
 
-module _ (z : Size) (fits : sizeFits z ≡ true) (e : ℕ → Bool) where
-  -- A fatal loss is shown by a loop.
-  pub shown-loop : fatal (gridOf z) e ≡ true → Loop z e (shownCycle (gridOf z) e)
-  shown-loop lossy = loop-is z fits e (shownCycle (gridOf z) e) (shown (gridOf z) (gridOf-two z fits) e lossy)
-
-  pub shown-fits : fatal (gridOf z) e ≡ true → length (shownCycle (gridOf z) e) ≤ 32
-  shown-fits lossy = loop-fits z fits e (shownCycle (gridOf z) e) (shown (gridOf z) (gridOf-two z fits) e lossy)
-
-  -- So a loss is fatal exactly if there is a loop of erased disks.
-  pub grid-fatal-loop : (fatal (gridOf z) e ≡ true) ↔ ((w : List Entry) × Loop z e w)
-  grid-fatal-loop = (
-    λ lossy. (shownCycle (gridOf z) e, shown-loop lossy),
-    λ (w, y). cycle-fatal (gridOf z) e w (loop-cycle z fits e w y),
+module _ (z : Size) (base : ℕ) (above : rows z < base) (e : ℕ → Bool) where
+  -- A loss is fatal exactly if there is a loop of erased disks.
+  pub fatal-loop : (fatal (layoutOf z base) e ≡ true) ↔ ((w : List Entry) × Loop z base e w)
+  fatal-loop = (
+    λ lossy. (_, loop-is z base above e _ (shown (layoutOf z base) (layout-two z base above) e lossy)),
+    λ (w, y). cycle-fatal (layoutOf z base) e w (loop-cycle z base above e w y),
   )
 
   -- The loss of three disks or fewer is never fatal: a loop has four.
-  pub three : count (disks z) e ≤ 3 → fatal (gridOf z) e ≡ false
+  pub three : count (disks z) e ≤ 3 → fatal (layoutOf z base) e ≡ false
   three few =
-      by-cases (λ (b : Bool). b ≡ false) (fatal (gridOf z) e)
+      by-cases (λ (b : Bool). b ≡ false) (fatal (layoutOf z base) e)
       (λ lossy.
-      let y : Loop z e (shownCycle (gridOf z) e) = shown-loop lossy in
+      let (w, y) = fatal-loop .0 lossy in
       let long = y .long in
-      let erased = count-different (length (shownCycle (gridOf z) e)) (disks z) e (diskOf (shownCycle (gridOf z) e)) (y .disk) (y .erased) (y .different) in
+      let erased = count-different (length w) (disks z) e (diskOf w) (y .disk) (y .erased) (y .different) in
       absurd (omega arith))
       (λ lossy. refl)

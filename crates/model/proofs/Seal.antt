@@ -8,15 +8,16 @@ use native.Mathlib.Nat.{le-refl, le-of-lt}
 use borrow.Author.Tests.{lt-ltb, le-ltb}
 use lib.Dec.{ltb}
 use lib.ListN.{length, getD}
-use Rattle.model.specs.Fold.{xsum}
-use Rattle.model.specs.Stripes.{whole, byte}
+use Rattle.stripes.specs.Fold.{xsum}
+use Rattle.stripes.specs.System.{whole, byte}
 use Rattle.model.specs.Grid.{rows, columns, across, diskAt, isData, arrayBytes}
 use Rattle.model.specs.Equations.{cell, rowData, columnData, Equations}
 use Rattle.model.specs.Array.{encodedByte, encoded, sealStatus, sealArray}
 use Rattle.model.specs.declared.Size.{Size}
-use Rattle.model.proofs.Fold.{below-suc, xsum-ext, xsum-swap, xsum-byte}
+use Rattle.stripes.proofs.Fold.{below-suc, xsum-ext, xsum-swap, xsum-byte}
+use Rattle.stripes.proofs.Bytes.{byte-whole, small-byte}
 use Rattle.model.proofs.Refusal.{given-accepted, ArrayFits, array-fits}
-use Rattle.model.proofs.Grid.{column-inside, row-of, column-of, disk-is, disk-below, row-within, column-within, data-at, data-row, data-column, byte-whole, small-byte, array-length, array-is, array-all, byte-arrayOf}
+use Rattle.model.proofs.Grid.{column-inside, row-of, column-of, disk-is, disk-below, row-within, column-within, data-at, data-row, data-column, array-length, array-is, array-all, byte-arrayOf}
 
 -- A seal that is not refused has passed its tests, and makes the sealed array.
 pub seal-fits : (z : Size) (B : ℕ) (a : List ℕ) → sealStatus z B a ≡ 0 → ArrayFits z B (length a)
@@ -36,11 +37,11 @@ Same z B a b = (r c : ℕ) → r < rows z → c < columns z → (p : ℕ) → p 
 
 -- Where the data are the same, so are their sums.
 module _ (z : Size) (B : ℕ) (a b : List ℕ) (same : Same z B a b) where
-  same-row : (r : ℕ) → r < rows z → (p : ℕ) → p < B → rowData z (whole B) b p r ≡ rowData z (whole B) a p r
+  pub same-row : (r : ℕ) → r < rows z → (p : ℕ) → p < B → rowData z (whole B) b p r ≡ rowData z (whole B) a p r
   unfolding rowData
   same-row r l p h = xsum-ext (columns z) (λ c k. same r c l k p h)
 
-  same-column : (c : ℕ) → c < columns z → (p : ℕ) → p < B → columnData z (whole B) b p c ≡ columnData z (whole B) a p c
+  pub same-column : (c : ℕ) → c < columns z → (p : ℕ) → p < B → columnData z (whole B) b p c ≡ columnData z (whole B) a p c
   unfolding columnData
   same-column c k p h = xsum-ext (rows z) (λ r l. same r c l k p h)
 
@@ -92,28 +93,27 @@ module _ (z : Size) (B : ℕ) (a : List ℕ) where
               λ p h. corner p h ∙ xsum-swap (rows z) (columns z) (cell z (whole B) a p) ∙ sym (xsum-ext (columns z) (column p h));
         }
 
-    -- What has the data and keeps the equations has these bytes, and is the sealed array if its length is right.
-    bytes-of-equations : Same z B a b → Equations z (whole B) b → Has z B a b
-    unfolding whole
-    bytes-of-equations same e r c l k p h =
-        let Good : ℕ → ℕ → Type 0 = λ r c. cell z (whole B) b p r c ≡ encodedByte z B a r c p in
-        let parity : (r : ℕ) → r < rows z → cell z (whole B) b p r (columns z) ≡ rowData z (whole B) a p r =
-        λ r w. e .rowParity p h r w ∙ same-row z B a b same r w p h in
-        below-suc (λ r. Good r c) (rows z)
-        (λ r w.
-        below-suc (λ c. Good r c) (columns z) (λ c v. same r c w v p h ∙ sym (byte-data r c p w v)) (parity r w ∙ sym (byte-P r p w)) c (suc-le-suc k))
-        (below-suc (λ c. Good (rows z) c) (columns z)
-        (λ c v. e .columnParity p h c v ∙ same-column z B a b same c v p h ∙ sym (byte-Q c p v))
-        (e .superparityOfRows p h ∙ xsum-ext (rows z) parity ∙ sym (byte-S p))
-        c (suc-le-suc k))
-        r (suc-le-suc l)
+    -- An array of the right length that has these bytes, kind by kind of disk, is the sealed array.
+    module _ (long : length b ≡ arrayBytes z B) (same : Same z B a b) where
+      pub encoded-is : ((p : ℕ) → p < B → (r : ℕ) → r < rows z → cell z (whole B) b p r (columns z) ≡ rowData z (whole B) a p r)
+          → ((p : ℕ) → p < B → (c : ℕ) → c < columns z → cell z (whole B) b p (rows z) c ≡ columnData z (whole B) a p c)
+          → ((p : ℕ) → p < B → cell z (whole B) b p (rows z) (columns z) ≡ xsum (rows z) (rowData z (whole B) a p)) → b ≡ encoded z B a
+      unfolding encoded cell
+      encoded-is P Q S =
+          array-is z B _ b long (λ d p l h.
+          let Good : ℕ → ℕ → Type 0 = λ r c. cell z (whole B) b p r c ≡ encodedByte z B a r c p in
+          sym (byte-whole B b d p) ∙ ap (λ (k : ℕ). byte (whole B) b k p) (disk-is z d)
+          ∙ below-suc (λ r. Good r (d % across z)) (rows z)
+          (λ r w. below-suc (Good r) (columns z) (λ c v. same r c w v p h ∙ sym (byte-data r c p w v)) (P p h r w ∙ sym (byte-P r p w)) _ (suc-le-suc (column-within z d)))
+          (below-suc (Good (rows z)) (columns z) (λ c v. Q p h c v ∙ sym (byte-Q c p v)) (S p h ∙ sym (byte-S p)) _ (suc-le-suc (column-within z d)))
+          (d / across z) (suc-le-suc (row-within z d l)))
 
-    pub encoded-exact : length b ≡ arrayBytes z B → Same z B a b → Equations z (whole B) b → b ≡ encoded z B a
-    unfolding encoded cell
-    encoded-exact long same e =
-        array-is z B _ b long (λ d p l h.
-        sym (byte-whole B b d p) ∙ ap (λ (k : ℕ). byte (whole B) b k p) (disk-is z d)
-        ∙ bytes-of-equations same e (d / across z) (d % across z) (row-within z d l) (column-within z d) p h)
+      -- So is one that has the data and keeps the equations.
+      pub encoded-exact : Equations z (whole B) b → b ≡ encoded z B a
+      unfolding whole
+      encoded-exact e =
+          encoded-is (λ p h r w. e .rowParity p h r w ∙ same-row z B a b same r w p h) (λ p h c v. e .columnParity p h c v ∙ same-column z B a b same c v p h)
+          (λ p h. e .superparityOfRows p h ∙ xsum-ext (rows z) (λ r w. e .rowParity p h r w ∙ same-row z B a b same r w p h))
 
   -- A sealed array has the right length, the data and the equations.
   pub encoded-length : length (encoded z B a) ≡ arrayBytes z B

@@ -10,16 +10,17 @@ use native.Mathlib.Omega.{arith}
 use borrow.Author.Tests.{eq-eqb, ne-eqb, eqb-true}
 use lib.Dec.{eqb}
 use lib.ListN.{length, getD}
-use Rattle.model.specs.Fold.{_⊕_, xsum, gate}
-use Rattle.model.specs.Stripes.{Layout, whole, byte, sumOver, stripeSum}
-use Rattle.model.specs.Grid.{rows, columns, across, gridOf, disks, diskAt, isData, arrayBytes}
+use Rattle.stripes.specs.Fold.{_⊕_, xsum, gate}
+use Rattle.stripes.specs.System.{whole, byte, sumOver, stripeSum}
+use Rattle.model.specs.Grid.{rows, columns, across, layoutOf, columnBase, disks, diskAt, isData, arrayBytes}
 use Rattle.model.specs.Equations.{cell, Equations}
 use Rattle.model.specs.Refusal.{_unless_, refusal, arrayTests}
 use Rattle.model.specs.Array.{writeTests, isParityOf, writtenByte, written, replaced, writeStatus, writeArray, encoded, sealStatus}
 use Rattle.model.specs.declared.Size.{Size}
-use Rattle.model.proofs.Xor.{⊕-self, ⊕-zero, ⊕-cancel}
-use Rattle.model.proofs.Fold.{xsum-ext, xsum-⊕, xsum-only, gate-⊕}
-use Rattle.model.proofs.Grid.{Fits, size-fits, row-over, column-over, empty-over, grid-disks, by-stripe, disk-is, disk-below, eqb-disk, data-row, data-column, data-below, array-length, byte-arrayOf}
+use Rattle.stripes.proofs.Xor.{⊕-self, ⊕-zero, ⊕-cancel}
+use Rattle.stripes.proofs.Fold.{xsum-ext, xsum-only}
+use Rattle.stripes.proofs.Sums.{sumOver-ext, sumOver-⊕}
+use Rattle.model.proofs.Grid.{row-over, column-over, empty-over, layout-disks, by-stripe, disk-is, disk-below, eqb-disk, data-row, data-column, data-below, array-length, byte-arrayOf, rows-below}
 use Rattle.model.proofs.Equations.{equations-iff-sums}
 use Rattle.model.proofs.Refusal.{given-accepted, passed, passes, fails, refused-first, ArrayFits, array-tests, array-passed, array-accepted}
 use Rattle.model.proofs.Seal.{Same, encoded-exact}
@@ -61,15 +62,6 @@ module _ (z : Size) (B : ℕ) (a : List ℕ) (d : ℕ) (new : List ℕ) where
     unfolding writeStatus writeTests refusal
     status-none h k = array-passed z B (length a) fits _ ∙ simp (h, eq-eqb (length new) B k)
 
--- Sums over a stripe: of equal functions, and of an exclusive or.
-pub sumOver-ext : (L : Layout) {f g : ℕ → ℕ} → ((d : ℕ) → d < L .disks → f d ≡ g d) → (s : ℕ) → sumOver L f s ≡ sumOver L g s
-unfolding sumOver
-sumOver-ext L h s = xsum-ext (L .disks) (λ d l. ap (gate _) (h d l))
-
-pub sumOver-⊕ : (L : Layout) (f g : ℕ → ℕ) (s : ℕ) → sumOver L (λ d. f d ⊕ g d) s ≡ sumOver L f s ⊕ sumOver L g s
-unfolding sumOver
-sumOver-⊕ L f g s = xsum-ext (L .disks) (λ d l. gate-⊕ _ (f d) (g d)) ∙ xsum-⊕ (L .disks) _ _
-
 -- The sum up to n of what is the same at j and at n, and zero elsewhere.
 two-cancel : (n j : ℕ) (g : Bool → ℕ) → j < n → g false ≡ 0 → xsum (n + 1) (λ i. g (eqb i j || eqb i n)) ≡ 0
 unfolding xsum
@@ -91,8 +83,8 @@ distribute false true x y = refl
 distribute false false x y = refl
 
 -- The four disks that writing data disk d changes: they stand in d's row or the last, and in d's column or the last.
-changed : Size → (d e : ℕ) → Bool
-changed z d e = eqb e d || isParityOf z d e
+unfoldable pub touched : Size → (d e : ℕ) → Bool
+touched z d e = eqb e d || isParityOf z d e
 
 module _ (z : Size) (d : ℕ) (isdata : isData z d ≡ true) where
   parity-at : (r c : ℕ) → c ≤ columns z
@@ -103,27 +95,27 @@ module _ (z : Size) (d : ℕ) (isdata : isData z d ≡ true) where
       let last : columns z ≤ columns z = le-refl (columns z) in
       rw (eqb-disk z r c (d / across z) (columns z) k last, eqb-disk z r c (rows z) (d % across z) k j, eqb-disk z r c (rows z) (columns z) k last)
 
-  changed-at : (r c : ℕ) → c ≤ columns z
-      → changed z d (diskAt z r c) ≡ ((eqb r (d / across z) || eqb r (rows z)) && (eqb c (d % across z) || eqb c (columns z)))
-  unfolding changed
-  changed-at r c k =
+  touched-at : (r c : ℕ) → c ≤ columns z
+      → touched z d (diskAt z r c) ≡ ((eqb r (d / across z) || eqb r (rows z)) && (eqb c (d % across z) || eqb c (columns z)))
+  unfolding touched
+  touched-at r c k =
       ap₂ (λ (s t : Bool). s || t)
       (ap (λ (e : ℕ). eqb (diskAt z r c) e) (disk-is z d) ∙ eqb-disk z r c _ _ k (le-of-lt (data-column z d isdata)))
       (parity-at r c k)
       ∙ distribute (eqb r (d / across z)) (eqb r (rows z)) (eqb c (d % across z)) (eqb c (columns z))
 
   -- On each stripe what they change cancels.
-  cancels : Fits z → (v s : ℕ) → s < gridOf z .stripeBound → sumOver (gridOf z) (λ e. gate (changed z d e) v) s ≡ 0
+  cancels : rows z < columnBase z → (v s : ℕ) → s < layoutOf z (columnBase z) .stripeBound → sumOver (layoutOf z (columnBase z)) (λ e. gate (touched z d e) v) s ≡ 0
   unfolding gate across
-  cancels fits v =
-      by-stripe z (λ s. sumOver (gridOf z) (λ e. gate (changed z d e) v) s ≡ 0)
+  cancels above v =
+      by-stripe z (columnBase z) (λ s. sumOver (layoutOf z (columnBase z)) (λ e. gate (touched z d e) v) s ≡ 0)
       (λ r l.
-      row-over z fits _ r l ∙ xsum-ext (across z) (λ c k. ap (λ (t : Bool). gate t v) (changed-at r c (omega arith)))
+      row-over z (columnBase z) above _ r l ∙ xsum-ext (across z) (λ c k. ap (λ (t : Bool). gate t v) (touched-at r c (omega arith)))
       ∙ two-cancel (columns z) (d % across z) (λ t. gate ((eqb r (d / across z) || eqb r (rows z)) && t) v) (data-column z d isdata)
       (ap (λ (t : Bool). gate t v) (and-false (eqb r (d / across z) || eqb r (rows z)))))
-      (λ s l b. empty-over z fits _ s l b)
+      (λ s l b. empty-over z (columnBase z) above _ s l b)
       (λ c k.
-      column-over z fits _ c k ∙ xsum-ext (rows z + 1) (λ r l. ap (λ (t : Bool). gate t v) (changed-at r c k))
+      column-over z (columnBase z) above _ c k ∙ xsum-ext (rows z + 1) (λ r l. ap (λ (t : Bool). gate t v) (touched-at r c k))
       ∙ two-cancel (rows z) (d / across z) (λ t. gate (t && (eqb c (d % across z) || eqb c (columns z))) v) (data-row z d isdata) refl)
 
   -- A data disk is none of P, Q and S.
@@ -134,8 +126,8 @@ module _ (z : Size) (d : ℕ) (isdata : isData z d ≡ true) where
 
 module _ (z : Size) (B : ℕ) (a : List ℕ) (d : ℕ) (new : List ℕ) where
   -- Writing adds the difference of the blocks on the four disks.
-  writtenByte-is : (e p : ℕ) → writtenByte z B a d new e p ≡ byte (whole B) a e p ⊕ gate (changed z d e) (byte (whole B) a d p ⊕ getD new p 0)
-  unfolding writtenByte changed gate
+  pub writtenByte-is : (e p : ℕ) → writtenByte z B a d new e p ≡ byte (whole B) a e p ⊕ gate (touched z d e) (byte (whole B) a d p ⊕ getD new p 0)
+  unfolding writtenByte touched gate
   writtenByte-is e p = go (eqb e d) (isParityOf z d e) refl
     where
       go : (s t : Bool) → eqb e d ≡ s
@@ -153,13 +145,13 @@ module _ (z : Size) (B : ℕ) (a : List ℕ) (d : ℕ) (new : List ℕ) where
   written-length = array-length z B _
 
   -- Every stripe's sum is kept.
-  pub written-sum : WriteFits z B (length a) d (length new) → (s : ℕ) → s < gridOf z .stripeBound → (p : ℕ) → p < B
-      → stripeSum (gridOf z) (whole B) (written z B a d new) s p ≡ stripeSum (gridOf z) (whole B) a s p
+  pub written-sum : WriteFits z B (length a) d (length new) → (s : ℕ) → s < layoutOf z (columnBase z) .stripeBound → (p : ℕ) → p < B
+      → stripeSum (layoutOf z (columnBase z)) (whole B) (written z B a d new) s p ≡ stripeSum (layoutOf z (columnBase z)) (whole B) a s p
   unfolding stripeSum written
   written-sum fits s l p h =
-      sumOver-ext (gridOf z) (λ e k. byte-arrayOf z B _ e p (subst (λ (n : ℕ). e < n) (grid-disks z) k) h ∙ writtenByte-is e p) s
-      ∙ sumOver-⊕ (gridOf z) _ _ s
-      ∙ ap (λ (x : ℕ). sumOver (gridOf z) (λ e. byte (whole B) a e p) s ⊕ x) (cancels z d (fits .disk) (size-fits z (fits .array .size)) _ s l)
+      sumOver-ext (layoutOf z (columnBase z)) (λ e k. byte-arrayOf z B _ e p (subst (λ (n : ℕ). e < n) (layout-disks z (columnBase z)) k) h ∙ writtenByte-is e p) s
+      ∙ sumOver-⊕ (layoutOf z (columnBase z)) _ _ s
+      ∙ ap (λ (x : ℕ). sumOver (layoutOf z (columnBase z)) (λ e. byte (whole B) a e p) s ⊕ x) (cancels z d (fits .disk) (rows-below z (fits .array .size)) _ s l)
       ∙ ⊕-zero _
 
   -- Its data are those of the array with the block replaced, so that of a sealed array it is that one sealed.
@@ -182,10 +174,10 @@ module _ (z : Size) (B : ℕ) (a : List ℕ) (d : ℕ) (new : List ℕ) where
   pub written-sealed : WriteFits z B (length a) d (length new) → Equations z (whole B) a → written z B a d new ≡ encoded z B (replaced z B a d new)
   unfolding whole
   written-sealed fits e =
-      let size = fits .array .size in
+      let above = rows-below z (fits .array .size) in
       encoded-exact z B (replaced z B a d new) (written z B a d new) written-length (written-same (fits .disk))
-      (equations-iff-sums z size (whole B) (written z B a d new) .1 (λ s l p h.
-      written-sum fits s l p h ∙ equations-iff-sums z size (whole B) a .0 e s l p h))
+      (equations-iff-sums z (columnBase z) above (whole B) (written z B a d new) .1 (λ s l p h.
+      written-sum fits s l p h ∙ equations-iff-sums z (columnBase z) above (whole B) a .0 e s l p h))
 
   -- Where the write is not refused, sealing the array with the block replaced is not refused either.
   pub replaced-status : writeStatus z B a d new ≡ 0 → sealStatus z B (replaced z B a d new) ≡ 0

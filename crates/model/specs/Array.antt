@@ -5,9 +5,9 @@ use mathlib.Core.List.{List, [], _∷_, _++_}
 use Prim.Native.Nat.{ℕ, _*_, _/_, _%_}
 use lib.Dec.{eqb, ltb}
 use lib.ListN.{length, getD}
-use Rattle.model.specs.Fold.{_⊕_, xsum, lowest}
-use Rattle.model.specs.Stripes.{whole, byte, sumsToZero}
-use Rattle.model.specs.Grid.{rows, columns, across, gridOf, disks, diskAt, isData, arrayOf, mapFits}
+use Rattle.stripes.specs.Fold.{_⊕_, xsum, lowest}
+use Rattle.stripes.specs.System.{whole, byte, sumsToZero}
+use Rattle.model.specs.Grid.{rows, columns, across, layoutOf, columnBase, disks, diskAt, isData, arrayOf, mapFits}
 use Rattle.model.specs.Equations.{rowData, columnData}
 use Rattle.model.specs.Refusal.{Test, _unless_, refusal, arrayTests}
 use Rattle.model.specs.declared.Size.{Size}
@@ -38,13 +38,13 @@ sealArray z B a = cond (eqb (sealStatus z B a) 0) (encoded z B a) a
 
 -- The lowest stripe whose sum is not zero at some place, or the bound on stripe numbers where there is none.
 unfoldable pub lowestUnsealed : Size → ℕ → List ℕ → ℕ
-lowestUnsealed z B a = lowest (gridOf z .stripeBound) (λ s. not (sumsToZero (gridOf z) (whole B) a s))
+lowestUnsealed z B a = lowest (layoutOf z (columnBase z) .stripeBound) (λ s. not (sumsToZero (layoutOf z (columnBase z)) (whole B) a s))
 
 -- What check answers.
 unfoldable pub checked : Size → ℕ → List ℕ → Checked
 checked z B a =
     cond (eqb (refusal (arrayTests z B (length a))) 0)
-    (cond (ltb (lowestUnsealed z B a) (gridOf z .stripeBound)) (Unsealed (lowestUnsealed z B a)) Sealed)
+    (cond (ltb (lowestUnsealed z B a) (layoutOf z (columnBase z) .stripeBound)) (Unsealed (lowestUnsealed z B a)) Sealed)
     (Refused (refusal (arrayTests z B (length a))))
 
 -- The number of an answer: 0 sealed, a refusal's own, and 64 for a stripe whose sum is not zero. Paper 01 gives that answer

@@ -1,40 +1,41 @@
--- Demand 3 of paper 01 as one statement about plan and rebuild on the same map, for one size, block length and array. The
--- survivors are the disks that the map has as present; x is the whole block, e the erased disks, L the grid.
+-- Demand 3 of paper 01 as one statement about plan and rebuild on the same map, over any edition of the array and format of the
+-- sheets, for one block length B and array a. The survivors are the disks that the map has as present.
 -- Assumes nothing.
 use mathlib.Core.Path.{_≡_}
-use mathlib.Core.Bool.{Bool, true}
+use mathlib.Core.Bool.{Bool}
 use mathlib.Core.Logic.{_↔_}
 use mathlib.Core.List.{List}
-use Prim.Native.Nat.{ℕ, _+_, _≤_, _<_}
-use lib.Dec.{eqb}
-use lib.ListN.{length, take}
-use Rattle.model.specs.Fold.{bit, count}
-use Rattle.model.specs.Stripes.{Layout, whole, Codeword}
-use Rattle.model.specs.Grid.{gridOf, disks, rows, columns}
-use Rattle.model.specs.Repair.{erasures, Entry, allowed, after, lost, zeroed, Agree, Belongs, Ambiguous}
-use Rattle.model.specs.Cycle.{diskOf, stripeOf, Loop}
-use Rattle.model.specs.Sheet.{sheetOf, blankSheet}
-use Rattle.model.specs.Rebuild.{outcomeStatus}
-use Rattle.model.specs.declared.Size.{Size}
+use Prim.Native.Nat.{ℕ, _≤_, _<_}
+use lib.ListN.{length}
+use Rattle.stripes.specs.Fold.{count}
+use Rattle.stripes.specs.System.{Layout, whole, Codeword}
+use Rattle.stripes.specs.Erased.{erasures, Agree, Belongs, Ambiguous}
+use Rattle.stripes.specs.Repair.{Entry, lost, zeroed, InOrder}
+use Rattle.model.specs.Sheet.{Format, sheetOf, blankSheet}
+use Rattle.model.specs.Plan.{outcomeStatus}
+use Rattle.model.specs.Edition.{Edition}
 use Rattle.model.specs.declared.Outcome.{Outcome}
 use Rattle.model.specs.declared.Outcome.the-variants.{Repairs, Fatal}
 
--- A list of repairs in plan's order that leaves nothing erased.
-pub record InOrder (L : Layout) (e : ℕ → Bool) (w : List Entry) : Type 0 where
-  -- Each is allowed at its turn,
-  pub allowedThen : (i : ℕ) → i < length w → allowed L (after e (take i w)) (diskOf w i) (stripeOf w i) ≡ true
-  -- no disk with a lower number can be repaired at that turn, nor this disk by a lower stripe (its row before its column),
-  pub lowestThen : (i : ℕ) → i < length w → (d s : ℕ) → allowed L (after e (take i w)) d s ≡ true
-      → (diskOf w i ≤ d) × (d ≡ diskOf w i → stripeOf w i ≤ s)
-  -- and every erased disk is named once, no other at all.
-  pub named : (d : ℕ) → d < L .disks → count (length w) (λ i. eqb (diskOf w i) d) ≡ bit (e d)
+-- A sheet that lists repairs in plan's order, every erased disk once, and one that shows a loop. Their records fit.
+abbrev pub RepairSheet : Layout → Format → (ℕ → Bool) → List ℕ → Type 0
+RepairSheet L f e sheet =
+    (w : List Entry) × (sheet ≡ sheetOf f (f .repairKind) w) × (length w ≤ f .records) × (length w ≡ count (L .disks) e) × InOrder L e w
 
--- A sheet that lists repairs in plan's order, and one that shows a loop. 32 records fit.
-abbrev pub RepairSheet : Layout → (ℕ → Bool) → List ℕ → Type 0
-RepairSheet L e sheet = (w : List Entry) × (sheet ≡ sheetOf 1 w) × (length w ≤ 32) × (length w ≡ count (L .disks) e) × InOrder L e w
+abbrev pub LoopSheet : Edition → Format → (ℕ → Bool) → List ℕ → Type 0
+LoopSheet E f e sheet = (w : List Entry) × (sheet ≡ sheetOf f (f .loopKind) w) × (length w ≤ f .records) × E .Loops e w
 
-abbrev pub LoopSheet : Size → (ℕ → Bool) → List ℕ → Type 0
-LoopSheet z e sheet = (w : List Entry) × (sheet ≡ sheetOf 2 w) × (length w ≤ 32) × Loop z e w
+-- What plan promises of the loss of the disks e. It takes no block length: what is said here holds for each from 1 on.
+pub record Planned (E : Edition) (f : Format) (e : ℕ → Bool) (answer : Outcome) (sheet : List ℕ) : Type 0 where
+  -- It calls the loss fatal, by 6, exactly if two different sealed arrays of that size and block length agree on every survivor.
+  pub fatal : (B : ℕ) → 0 < B → (outcomeStatus answer ≡ 6) ↔ Ambiguous (E .layout) (whole B) e
+  -- Then it counts the lost disks, and its sheet shows a loop of erased disks.
+  pub loop : outcomeStatus answer ≡ 6 → (answer ≡ Fatal (lost (E .layout) e)) × LoopSheet E f e sheet
+  -- Otherwise it counts the erased disks, no more than the limit, and its sheet lists their repairs.
+  pub repairs : (outcomeStatus answer ≡ 6 → ⊥)
+      → (answer ≡ Repairs (count (E .layout .disks) e)) × (count (E .layout .disks) e ≤ E .limit) × RepairSheet (E .layout) f e sheet
+  -- A loss of few disks is not fatal.
+  pub few : count (E .layout .disks) e ≤ E .always → outcomeStatus answer ≡ 6 → ⊥
 
 -- What plan answers and leaves in its sheet, and what rebuild answers and leaves in the array and its sheet.
 pub record Results : Type 0 where
@@ -44,30 +45,21 @@ pub record Results : Type 0 where
   pub array : List ℕ
   pub sheet : List ℕ
 
-pub record Demand3 (z : Size) (B : ℕ) (a m : List ℕ) (r : Results) : Type 0 where
-  -- Plan and rebuild each call the loss fatal, by 6, exactly if two different sealed arrays of that size and block length agree
-  -- on every survivor; what the survivors hold has no part in it.
-  pub planFatal : (outcomeStatus (r .planned) ≡ 6) ↔ Ambiguous (gridOf z) (whole B) (erasures m)
-  pub rebuildFatal : (outcomeStatus (r .rebuilt) ≡ 6) ↔ Ambiguous (gridOf z) (whole B) (erasures m)
-  -- Then no byte of the array changes, and both sheets show a loop of erased disks.
-  pub kept : outcomeStatus (r .rebuilt) ≡ 6 → r .array ≡ a
-  pub planLoop : outcomeStatus (r .planned) ≡ 6 → LoopSheet z (erasures m) (r .planSheet)
-  pub rebuildLoop : outcomeStatus (r .rebuilt) ≡ 6 → LoopSheet z (erasures m) (r .sheet)
-  -- Both give the count of the disks that no repair reaches, and the same loop.
-  pub lostCount : outcomeStatus (r .planned) ≡ 6
-      → (r .planned ≡ Fatal (lost (gridOf z) (erasures m))) × (r .rebuilt ≡ r .planned) × (r .sheet ≡ r .planSheet)
-  -- Otherwise plan counts the erased disks, no more than data rows plus data columns plus one, and its sheet lists their repairs.
-  pub planRepairs : (Ambiguous (gridOf z) (whole B) (erasures m) → ⊥)
-      → (r .planned ≡ Repairs (count (disks z) (erasures m))) × (count (disks z) (erasures m) ≤ rows z + columns z + 1)
-      × RepairSheet (gridOf z) (erasures m) (r .planSheet)
-  -- If then the survivors belong to a sealed array, rebuild gives the same count and the same sheet, and the array equals
-  -- that sealed array byte for byte.
-  pub restored : (Ambiguous (gridOf z) (whole B) (erasures m) → ⊥) → (b : List ℕ) → Codeword (gridOf z) (whole B) b
-      → Agree (gridOf z) (whole B) (erasures m) a b
-      → (r .rebuilt ≡ r .planned) × (r .sheet ≡ r .planSheet) × (r .array ≡ b)
+pub record Demand3 (E : Edition) (f : Format) (B : ℕ) (a m : List ℕ) (r : Results) : Type 0 where
+  pub plan : Planned E f (erasures m) (r .planned) (r .planSheet)
+  -- Rebuild calls the loss fatal, by 6, exactly if plan does: whatever the survivors hold, exactly if two different sealed arrays
+  -- agree on every survivor. Then no byte of the array changes, and count and loop are plan's.
+  pub rebuildFatal : (outcomeStatus (r .rebuilt) ≡ 6) ↔ Ambiguous (E .layout) (whole B) (erasures m)
+  pub kept : outcomeStatus (r .rebuilt) ≡ 6 → (r .array ≡ a) × (r .rebuilt ≡ r .planned) × (r .sheet ≡ r .planSheet)
+  -- Otherwise, if the survivors belong to a sealed array, count and sheet are plan's, and the array equals that sealed array
+  -- byte for byte.
+  pub restored : (Ambiguous (E .layout) (whole B) (erasures m) → ⊥) → (b : List ℕ) → Codeword (E .layout) (whole B) b
+      → Agree (E .layout) (whole B) (erasures m) a b → (r .rebuilt ≡ r .planned) × (r .sheet ≡ r .planSheet) × (r .array ≡ b)
   -- If they belong to none, and just then, rebuild refuses by 7; the erased blocks and the whole sheet are then zero.
   pub contradicted : (outcomeStatus (r .rebuilt) ≡ 7)
-      ↔ ((Ambiguous (gridOf z) (whole B) (erasures m) → ⊥) × (Belongs (gridOf z) (whole B) (erasures m) a → ⊥))
-  pub zeros : outcomeStatus (r .rebuilt) ≡ 7 → (r .array ≡ zeroed (whole B) a (erasures m)) × (r .sheet ≡ blankSheet)
-  -- The loss of three disks or fewer is never fatal.
-  pub three : count (disks z) (erasures m) ≤ 3 → Ambiguous (gridOf z) (whole B) (erasures m) → ⊥
+      ↔ ((Ambiguous (E .layout) (whole B) (erasures m) → ⊥) × (Belongs (E .layout) (whole B) (erasures m) a → ⊥))
+  pub zeros : outcomeStatus (r .rebuilt) ≡ 7 → (r .array ≡ zeroed (whole B) a (erasures m)) × (r .sheet ≡ blankSheet f)
+  -- Few disks always come back: with survivors of a sealed array their loss is restored.
+  pub few : count (E .layout .disks) (erasures m) ≤ E .always → (b : List ℕ) → Codeword (E .layout) (whole B) b
+      → Agree (E .layout) (whole B) (erasures m) a b
+      → (r .rebuilt ≡ Repairs (count (E .layout .disks) (erasures m))) × (r .array ≡ b)

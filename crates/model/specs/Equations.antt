@@ -4,9 +4,10 @@
 use mathlib.Core.Path.{_≡_}
 use mathlib.Core.List.{List}
 use Prim.Native.Nat.{ℕ, _<_}
-use Rattle.model.specs.Fold.{xsum}
-use Rattle.model.specs.Stripes.{Stretch, byte}
+use Rattle.stripes.specs.Fold.{xsum}
+use Rattle.stripes.specs.System.{byte}
 use Rattle.model.specs.Grid.{rows, columns, diskAt}
+use Rattle.stripes.specs.declared.Stretch.{Stretch}
 use Rattle.model.specs.declared.Size.{Size}
 
 -- The byte at place p of the disk in row r and column c.

@@ -5,8 +5,8 @@ use mathlib.Core.List.{List, [], _∷_}
 use Prim.Native.Nat.{ℕ, _+_, _*_, _/_, _%_}
 use lib.Dec.{leb, ltb, eqb}
 use lib.ListN.{length, getD}
-use Rattle.model.specs.Fold.{every, tabulate}
-use Rattle.model.specs.Stripes.{Layout}
+use Rattle.stripes.specs.Fold.{every, tabulate}
+use Rattle.stripes.specs.System.{Layout}
 use Rattle.model.specs.declared.Size.{Size}
 
 -- a data rows and b data columns, with a parity disk to each and one in the corner. Disks are numbered by rows. Row r is
@@ -30,17 +30,24 @@ rows z = z .rows
 unfoldable pub columns : Size → ℕ
 columns z = z .columns
 
--- Disks in a row of the grid.
+-- Disks in a row of the grid, and in a column.
 unfoldable pub across : Size → ℕ
 across z = columns z + 1
 
--- The stripe system of a size: column c is stripe 16 + c.
-unfoldable pub gridOf : Size → Layout
-gridOf z = grid (rows z) (columns z) 16
+unfoldable pub down : Size → ℕ
+down z = rows z + 1
+
+-- The stripe system of a size, with column c as stripe base + c. A sheet says what its base is, by its format.
+unfoldable pub layoutOf : Size → (base : ℕ) → Layout
+layoutOf z base = grid (rows z) (columns z) base
+
+-- The base in what check answers, where no sheet gives one.
+abbrev pub columnBase : Size → ℕ
+columnBase z = 16
 
 -- Disks of the grid.
 unfoldable pub disks : Size → ℕ
-disks z = (rows z + 1) * across z
+disks z = down z * across z
 
 -- The disk in row r and column c of the grid.
 unfoldable pub diskAt : Size → ℕ → ℕ → ℕ

@@ -5,11 +5,13 @@ use mathlib.Core.List.{List, [], _∷_, _++_}
 use Prim.Native.Nat.{ℕ, _+_, _/_, _%_}
 use lib.Dec.{eqb, ltb}
 use lib.ListN.{length, getD, drop}
-use Rattle.model.specs.Grid.{rectangle, gridOf}
+use Rattle.stripes.specs.Repair.{Entry, repairs, fatal}
+use Rattle.stripes.specs.Erased.{erasures}
+use Rattle.stripes.specs.Cycle.{shownCycle}
+use Rattle.model.specs.Grid.{rectangle}
 use Rattle.model.specs.Refusal.{refusal}
-use Rattle.model.specs.Repair.{Entry, erasures, repairs, fatal}
-use Rattle.model.specs.Cycle.{shownCycle}
-use Rattle.model.specs.Rebuild.{planTests}
+use Rattle.model.specs.Sheet.{narrow, sheetBytes}
+use Rattle.model.specs.Plan.{planTests, sheetLayout}
 use Rattle.model.specs.declared.Size.{Size}
 
 -- A decimal digit as a character, and a number below 1000 in decimal.
@@ -41,13 +43,14 @@ entryLines (r ∷ rs) = decimal (r .disk) ++ 32 ∷ decimal (r .stripe) ++ 10 �
 unfoldable pub listed : List ℕ → List Entry → List ℕ
 listed word rs = word ++ decimal (length rs) ++ 10 ∷ entryLines rs
 
--- The input is the data rows in one byte, the data columns in the next, each 0 where it is missing, and then the map.
+-- The input is the data rows in one byte, the data columns in the next, each 0 where it is missing, and then the map. The lines
+-- number the stripes as the sheets do.
 unfoldable pub listing : List ℕ → List ℕ
 listing input =
     let z : Size = rectangle (getD input 0 0) (getD input 1 0) in
     let m : List ℕ = drop 2 input in
-    let k : ℕ = refusal (planTests z m 98) in
+    let k : ℕ = refusal (planTests z m (sheetBytes narrow)) in
     cond (eqb k 0)
-    (cond (fatal (gridOf z) (erasures m)) (listed fatalWord (shownCycle (gridOf z) (erasures m)))
-    (listed repairWord (repairs (gridOf z) (erasures m))))
+    (cond (fatal (sheetLayout z) (erasures m)) (listed fatalWord (shownCycle (sheetLayout z) (erasures m)))
+    (listed repairWord (repairs (sheetLayout z) (erasures m))))
     (refusedWord ++ decimal k ++ 10 ∷ [])

@@ -1,42 +1,72 @@
--- The sheet of paper 01: 98 bytes that list repairs, or a cycle.
+-- Sheets (paper 01): bytes that list repairs, or a cycle, in records.
 -- Assumes nothing.
 use mathlib.Core.Path.{_≡_}
-use mathlib.Core.List.{List, [], _∷_}
-use Prim.Native.Nat.{ℕ, suc, _+_, _*_, _-_, _≤_, _<_}
+use mathlib.Core.List.{List, [], _∷_, _++_}
+use Prim.Native.Nat.{ℕ, zero, suc, _+_, _*_, _-_, _/_, _%_, _≤_, _<_}
 use lib.ListN.{length, getD}
-use Rattle.model.specs.Fold.{tabulate}
-use Rattle.model.specs.Repair.{Entry}
-use Rattle.model.specs.Cycle.{diskOf, stripeOf}
+use Rattle.stripes.specs.Fold.{tabulate}
+use Rattle.stripes.specs.System.{Bytes}
+use Rattle.stripes.specs.Repair.{Entry, diskOf, stripeOf}
+
+-- What sheets differ in: how many records they have, in how many bytes a record has its disk, the numbers of the two kinds,
+-- repairs and loop, and the stripe that column 0 is.
+pub record Format : Type 0 where
+  pub records : ℕ
+  pub diskBytes : ℕ
+  pub repairKind : ℕ
+  pub loopKind : ℕ
+  pub base : ℕ
+
+-- The sheets of paper 01.
+abbrev pub narrow : Format
+narrow = record { records = 32; diskBytes = 1; repairKind = 1; loopKind = 2; base = 16 }
+
+-- A record is its disk, its stripe in one byte and the number of the next record in another.
+abbrev pub recordBytes : Format → ℕ
+recordBytes f = f .diskBytes + 2
+
+-- Two bytes come before the records: the kind, and the number of the first record. Records are numbered from 1.
+abbrev pub recordAt : Format → ℕ → ℕ
+recordAt f k = 2 + recordBytes f * (k - 1)
+
+abbrev pub sheetBytes : Format → ℕ
+sheetBytes f = 2 + recordBytes f * f .records
+
+-- A number in n bytes, the low byte first, and the number that n bytes from place i on hold.
+unfoldable pub numberBytes : (n v : ℕ) → List ℕ
+numberBytes zero v = []
+numberBytes (suc n) v = v % 256 ∷ numberBytes n (v / 256)
+
+unfoldable pub numberAt : (n : ℕ) → List ℕ → ℕ → ℕ
+numberAt zero s i = 0
+numberAt (suc n) s i = getD s i 0 + 256 * numberAt n s (suc i)
 
 -- The number of record k, its disk and its stripe, and so on: a record ends with the number of the next, and 0 ends the chain.
-unfoldable pub chainBytes : ℕ → List Entry → List ℕ
-chainBytes k [] = 0 ∷ []
-chainBytes k (r ∷ rs) = k ∷ r .disk ∷ r .stripe ∷ chainBytes (suc k) rs
+unfoldable pub chainBytes : Format → ℕ → List Entry → List ℕ
+chainBytes f k [] = 0 ∷ []
+chainBytes f k (r ∷ rs) = k ∷ (numberBytes (f .diskBytes) (r .disk) ++ (r .stripe ∷ chainBytes f (suc k) rs))
 
 -- The kind, then the chain from record 1 on, then zeros.
-unfoldable pub sheetOf : ℕ → List Entry → List ℕ
-sheetOf kind rs = tabulate 98 (λ i. getD (kind ∷ chainBytes 1 rs) i 0)
+unfoldable pub sheetOf : Format → ℕ → List Entry → List ℕ
+sheetOf f kind rs = tabulate (sheetBytes f) (λ i. getD (kind ∷ chainBytes f 1 rs) i 0)
 
 -- A sheet of zeros.
-unfoldable pub blankSheet : List ℕ
-blankSheet = tabulate 98 (λ i. 0)
+unfoldable pub blankSheet : Format → List ℕ
+blankSheet f = tabulate (sheetBytes f) (λ i. 0)
 
--- The same in paper 01's words: a list of bytes is that sheet, of at most 32 records, exactly if this holds of it.
-
--- Where record k begins. Records are numbered from 1.
-abbrev pub recordAt : ℕ → ℕ
-recordAt k = 2 + 3 * (k - 1)
-
-pub record SheetBytes (kind : ℕ) (w : List Entry) (s : List ℕ) : Type 0 where
-  -- A sheet has 98 bytes. Byte 0 is the kind, byte 1 the number of the first record, 0 for none.
-  pub long : length s ≡ 98
+-- The same in paper 01's words. A list fits if it has at most as many entries as the format has records, and its numbers and the
+-- kind fit their bytes; then bytes are its sheet exactly if this holds of them.
+pub record SheetBytes (f : Format) (kind : ℕ) (w : List Entry) (s : List ℕ) : Type 0 where
+  -- Byte 0 is the kind, byte 1 the number of the first record, 0 for none.
+  pub long : length s ≡ sheetBytes f
+  pub bytes : Bytes s
   pub kindFirst : getD s 0 0 ≡ kind
   pub firstRecord : 1 ≤ length w → getD s 1 0 ≡ 1
   pub noRecord : length w ≡ 0 → getD s 1 0 ≡ 0
   -- Record k: its disk, its stripe, the number of the next record; 0 ends the chain. In a list the numbers begin with 0.
-  pub disk : (k : ℕ) → 1 ≤ k → k ≤ length w → getD s (recordAt k) 0 ≡ diskOf w (k - 1)
-  pub stripe : (k : ℕ) → 1 ≤ k → k ≤ length w → getD s (recordAt k + 1) 0 ≡ stripeOf w (k - 1)
-  pub next : (k : ℕ) → 1 ≤ k → k < length w → getD s (recordAt k + 2) 0 ≡ k + 1
-  pub last : (k : ℕ) → 1 ≤ k → k ≡ length w → getD s (recordAt k + 2) 0 ≡ 0
+  pub disk : (k : ℕ) → 1 ≤ k → k ≤ length w → numberAt (f .diskBytes) s (recordAt f k) ≡ diskOf w (k - 1)
+  pub stripe : (k : ℕ) → 1 ≤ k → k ≤ length w → getD s (recordAt f k + f .diskBytes) 0 ≡ stripeOf w (k - 1)
+  pub next : (k : ℕ) → 1 ≤ k → k < length w → getD s (recordAt f k + f .diskBytes + 1) 0 ≡ k + 1
+  pub last : (k : ℕ) → 1 ≤ k → k ≡ length w → getD s (recordAt f k + f .diskBytes + 1) 0 ≡ 0
   -- Behind the records stand zeros.
-  pub zeros : (i : ℕ) → 2 + 3 * length w ≤ i → i < 98 → getD s i 0 ≡ 0
+  pub zeros : (i : ℕ) → recordAt f (length w + 1) ≤ i → i < sheetBytes f → getD s i 0 ≡ 0

@@ -1,39 +1,59 @@
-// A fatal loss: the disk that makes it so, and the cycle that shows it.
+// A fatal loss: the disk that makes it so, and the cycle that shows it. All memory is lent, and what it held does not matter.
 ghost use mathlib.Core.Path.{_≡_};
 ghost use mathlib.Core.Bool.{true};
 ghost use Prim.Native.Nat.{_≤_};
 ghost use lib.ListN.{length};
-ghost use Rattle.model.specs.Grid.{sizeFits, mapFits, gridOf, disks};
-ghost use Rattle.model.specs.Repair.{erasures, fatal};
-ghost use Rattle.model.specs.Cycle.{below, closing, shownCycle};
-ghost use Rattle.model.specs.Sheet.{sheetOf};
+ghost use Rattle.stripes.specs.Erased.{erasures, below};
+ghost use Rattle.stripes.specs.Repair.{fatal};
+ghost use Rattle.stripes.specs.Cycle.{closing, shownCycle};
+ghost use Rattle.model.specs.Grid.{layoutOf, mapFits};
+ghost use Rattle.layout.specs.Stripe.{Numbered};
+ghost use Rattle.entries.specs.Listed.{listed};
+ghost use Rattle.plan.specs.Memory.{Room};
 use model::Size;
 
 // The loss of the erased disks below k alone is fatal.
-fn fatal_below(size: Size, map: &[u8], k: usize) -> bool
-    requires { ⌜ sizeFits size ≡ true ⌝ }
+fn fatal_below(
+    size: Size,
+    base: usize,
+    map: &[u8],
+    k: usize,
+    work: &mut [u8],
+    stripes: &mut [u8],
+    counts: &mut [u8],
+    list: &mut [u32],
+) -> bool
+    requires { ⌜ Numbered size base ⌝ }
     requires { ⌜ mapFits size (now map) ≡ true ⌝ }
-    requires { ⌜ k ≤ disks size ⌝ }
-    ensures { λ r. ⌜ r ≡ fatal (gridOf size) (below k (erasures (now (map .entry)))) ⌝ }
+    requires { ⌜ k ≤ length (now map) ⌝ }
+    requires { ⌜ Room (layoutOf size base) (now work) (now stripes) (now counts) (now list) ⌝ }
+    ensures { λ r. ⌜ r ≡ fatal (layoutOf size base) (below k (erasures (now (map .entry)))) ⌝ }
 {
-    let mut work = [0u8; 256];
-    let mut blank = [0u8; 98];
-    let found = peel::peel_below(size, map, k, &mut work, &mut blank);
+    let found = crate::peeled::peel_below(size, base, map, k, work, stripes, counts, list);
     0 < found.left
 }
 
 // The lowest disk with which the loss of the erased disks up to it is fatal, found by halving.
-fn closing_disk(size: Size, map: &[u8]) -> usize
-    requires { ⌜ sizeFits size ≡ true ⌝ }
+fn closing_disk(
+    size: Size,
+    base: usize,
+    map: &[u8],
+    work: &mut [u8],
+    stripes: &mut [u8],
+    counts: &mut [u8],
+    list: &mut [u32],
+) -> usize
+    requires { ⌜ Numbered size base ⌝ }
     requires { ⌜ mapFits size (now map) ≡ true ⌝ }
-    requires { ⌜ fatal (gridOf size) (erasures (now map)) ≡ true ⌝ }
-    ensures { λ r. ⌜ r ≡ closing (gridOf size) (erasures (now (map .entry))) ⌝ }
+    requires { ⌜ fatal (layoutOf size base) (erasures (now map)) ≡ true ⌝ }
+    requires { ⌜ Room (layoutOf size base) (now work) (now stripes) (now counts) (now list) ⌝ }
+    ensures { λ r. ⌜ r ≡ closing (layoutOf size base) (erasures (now (map .entry))) ⌝ }
 {
     let mut low = 0;
-    let mut high = layout::disks(size) - 1;
+    let mut high = map.len() - 1;
     while low < high {
         let middle = (low + high) / 2;
-        if fatal_below(size, map, middle + 1) {
+        if fatal_below(size, base, map, middle + 1, work, stripes, counts, list) {
             high = middle;
         } else {
             low = middle + 1;
@@ -42,20 +62,24 @@ fn closing_disk(size: Size, map: &[u8]) -> usize
     low
 }
 
-// Writes a cycle of the erased disks of a map into the sheet.
-pub fn show(size: Size, map: &[u8], sheet: &mut [u8])
-    requires { ⌜ sizeFits size ≡ true ⌝ }
+// Lists a cycle of the erased disks of a map, and says how many disks it has.
+pub fn show(
+    size: Size,
+    base: usize,
+    map: &[u8],
+    work: &mut [u8],
+    stripes: &mut [u8],
+    counts: &mut [u8],
+    list: &mut [u32],
+) -> usize
+    requires { ⌜ Numbered size base ⌝ }
     requires { ⌜ mapFits size (now map) ≡ true ⌝ }
-    requires { ⌜ fatal (gridOf size) (erasures (now map)) ≡ true ⌝ }
-    requires { ⌜ length (now sheet) ≡ 98 ⌝ }
-    ensures { λ r. ⌜ now (sheet .exit) ≡ sheetOf 2 (shownCycle (gridOf size) (erasures (now (map .entry)))) ⌝ }
+    requires { ⌜ fatal (layoutOf size base) (erasures (now map)) ≡ true ⌝ }
+    requires { ⌜ Room (layoutOf size base) (now work) (now stripes) (now counts) (now list) ⌝ }
+    ensures number { λ r. ⌜ r ≡ length (shownCycle (layoutOf size base) (erasures (now (map .entry)))) ⌝ }
+    ensures list { λ r. ⌜ listed (now (list .exit)) r ≡ shownCycle (layoutOf size base) (erasures (now (map .entry))) ⌝ }
 {
-    let last = closing_disk(size, map);
-    let mut core = [0u8; 256];
-    let mut unused = [0u8; 98];
-    peel::peel_below(size, map, last + 1, &mut core, &mut unused);
-    let mut drawn = [0u8; 98];
-    drawn[0] = 2;
-    cycle::trace(size, &core, &mut drawn);
-    sheet::copy(&drawn, sheet);
+    let last = closing_disk(size, base, map, work, stripes, counts, list);
+    crate::peeled::peel_below(size, base, map, last + 1, work, stripes, counts, list);
+    cycle::trace(size, base, work, stripes, list)
 }

@@ -1,32 +1,51 @@
 // Plan: which repairs bring a loss back, in which order, or the cycle that makes it fatal.
 ghost use mathlib.Core.Path.{_≡_};
-ghost use Rattle.model.specs.Rebuild.{planOutcome, planSheet};
+ghost use Prim.Native.Nat.{_≤_};
+ghost use lib.ListN.{length};
+ghost use Rattle.model.specs.Plan.{planOutcome, planSheet};
+ghost use Rattle.plan.specs.Solved.{Drafted};
 
 mod fatal;
+mod peeled;
+pub mod solve;
 
+use crate::solve::Solved;
 use model::Outcome;
 use model::Size;
 
-// Writes the repairs, or for a fatal loss a cycle, into the sheet. The map is only read.
+// Writes the repairs, or for a fatal loss a cycle, into the sheet, and into a list that has room for entries::CAPACITY words.
+// The map is only read.
+pub fn draft(size: Size, map: &[u8], sheet: &mut [u8], list: &mut [u32]) -> Outcome
+    requires { ⌜ 32 ≤ length (now list) ⌝ }
+    ensures outcome { λ r. ⌜ r ≡ planOutcome size (now (map .entry)) (now (sheet .entry)) ⌝ }
+    ensures sheet { λ r. ⌜ now (sheet .exit) ≡ planSheet size (now (map .entry)) (now (sheet .entry)) ⌝ }
+    ensures list { λ r. ⌜ Drafted size (now (map .entry)) (now (sheet .entry)) (now (list .exit)) ⌝ }
+{
+    if !refusal::size_fits(size) {
+        return Outcome::Refused(1);
+    }
+    let status = refusal::sheet_refusal(size, map, sheet.len());
+    if status != 0 {
+        return Outcome::Refused(status);
+    }
+    let answer = solve::solve(size, sheet::BASE, map, list);
+    match answer {
+        Solved::Repairs(count) => {
+            sheet::write(sheet::REPAIR_KIND, list, count, sheet);
+            Outcome::Repairs(count)
+        }
+        Solved::Cycle { disks, left } => {
+            sheet::write(sheet::LOOP_KIND, list, disks, sheet);
+            Outcome::Fatal(left)
+        }
+    }
+}
+
+// The same for who wants no list.
 pub fn plan(size: Size, map: &[u8], sheet: &mut [u8]) -> Outcome
     ensures outcome { λ r. ⌜ r ≡ planOutcome size (now (map .entry)) (now (sheet .entry)) ⌝ }
     ensures sheet { λ r. ⌜ now (sheet .exit) ≡ planSheet size (now (map .entry)) (now (sheet .entry)) ⌝ }
 {
-    if !layout::size_fits(size) {
-        return Outcome::Refused(1);
-    }
-    let status = layout::sheet_refusal(size, map, sheet.len());
-    if status != 0 {
-        return Outcome::Refused(status);
-    }
-    let all = layout::disks(size);
-    let mut work = [0u8; 256];
-    let mut blank = [0u8; 98];
-    let found = peel::peel_below(size, map, all, &mut work, &mut blank);
-    if found.left == 0 {
-        sheet::copy(&blank, sheet);
-        return Outcome::Repairs(found.made);
-    }
-    fatal::show(size, map, sheet);
-    Outcome::Fatal(found.left)
+    let mut list = [0u32; entries::CAPACITY];
+    draft(size, map, sheet, &mut list)
 }

@@ -13,10 +13,9 @@ use Rattle.model.specs.Grid.{disks, mapFits}
 use Rattle.model.specs.Refusal.{refusal, arrayTests}
 use Rattle.model.specs.Array.{canLook, lookLength, lookOffset, lookPlace}
 use Rattle.model.specs.declared.Size.{Size}
-use Rattle.model.proofs.Fold.{and-left, and-right}
-use Rattle.model.proofs.Grid.{block-fits}
+use Rattle.stripes.proofs.Fold.{and-left, and-right}
+use Rattle.model.proofs.Grid.{block-fits, block-within}
 use Rattle.model.proofs.Refusal.{array-fits}
-use Rattle.array.proofs.Blocks.{block-within}
 
 module _ (z : Size) (B : ℕ) (a m : List ℕ) (d : ℕ) where
   -- Either there is no part, or it is a block of one byte or more that lies within the array.

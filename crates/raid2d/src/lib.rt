@@ -1,10 +1,10 @@
 // The C interface: thin exports over the calls, on numbers, byte buffers and places for one number. include/raid2d.h declares
-// them.
+// them. What is lent without `mut` keeps its bytes: the language lets no call write there. The demands on these calls are stated
+// in crates/demands, of the same definitions.
 ghost use mathlib.Core.Path.{_≡_};
 ghost use Rattle.model.specs.Grid.{rectangle};
-ghost use Rattle.model.specs.Array.{sealStatus, sealArray, checked, checkStatus, checkStripe, writeStatus, writeArray};
-ghost use Rattle.model.specs.Array.{lookLength, lookPlace};
-ghost use Rattle.model.specs.Rebuild.{planOutcome, planSheet, outcomeStatus, outcomeCount};
+ghost use Rattle.model.specs.Array.{sealStatus, sealArray, checked, checkStatus, checkStripe, writeStatus, writeArray, lookLength, lookPlace};
+ghost use Rattle.model.specs.Plan.{planOutcome, planSheet, outcomeStatus, outcomeCount};
 ghost use Rattle.model.specs.Rebuild.{rebuildOutcome, rebuildArray, rebuildSheet};
 ghost use Rattle.model.specs.Follow.{followOutcome, followArray};
 use model::Checked;
@@ -24,7 +24,7 @@ pub extern "C" fn raid2d_seal(rows: usize, columns: usize, block: usize, array: 
     ensures status { λ r. ⌜ r ≡ sealStatus (rectangle rows columns) block (now (array .entry)) ⌝ }
     ensures array { λ r. ⌜ now (array .exit) ≡ sealArray (rectangle rows columns) block (now (array .entry)) ⌝ }
 {
-    array::seal(Size { rows, columns }, block, array)
+    seal::seal(Size { rows, columns }, block, array)
 }
 
 #[no_mangle]
@@ -40,7 +40,7 @@ pub extern "C" fn raid2d_check(
         now (stripe .exit) ≡ checkStripe (checked (rectangle rows columns) block (now (array .entry))) (now (stripe .entry))
         ⌝ }
 {
-    let answer = array::check(Size { rows, columns }, block, array);
+    let answer = scrub::check(Size { rows, columns }, block, array);
     match answer {
         Checked::Sealed => 0,
         Checked::Unsealed(lowest) => {
@@ -65,7 +65,7 @@ pub extern "C" fn raid2d_write(
         now (array .exit) ≡ writeArray (rectangle rows columns) block (now (array .entry)) disk (now («data» .entry))
         ⌝ }
 {
-    array::write(Size { rows, columns }, block, array, disk, data)
+    write::write(Size { rows, columns }, block, array, disk, data)
 }
 
 #[no_mangle]
@@ -84,7 +84,7 @@ pub extern "C" fn raid2d_look(
         ≡ lookPlace (rectangle rows columns) block (now (array .entry)) (now (map .entry)) disk (now (offset .entry))
         ⌝ }
 {
-    let part = array::look(Size { rows, columns }, block, array, map, disk);
+    let part = look::look(Size { rows, columns }, block, array, map, disk);
     let len = part.len();
     if len == 0 {
         return 0;

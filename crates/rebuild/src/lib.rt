@@ -3,6 +3,7 @@ ghost use mathlib.Core.Path.{_≡_};
 ghost use Rattle.model.specs.Rebuild.{rebuildOutcome, rebuildArray, rebuildSheet};
 use model::Outcome;
 use model::Size;
+use stripes::Stretch;
 
 // Restores the erased blocks and writes plan's sheet. Where the survivors contradict each other, the erased blocks and the sheet
 // become zero. The map is only read.
@@ -15,15 +16,21 @@ pub fn rebuild(size: Size, block: usize, array: &mut [u8], map: &[u8], sheet: &m
         now (sheet .exit) ≡ rebuildSheet size block (now (array .entry)) (now (map .entry)) (now (sheet .entry))
         ⌝ }
 {
-    let status = layout::array_refusal(size, block, array.len());
+    let status = refusal::array_refusal(size, block, array.len());
     if status != 0 {
         return Outcome::Refused(status);
     }
-    let answer = plan::plan(size, map, sheet);
+    let mut list = [0u32; entries::CAPACITY];
+    let answer = plan::draft(size, map, sheet, &mut list);
     let Outcome::Repairs(count) = answer else {
         return answer;
     };
-    if !restore::restore(size, block, array, map, sheet, count) {
+    let whole = Stretch {
+        block: block,
+        offset: 0,
+        width: block,
+    };
+    if !restore::restore(size, sheet::BASE, whole, array, map, &list, count) {
         sheet::zero(sheet);
         return Outcome::Refused(7);
     }

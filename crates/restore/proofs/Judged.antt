@@ -1,103 +1,76 @@
--- What restore answers and leaves behind at each of its two ends, where the records are repairs allowed at their turn.
+-- What restore answers and leaves behind at each of its two ends, where the entries are repairs allowed at their turn.
 -- Assumes nothing.
-use mathlib.Core.Path.{_≡_, refl, sym, _∙_, ap, subst}
+use mathlib.Core.Path.{_≡_, sym, _∙_, ap, subst}
 use mathlib.Core.Bool.{Bool, true, false}
-use mathlib.Core.Logic.{⊎-elim}
-use mathlib.Core.List.{List, [], _∷_}
-use Prim.Native.Nat.{ℕ, zero, suc, _<_}
+use mathlib.Core.List.{List}
+use Prim.Native.Nat.{ℕ, zero, suc, _<_, _*_}
 use native.Mathlib.Nat.{not-suc-le-zero}
-use native.Mathlib.Omega.{arith}
-use types.Run.{OneOf}
-use denote.Enum.Declared.{tagOf}
 use lib.ListN.{length}
-use Rattle.model.specs.Stripes.{Layout, on, whole}
-use Rattle.model.specs.Grid.{gridOf, disks}
-use Rattle.model.specs.Refusal.{refusal, arrayTests}
-use Rattle.model.specs.Repair.{Entry, erasures, allowed, Peels, after, rebuilt, zeroed, consistent}
-use Rattle.model.specs.Follow.{allAllowed}
-use Rattle.model.specs.Array.{checked}
+use Rattle.stripes.specs.System.{Layout, on, consistent}
+use Rattle.stripes.specs.Erased.{erasures}
+use Rattle.stripes.specs.Repair.{allowed, Peels, after, rebuilt, zeroed, allAllowed}
+use Rattle.stripes.specs.declared.Stretch.{Stretch}
+use Rattle.model.specs.Grid.{layoutOf, disks}
 use Rattle.model.specs.declared.Size.{Size}
-use Rattle.model.proofs.Checked as checking
-use Rattle.model.specs.declared.Checked.{Checked}
-use Rattle.model.specs.declared.Checked.the-variants.{Sealed}
-use Rattle.model.proofs.Fold.{and-left, and-right, by-cases, below-suc}
-use Rattle.model.proofs.Grid.{grid-disks}
-use Rattle.model.proofs.Refusal.{array-fits}
-use Rattle.model.proofs.Peel.{Allowed, allowed-is}
-use Rattle.model.proofs.Clears.{peels-all-allowed, all-allowed-snoc}
-use Rattle.model.proofs.Restore.{length-rebuilt, whole-inside, grid-sized, zeroed-rebuilt, consistent-sealed}
-use Rattle.sheet.specs.Record.{recordDisk, recordStripe, records}
+use Rattle.stripes.proofs.Fold.{and-left, and-right, below-suc}
+use Rattle.stripes.proofs.Peel.{Allowed, allowed-is}
+use Rattle.stripes.proofs.Clears.{peels-all-allowed, all-allowed-snoc}
+use Rattle.stripes.proofs.Restore.{length-rebuilt, zeroed-rebuilt}
+use Rattle.model.proofs.Grid.{layout-disks}
+use Rattle.entries.specs.Listed.{entryDisk, entryStripe, listed}
+use Rattle.sums.specs.Held.{Held}
 use Rattle.restore.specs.Restored.{fits, restored}
 
--- An answer of another kind than the first.
-pub other-kind : {A : Type 0} (tag : A → ℕ) (o first : A) → OneOf (1 ∷ 2 ∷ []) (tag o) → tag first ≡ 0 → o ≡ first → ⊥
-other-kind tag o first other none e =
-    let q : tag o ≡ 0 = ap tag e ∙ none in
-    ⊎-elim (λ (h : tag o ≡ 1). omega arith) (λ (h : tag o ≡ 2). omega arith) other
+-- Where the entries of a list are repairs allowed at their turn, each of them is.
+entry-allowed : (L : Layout) (e : ℕ → Bool) (list : List ℕ) (count : ℕ) → allAllowed L e (listed list count) ≡ true
+    → (k : ℕ) → k < count → allowed L (after e (listed list k)) (entryDisk list k) (entryStripe list k) ≡ true
+unfolding listed
+entry-allowed L e list zero all k h = absurd (not-suc-le-zero h)
+entry-allowed L e list (suc n) all k h =
+    let both = sym (all-allowed-snoc L e (listed list n) _) ∙ all in
+    below-suc (λ (k : ℕ). allowed L (after e (listed list k)) (entryDisk list k) (entryStripe list k) ≡ true) n
+    (entry-allowed L e list n (and-left (allAllowed L e (listed list n)) _ both))
+    (and-right (allAllowed L e (listed list n)) _ both) k h
 
--- Where the records of a sheet are repairs allowed at their turn, each of them is.
-record-allowed : (L : Layout) (e : ℕ → Bool) (sheet : List ℕ) (count : ℕ) → allAllowed L e (records sheet count) ≡ true
-    → (k : ℕ) → k < count → allowed L (after e (records sheet k)) (recordDisk sheet k) (recordStripe sheet k) ≡ true
-unfolding records
-record-allowed L e sheet zero all k h = absurd (not-suc-le-zero h)
-record-allowed L e sheet (suc n) all k h =
-    let both = sym (all-allowed-snoc L e (records sheet n) _) ∙ all in
-    below-suc (λ (k : ℕ). allowed L (after e (records sheet k)) (recordDisk sheet k) (recordStripe sheet k) ≡ true) n
-    (record-allowed L e sheet n (and-left (allAllowed L e (records sheet n)) _ both))
-    (and-right (allAllowed L e (records sheet n)) _ both) k h
+module _ (z : Size) (base : ℕ) (e : ℕ → Bool) (list : List ℕ) (count : ℕ) (peels : Peels (layoutOf z base) e (listed list count)) where
+  -- Each entry names a disk and a stripe of it.
+  turn : (k : ℕ) → k < count → Allowed (layoutOf z base) (after e (listed list k)) (entryDisk list k) (entryStripe list k)
+  turn k h = allowed-is _ _ _ _ (entry-allowed (layoutOf z base) e list count (peels-all-allowed (layoutOf z base) e _ peels) k h)
 
--- What restore asks of the array, the map and the records.
-pub record Asked (z : Size) (B : ℕ) (a m sheet : List ℕ) (count : ℕ) : Type 0 where
-  pub ok : refusal (arrayTests z B (length a)) ≡ 0
-  pub peels : Peels (gridOf z) (erasures m) (records sheet count)
+  pub on-disks : (k : ℕ) → k < count → entryDisk list k < disks z
+  on-disks k h = subst (λ (n : ℕ). entryDisk list k < n) (layout-disks z base) (turn k h .disk)
 
--- What it promises of its answer, and of the array after it.
-abbrev Promised : Size → ℕ → (a m : List ℕ) → List Entry → Bool → List ℕ → Type 0
-Promised z B a m w answer l = (answer ≡ fits z B a w) × (l ≡ restored z B a m w)
-
-module _ {z : Size} {B : ℕ} {a m sheet : List ℕ} {count : ℕ} (asked : Asked z B a m sheet count) where
-  -- Each record names a disk and a stripe of it.
-  turn : (k : ℕ) → k < count → Allowed (gridOf z) (after (erasures m) (records sheet k)) (recordDisk sheet k) (recordStripe sheet k)
-  turn k h =
-      allowed-is _ _ _ _
-      (record-allowed (gridOf z) (erasures m) sheet count (peels-all-allowed (gridOf z) (erasures m) _ (asked .peels)) k h)
-
-  pub on-disks : (k : ℕ) → k < count → recordDisk sheet k < disks z
-  on-disks k h = subst (λ (n : ℕ). recordDisk sheet k < n) (grid-disks z) (turn k h .disk)
-
-  pub on-stripes : (k : ℕ) → k < count → on (gridOf z) (recordDisk sheet k) (recordStripe sheet k) ≡ true
+  pub on-stripes : (k : ℕ) → k < count → on (layoutOf z base) (entryDisk list k) (entryStripe list k) ≡ true
   on-stripes k h = turn k h .here
 
   -- ---- after the repairs
-  module _ (b : List ℕ) (made : b ≡ rebuilt (gridOf z) (whole B) a (records sheet count)) where
-    pub still-fits : refusal (arrayTests z B (length b)) ≡ 0
-    still-fits =
-        ap (λ (n : ℕ). refusal (arrayTests z B n)) (ap length made ∙ length-rebuilt (gridOf z) (whole B) a (records sheet count))
-        ∙ asked .ok
+  module _ (x : Stretch) (a : List ℕ) (held : Held z x a) (b : List ℕ) (made : b ≡ rebuilt (layoutOf z base) x a (listed list count)) where
+    pub still-held : Held z x b
+    still-held =
+        record {
+          inside = held .inside;
+          block = held .block;
+          sized = ap length made ∙ length-rebuilt (layoutOf z base) x a (listed list count) ∙ held .sized;
+        }
 
-    fits-is : fits z B a (records sheet count) ≡ consistent (gridOf z) (whole B) b
+    fits-is : fits (layoutOf z base) x a (listed list count) ≡ consistent (layoutOf z base) x b
     unfolding fits
-    fits-is = ap (consistent (gridOf z) (whole B)) (sym made)
+    fits-is = ap (consistent (layoutOf z base) x) (sym made)
 
     -- All sums are zero: the array is restored.
-    pub all-sealed : checked z B b ≡ Sealed → Promised z B a m (records sheet count) true b
+    pub all-restored : consistent (layoutOf z base) x b ≡ true
+        → (true ≡ fits (layoutOf z base) x a (listed list count)) × (b ≡ restored (layoutOf z base) x a e (listed list count))
     unfolding restored
-    all-sealed sealed =
-        let c : fits z B a (records sheet count) ≡ true = fits-is ∙ consistent-sealed z B b still-fits .1 sealed in
-        (sym c, made ∙ rw c)
+    all-restored sealed = let c = fits-is ∙ sealed in (sym c, made ∙ rw c)
 
     -- Survivors that contradict each other: nothing is left of the repairs.
-    pub contradicted : (o : Checked) → o ≡ checked z B b → OneOf (1 ∷ 2 ∷ []) (tagOf checking.the-type o)
-        → (l : List ℕ) → l ≡ zeroed (whole B) b (erasures m) → Promised z B a m (records sheet count) false l
+    pub contradicted : consistent (layoutOf z base) x b ≡ false → (l : List ℕ) → l ≡ zeroed x b e
+        → (false ≡ fits (layoutOf z base) x a (listed list count)) × (l ≡ restored (layoutOf z base) x a e (listed list count))
     unfolding restored
-    contradicted o checked-is other l zeros =
-        let c : fits z B a (records sheet count) ≡ false =
-        fits-is
-        ∙ by-cases (λ (t : Bool). t ≡ false) (consistent (gridOf z) (whole B) b)
-        (λ yes. absurd (other-kind (tagOf checking.the-type) o Sealed other refl (checked-is ∙ consistent-sealed z B b still-fits .0 yes)))
-        (λ no. refl) in
-        let sized = grid-sized z B a (array-fits z B (length a) (asked .ok) .long) in (
+    contradicted some l zeros =
+        let c = fits-is ∙ some in
+        let sized = held .sized ∙ ap (λ (n : ℕ). n * x .block) (sym (layout-disks z base)) in (
           sym c,
-          zeros ∙ ap (λ (l : List ℕ). zeroed (whole B) l (erasures m)) made
-              ∙ zeroed-rebuilt (gridOf z) (whole B) (whole-inside B) (erasures m) a sized (records sheet count) (asked .peels) ∙ rw c,
+          zeros ∙ ap (λ (l : List ℕ). zeroed x l e) made
+              ∙ zeroed-rebuilt (layoutOf z base) x (held .inside) e a sized (listed list count) peels ∙ rw c,
         )

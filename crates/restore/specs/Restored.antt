@@ -3,15 +3,14 @@
 use mathlib.Core.Bool.{Bool, cond}
 use mathlib.Core.List.{List}
 use Prim.Native.Nat.{ℕ}
-use Rattle.model.specs.Stripes.{whole}
-use Rattle.model.specs.Grid.{gridOf}
-use Rattle.model.specs.Repair.{erasures, Entry, rebuilt, zeroed, consistent}
-use Rattle.model.specs.declared.Size.{Size}
+use Rattle.stripes.specs.System.{Layout, consistent}
+use Rattle.stripes.specs.Repair.{Entry, rebuilt, zeroed}
+use Rattle.stripes.specs.declared.Stretch.{Stretch}
 
 -- After the repairs every stripe's sum is zero.
-unfoldable pub fits : Size → ℕ → List ℕ → List Entry → Bool
-fits z B a w = consistent (gridOf z) (whole B) (rebuilt (gridOf z) (whole B) a w)
+unfoldable pub fits : Layout → Stretch → List ℕ → List Entry → Bool
+fits L x a w = consistent L x (rebuilt L x a w)
 
 -- The array is repaired where that holds, else it has zeros on the erased disks.
-unfoldable pub restored : Size → ℕ → (a m : List ℕ) → List Entry → List ℕ
-restored z B a m w = cond (fits z B a w) (rebuilt (gridOf z) (whole B) a w) (zeroed (whole B) a (erasures m))
+unfoldable pub restored : Layout → Stretch → List ℕ → (ℕ → Bool) → List Entry → List ℕ
+restored L x a e w = cond (fits L x a w) (rebuilt L x a w) (zeroed x a e)

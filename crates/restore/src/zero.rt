@@ -1,23 +1,26 @@
 // Zeros for the blocks that could not be restored.
 ghost use mathlib.Core.Path.{_≡_};
 ghost use mathlib.Core.Bool.{true};
-ghost use lib.ListN.{length};
-ghost use Rattle.model.specs.Stripes.{whole};
+ghost use Rattle.stripes.specs.Erased.{erasures};
+ghost use Rattle.stripes.specs.Repair.{zeroed};
 ghost use Rattle.model.specs.Grid.{mapFits};
-ghost use Rattle.model.specs.Refusal.{refusal, arrayTests};
-ghost use Rattle.model.specs.Repair.{erasures, zeroed};
+ghost use Rattle.sums.specs.Held.{Held};
 use model::Size;
+use stripes::Stretch;
 
-// The block of every erased disk becomes zero.
-pub fn zero_erased(size: Size, block: usize, array: &mut [u8], map: &[u8])
-    requires { ⌜ refusal (arrayTests size block (length (now array))) ≡ 0 ⌝ }
+// The stretch of every erased disk becomes zero.
+pub fn zero_erased(size: Size, stretch: Stretch, array: &mut [u8], map: &[u8])
+    requires { ⌜ Held size stretch (now array) ⌝ }
     requires { ⌜ mapFits size (now map) ≡ true ⌝ }
-    ensures { λ r. ⌜ now (array .exit) ≡ zeroed (whole block) (now (array .entry)) (erasures (now (map .entry))) ⌝ }
+    ensures { λ r. ⌜ now (array .exit) ≡ zeroed stretch (now (array .entry)) (erasures (now (map .entry))) ⌝ }
 {
+    let block = stretch.block;
+    let offset = stretch.offset;
+    let width = stretch.width;
     let mut d = 0;
     while d < map.len() {
         if map[d] == 1 {
-            xor::wipe::wipe(array, d * block, block);
+            xor::wipe::wipe(array, d * block + offset, width);
         }
         d += 1;
     }

@@ -1,4 +1,2 @@
-pub mod Prefix
-pub mod Appended
-pub mod Chained
-pub mod Straightened
+pub mod Written
+pub mod Listed

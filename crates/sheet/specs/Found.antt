@@ -5,6 +5,7 @@ use mathlib.Core.List.{List}
 use Prim.Native.Nat.{ℕ}
 use lib.Dec.{eqb, leb}
 use lib.ListN.{length}
+use Rattle.model.specs.Sheet.{narrow, sheetBytes}
 use Rattle.model.specs.Chain.{entryAt, nextNumber, chainFits, chainEntries}
 use Rattle.sheet.specs.declared.reader.Found.{Found}
 use Rattle.sheet.specs.declared.reader.Found.the-variants.{Record, End, Outside}
@@ -14,7 +15,8 @@ use Rattle.sheet.specs.declared.chain.Chain.the-variants.{Records, Broke
 unfoldable pub foundAt : List ℕ → ℕ → Found
 foundAt s k =
     cond (eqb k 0) End
-    (cond (leb k 32 && eqb (length s) 98) (Record (entryAt s k .disk) (entryAt s k .stripe) (nextNumber s k)) Outside)
+    (cond (leb k (narrow .records) && eqb (length s) (sheetBytes narrow))
+    (Record (entryAt narrow s k .disk) (entryAt narrow s k .stripe) (nextNumber narrow s k)) Outside)
 
 unfoldable pub chainRead : List ℕ → Chain
-chainRead s = cond (chainFits s) (Records (length (chainEntries s))) Broken
+chainRead s = cond (chainFits narrow s) (Records (length (chainEntries narrow s))) Broken

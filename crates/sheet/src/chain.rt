@@ -1,8 +1,10 @@
 // The chain of a sheet from elsewhere, which may visit its records in any order.
 ghost use mathlib.Core.Path.{_≡_};
 ghost use mathlib.Core.Bool.{true};
-ghost use lib.ListN.{length, replicate};
-ghost use Rattle.model.specs.Sheet.{sheetOf};
+ghost use Prim.Native.Nat.{_≤_};
+ghost use lib.ListN.{length};
+ghost use Rattle.entries.specs.Listed.{listed};
+ghost use Rattle.model.specs.Sheet.{narrow, sheetBytes};
 ghost use Rattle.model.specs.Chain.{chainFits, chainEntries};
 ghost use Rattle.sheet.specs.Found.{chainRead};
 use crate::reader;
@@ -16,28 +18,27 @@ pub enum Chain {
     Broken,
 }
 
-// Writes the records of a chain into a blank sheet in its order, as numbers 1, 2, 3 and so on. What `own` holds after `Broken` is
-// left open.
-pub fn straighten(sheet: &[u8], own: &mut [u8]) -> Chain
-    requires { ⌜ length (now sheet) ≡ 98 ⌝ }
-    requires { ⌜ now own ≡ replicate 98 0 ⌝ }
+// Reads the records of a chain into a list, in the chain's order. What the list holds after `Broken` is left open.
+pub fn read(sheet: &[u8], list: &mut [u32]) -> Chain
+    requires { ⌜ length (now sheet) ≡ sheetBytes narrow ⌝ }
+    requires { ⌜ narrow .records ≤ length (now list) ⌝ }
     ensures chain { λ r. ⌜ r ≡ chainRead (now (sheet .entry)) ⌝ }
-    ensures own { λ r. ⌜
-        (chainFits (now (sheet .entry)) ≡ true → now (own .exit) ≡ sheetOf 1 (chainEntries (now (sheet .entry))))
+    ensures list { λ r. ⌜
+        (chainFits narrow (now (sheet .entry)) ≡ true
+        → listed (now (list .exit)) (length (chainEntries narrow (now (sheet .entry)))) ≡ chainEntries narrow (now (sheet .entry)))
         ⌝ }
 {
-    if sheet[0] != 1 {
+    if sheet[0] != crate::REPAIR_KIND {
         return Chain::Broken;
     }
-    own[0] = 1;
     let mut number = sheet[1] as usize;
     let mut k = 0;
-    while k < 32 {
+    while k < crate::RECORDS {
         let found = reader::read(sheet, number);
         let Found::Record(disk, stripe, following) = found else {
             break;
         };
-        crate::append(own, k, disk, stripe);
+        entries::put(list, k, disk, stripe);
         number = following;
         k += 1;
     }

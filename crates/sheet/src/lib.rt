@@ -1,80 +1,73 @@
-// The sheet of 98 bytes: records written in chain order and read back, and sheets from elsewhere.
+// Sheets: no other code knows how they lie in bytes. Lists are written into them, and sheets from elsewhere are read (`chain`).
+// The entries of a list are counted from 0, the records of a sheet by their numbers from 1.
 ghost use mathlib.Core.Path.{_≡_};
-ghost use Prim.Native.Nat.{_<_};
+ghost use Prim.Native.Nat.{ℕ, _≤_, _<_};
 ghost use lib.ListN.{length};
-ghost use Rattle.model.specs.Sheet.{blankSheet};
-ghost use Rattle.sheet.specs.Record.{appended, recordDisk, recordStripe, recordCount};
+ghost use Rattle.entries.specs.Listed.{entryStripe, listed};
+ghost use Rattle.model.specs.Sheet.{narrow, sheetBytes, sheetOf, blankSheet};
 
 pub mod chain;
 pub mod reader;
 
-// Writes record number k + 1, and its number where the chain ends so far: as the next of record k, or as the first.
-pub fn append(sheet: &mut [u8], k: usize, disk: usize, stripe: usize)
-    requires { ⌜ length (now sheet) ≡ 98 ⌝ }
-    requires { ⌜ k < 32 ⌝ }
-    requires { ⌜ disk < 256 ⌝ }
-    requires { ⌜ stripe < 256 ⌝ }
-    ensures { λ r. ⌜ now (sheet .exit) ≡ appended (now (sheet .entry)) k disk stripe ⌝ }
-{
-    sheet[3 * k + 1] = (k + 1) as u8;
-    sheet[3 * k + 2] = disk as u8;
-    sheet[3 * k + 3] = stripe as u8;
-}
+// The kinds of sheets: repairs, and a loop.
+pub const REPAIR_KIND: u8 = 1;
 
-// The disk of record number k + 1.
-pub fn record_disk(sheet: &[u8], k: usize) -> usize
-    requires { ⌜ length (now sheet) ≡ 98 ⌝ }
-    requires { ⌜ k < 32 ⌝ }
-    ensures { λ r. ⌜ r ≡ recordDisk (now (sheet .entry)) k ⌝ }
-{
-    sheet[3 * k + 2] as usize
-}
+pub const LOOP_KIND: u8 = 2;
 
-// The stripe of record number k + 1.
-pub fn record_stripe(sheet: &[u8], k: usize) -> usize
-    requires { ⌜ length (now sheet) ≡ 98 ⌝ }
-    requires { ⌜ k < 32 ⌝ }
-    ensures { λ r. ⌜ r ≡ recordStripe (now (sheet .entry)) k ⌝ }
-{
-    sheet[3 * k + 3] as usize
-}
+// How many records a sheet has.
+pub const RECORDS: usize = 32;
 
-// The number of records, which stand in chain order.
-pub fn record_count(sheet: &[u8]) -> usize
-    requires { ⌜ length (now sheet) ≡ 98 ⌝ }
-    ensures { λ r. ⌜ r ≡ recordCount (now (sheet .entry)) ⌝ }
-{
-    let mut k = 0;
-    while k < 32 {
-        if sheet[3 * k + 1] == 0 {
-            return k;
-        }
-        k += 1;
-    }
-    k
-}
+// The bytes of a record: its disk, its stripe in one byte and the number of the next record in another.
+const DISK_BYTES: usize = 1;
+
+const RECORD_BYTES: usize = DISK_BYTES + 2;
+
+// The stripe that column 0 is in a sheet.
+pub const BASE: usize = 16;
+
+// The bytes of a sheet: the kind, the number of the first record, the records.
+pub const BYTES: usize = 98;
 
 // Copies one sheet over another.
-pub fn copy(from: &[u8], to: &mut [u8])
-    requires { ⌜ length (now from) ≡ 98 ⌝ }
-    requires { ⌜ length (now to) ≡ 98 ⌝ }
+fn copy(from: &[u8], to: &mut [u8])
+    requires { ⌜ length (now from) ≡ sheetBytes narrow ⌝ }
+    requires { ⌜ length (now to) ≡ sheetBytes narrow ⌝ }
     ensures { λ r. ⌜ now (to .exit) ≡ now (from .entry) ⌝ }
 {
     let mut i = 0;
-    while i < 98 {
+    while i < BYTES {
         to[i] = from[i];
         i += 1;
     }
 }
 
+// Writes a list of `count` entries: record 1 is entry 0, record 2 entry 1, and so on. Each record stands behind the number that
+// leads to it. Of a disk the low byte is stored, which is all of it where disks are below 256.
+pub fn write(kind: u8, list: &[u32], count: usize, sheet: &mut [u8])
+    requires { ⌜ length (now sheet) ≡ sheetBytes narrow ⌝ }
+    requires { ⌜ count ≤ narrow .records ⌝ }
+    requires { ⌜ count ≤ length (now list) ⌝ }
+    requires { ⌜ ((i : ℕ) → i < count → entryStripe (now list) i < 256) ⌝ }
+    ensures { λ r. ⌜ now (sheet .exit) ≡ sheetOf narrow kind (listed (now (list .entry)) count) ⌝ }
+{
+    let mut blank = [0u8; BYTES];
+    blank[0] = kind;
+    let mut k = 0;
+    while k < count {
+        let at = 1 + RECORD_BYTES * k;
+        blank[at] = (1 + k) as u8;
+        blank[at + 1] = (entries::disk_of(list, k) % 256) as u8;
+        blank[at + 2] = entries::stripe_of(list, k) as u8;
+        k += 1;
+    }
+    copy(&blank, sheet);
+}
+
 // Zeros the whole sheet.
 pub fn zero(sheet: &mut [u8])
-    requires { ⌜ length (now sheet) ≡ 98 ⌝ }
-    ensures { λ r. ⌜ now (sheet .exit) ≡ blankSheet ⌝ }
+    requires { ⌜ length (now sheet) ≡ sheetBytes narrow ⌝ }
+    ensures { λ r. ⌜ now (sheet .exit) ≡ blankSheet narrow ⌝ }
 {
-    let mut i = 0;
-    while i < 98 {
-        sheet[i] = 0;
-        i += 1;
-    }
+    let blank = [0u8; BYTES];
+    copy(&blank, sheet);
 }

@@ -25,17 +25,17 @@ pub fn record_at(sheet: &[u8], number: usize) -> Found
     if number == 0 {
         return Found::End;
     }
-    if 32 < number {
+    if crate::RECORDS < number {
         return Found::Outside;
     }
-    if sheet.len() != 98 {
+    if sheet.len() != crate::BYTES {
         return Found::Outside;
     }
-    let at = 3 * number - 1;
+    let at = 2 + crate::RECORD_BYTES * (number - 1);
     Found::Record(
         sheet[at] as usize,
-        sheet[at + 1] as usize,
-        sheet[at + 2] as usize,
+        sheet[at + crate::DISK_BYTES] as usize,
+        sheet[at + crate::DISK_BYTES + 1] as usize,
     )
 }
 

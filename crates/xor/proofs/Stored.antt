@@ -1,19 +1,19 @@
 -- Laws of a list with a stretch stored anew.
 -- Assumes nothing.
-use mathlib.Core.Path.{_≡_, refl, sym, _∙_, ap}
+use mathlib.Core.Path.{_≡_, refl, sym, _∙_, ap, ap₂}
 use mathlib.Core.Bool.{false, _&&_, and-false}
 use mathlib.Core.Logic.{⊎-elim}
 use mathlib.Core.List.{List}
 use Prim.Native.Nat.{ℕ, _+_, _-_, _≤_, _<_}
-use native.Mathlib.Nat.{add-sub-cancel-left, add-sub-of-le, le-add-right, not-suc-le-zero, sub-zero}
+use native.Mathlib.Nat.{add-sub-cancel-left, add-sub-of-le, le-add-right, le-refl, not-suc-le-zero}
 use native.Mathlib.Omega.{arith}
 use borrow.Author.Tests.{le-leb, lt-leb, lt-ltb, le-ltb}
 use lib.Dec.{leb, ltb}
 use lib.ListN.{length, getD, set, length-set, List·getD-eq-default}
 use lib.Seq.{ext-getD, getD-set-same, getD-set-other}
-use Rattle.model.specs.Fold.{tabulate}
-use Rattle.model.proofs.Fold.{length-tabulate, getD-tabulate, list-is, lt-or-le}
-use Rattle.xor.specs.Strided.{stored}
+use Rattle.stripes.specs.Fold.{_⊕_}
+use Rattle.stripes.proofs.Fold.{length-tabulate, getD-tabulate, lt-or-le}
+use Rattle.xor.specs.Strided.{stored, added}
 
 module _ (l : List ℕ) (at n : ℕ) (f : ℕ → ℕ) where
   pub length-stored : length (stored l at n f) ≡ length l
@@ -69,23 +69,28 @@ module _ (l : List ℕ) (at : ℕ) where
       (λ i b c. getD-stored l at n f (at + i) c (le-add-right at i) (omega arith) ∙ ap f (add-sub-cancel-left at i) ∙ h i b)
       (getD-before l at n f) (getD-after l at n f)
 
-  -- A stretch stored behind a stretch.
-  pub stored-more : (m n : ℕ) (f : ℕ → ℕ) → stored (stored l at m f) (at + m) n (λ i. f (m + i)) ≡ stored l at (m + n) f
-  stored-more m n f =
-      let k : List ℕ = stored l at m f in
-      stored-is l at (m + n) f (stored k (at + m) n (λ i. f (m + i))) (length-stored k (at + m) n (λ i. f (m + i)) ∙ length-stored l at m f)
-      (λ i b c.
+  pub added-ext : (n : ℕ) {f g : ℕ → ℕ} → ((i : ℕ) → i < n → f i ≡ g i) → added l at n f ≡ added l at n g
+  unfolding added
+  added-ext n h = stored-ext n (λ i b. ap (λ (x : ℕ). getD l (at + i) 0 ⊕ x) (h i b))
+
+  -- A stretch stored behind k places of a stretch of m, and on past its end: the same, where both store the same values.
+  pub stored-more : (m k n : ℕ) (f : ℕ → ℕ) → k ≤ m → m ≤ k + n
+      → stored (stored l at m f) (at + k) n (λ i. f (k + i)) ≡ stored l at (k + n) f
+  stored-more m k n f low high =
+      let b : List ℕ = stored l at m f in
+      stored-is l at (k + n) f (stored b (at + k) n (λ i. f (k + i))) (length-stored b (at + k) n (λ i. f (k + i)) ∙ length-stored l at m f)
+      (λ i h c.
       ⊎-elim
       (λ p.
-      getD-before k (at + m) n (λ i. f (m + i)) (at + i) (omega arith)
+      getD-before b (at + k) n (λ i. f (k + i)) (at + i) (omega arith)
       ∙ getD-stored l at m f (at + i) c (le-add-right at i) (omega arith)
       ∙ ap f (add-sub-cancel-left at i))
       (λ p.
-      getD-stored k (at + m) n (λ i. f (m + i)) (at + i) (rw length-stored c) (omega arith) (omega arith)
+      getD-stored b (at + k) n (λ i. f (k + i)) (at + i) (rw length-stored c) (omega arith) (omega arith)
       ∙ ap f (omega arith))
-      (lt-or-le i m))
-      (λ i h. getD-before k (at + m) n (λ i. f (m + i)) i (omega arith) ∙ getD-before l at m f i h)
-      (λ i h. getD-after k (at + m) n (λ i. f (m + i)) i (omega arith) ∙ getD-after l at m f i (omega arith))
+      (lt-or-le i k))
+      (λ i h. getD-before b (at + k) n (λ i. f (k + i)) i (omega arith) ∙ getD-before l at m f i h)
+      (λ i h. getD-after b (at + k) n (λ i. f (k + i)) i (omega arith) ∙ getD-after l at m f i (omega arith))
 
   -- A single store.
   pub stored-one : (v : ℕ) → at < length l → set l at v ≡ stored l at 1 (λ i. v)
@@ -98,7 +103,21 @@ pub stored-next : (l : List ℕ) (at n : ℕ) (f : ℕ → ℕ) (v : ℕ) → v 
     → set (stored l at n f) (at + n) v ≡ stored l at (n + 1) f
 stored-next l at n f v e h =
     let k : List ℕ = stored l at n f in
-    stored-one k (at + n) v (rw length-stored h) ∙ stored-ext k (at + n) 1 (λ i b. e ∙ ap f (omega arith)) ∙ stored-more l at n 1 f
+    stored-one k (at + n) v (rw length-stored h) ∙ stored-ext k (at + n) 1 (λ i b. e ∙ ap f (omega arith)) ∙ stored-more l at n n 1 f (le-refl n) (le-add-right n 1)
 
-pub stored-all : (l : List ℕ) (n : ℕ) (f : ℕ → ℕ) → length l ≡ n → stored l 0 n f ≡ tabulate n f
-stored-all l n f e = list-is (stored l 0 n f) n f (length-stored l 0 n f ∙ e) (λ i b. getD-stored l 0 n f i (omega arith) (omega arith) (omega arith) ∙ ap f (sub-zero i))
+-- ---- what a loop of sums does
+module _ (l : List ℕ) (at : ℕ) (f : ℕ → ℕ) where
+  pub length-added : (n : ℕ) → length (added l at n f) ≡ length l
+  unfolding added
+  length-added n = length-stored l at n _
+
+  pub added-none : l ≡ added l at 0 f
+  unfolding added
+  added-none = stored-none l at _
+
+  pub added-next : (n : ℕ) (r : List ℕ) → r ≡ added l at n f → at + n < length l
+      → set r (at + n) (getD r (at + n) 0 ⊕ f n) ≡ added l at (n + 1) f
+  unfolding added
+  added-next n r e h =
+      ap₂ (λ (k : List ℕ) (x : ℕ). set k (at + n) (x ⊕ f n)) e (ap (λ (k : List ℕ). getD k (at + n) 0) e ∙ getD-after l at n _ (at + n) (le-refl (at + n)))
+      ∙ stored-next l at n _ _ refl h

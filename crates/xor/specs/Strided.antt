@@ -5,7 +5,7 @@ use mathlib.Core.List.{List}
 use Prim.Native.Nat.{ℕ, _+_, _*_, _-_, _≤_, _<_}
 use lib.Dec.{leb, ltb, eqb}
 use lib.ListN.{length, getD}
-use Rattle.model.specs.Fold.{_⊕_, xsum, gate, every, tabulate}
+use Rattle.stripes.specs.Fold.{_⊕_, xsum, gate, every, tabulate}
 
 -- The stretches of w bytes, `count` of them that stand `step` apart from `first` on, lie within the list.
 abbrev pub Within : List ℕ → (first step count w : ℕ) → Type 0
@@ -21,17 +21,13 @@ pub record Spaced (a : List ℕ) (first step count skip w : ℕ) : Type 0 where
 unfoldable pub strided : List ℕ → (first step count skip : ℕ) → ℕ
 strided a first step count skip = xsum count (λ k. gate (not (eqb k skip)) (getD a (first + k * step) 0))
 
--- w such sums side by side.
-unfoldable pub sums : ℕ → List ℕ → (first step count skip : ℕ) → List ℕ
-sums w a first step count skip = tabulate w (λ i. strided a (first + i) step count skip)
-
--- The first w bytes of acc, each with the byte added that stands as far behind `at`.
-unfoldable pub mixed : ℕ → List ℕ → List ℕ → ℕ → List ℕ
-mixed w acc a at = tabulate w (λ i. getD acc i 0 ⊕ getD a (at + i) 0)
-
 -- The list with f 0 .. f (n - 1) at the places from `at` on.
 unfoldable pub stored : List ℕ → (at n : ℕ) → (ℕ → ℕ) → List ℕ
 stored l at n f = tabulate (length l) (λ i. cond (leb at i && ltb i (at + n)) (f (i - at)) (getD l i 0))
+
+-- The list with f 0 .. f (n - 1) added to the bytes from `at` on.
+unfoldable pub added : List ℕ → (at n : ℕ) → (ℕ → ℕ) → List ℕ
+added l at n f = stored l at n (λ i. getD l (at + i) 0 ⊕ f i)
 
 -- The list with stretch number `skip`, n bytes of it, the sum of the others.
 unfoldable pub filled : ℕ → List ℕ → (first step count skip : ℕ) → List ℕ

@@ -5,82 +5,43 @@ ghost use mathlib.Core.Bool.{not};
 ghost use Prim.Native.Nat.{ℕ, _+_, _*_, _≤_, _<_};
 ghost use lib.Dec.{eqb};
 ghost use lib.ListN.{length, getD};
-ghost use Rattle.model.specs.Fold.{every, lowest};
+ghost use Rattle.stripes.specs.Fold.{every, lowest};
 ghost use Rattle.xor.specs.Strided.{Within, cancelled};
-use crate::sum::sum1;
-use crate::sum::sum16;
-use crate::sum::sum128;
+use crate::sum::sum;
 
-// Every byte of v is zero.
-fn zero128(v: [u8; 128]) -> bool
-    ensures { λ r. ⌜ r ≡ every 128 (λ i. eqb (getD v i 0) 0) ⌝ }
+// The first w bytes of v are all zero.
+fn is_zero(v: [u8; 128], w: usize) -> bool
+    requires { ⌜ w ≤ 128 ⌝ }
+    ensures { λ r. ⌜ r ≡ every w (λ i. eqb (getD v i 0) 0) ⌝ }
 {
     let mut any = 0u8;
     let mut i = 0;
-    while i < 128 {
+    while i < w {
         any = any | v[i];
         i += 1;
     }
     any == 0
 }
 
-// `cancel` for 128 * chunks bytes, 128 at a time.
-fn cancel128(a: &[u8], first: usize, step: usize, count: usize, skip: usize, chunks: usize) -> bool
-    requires { ⌜ Within (now a) first step count (128 * chunks) ⌝ }
-    requires { ⌜ first + 128 * chunks ≤ length (now a) ⌝ }
-    ensures { λ r. ⌜ r ≡ cancelled (128 * chunks) (now (a .entry)) first step count skip ⌝ }
+// `cancels` for w * parts bytes, w at a time.
+fn parts_cancel(
+    a: &[u8],
+    first: usize,
+    step: usize,
+    count: usize,
+    skip: usize,
+    parts: usize,
+    w: usize,
+) -> bool
+    requires { ⌜ w ≤ 128 ⌝ }
+    requires { ⌜ Within (now a) first step count (w * parts) ⌝ }
+    requires { ⌜ first + w * parts ≤ length (now a) ⌝ }
+    ensures { λ r. ⌜ r ≡ cancelled (w * parts) (now (a .entry)) first step count skip ⌝ }
 {
     let mut i = 0;
-    while i < chunks {
-        let v = sum128(a, first + 128 * i, step, count, skip);
-        if !zero128(v) {
-            return false;
-        }
-        i += 1;
-    }
-    true
-}
-
-// Every byte of v is zero.
-fn zero16(v: [u8; 16]) -> bool
-    ensures { λ r. ⌜ r ≡ every 16 (λ i. eqb (getD v i 0) 0) ⌝ }
-{
-    let mut any = 0u8;
-    let mut i = 0;
-    while i < 16 {
-        any = any | v[i];
-        i += 1;
-    }
-    any == 0
-}
-
-// `cancel` for 16 * chunks bytes, 16 at a time.
-fn cancel16(a: &[u8], first: usize, step: usize, count: usize, skip: usize, chunks: usize) -> bool
-    requires { ⌜ Within (now a) first step count (16 * chunks) ⌝ }
-    requires { ⌜ first + 16 * chunks ≤ length (now a) ⌝ }
-    ensures { λ r. ⌜ r ≡ cancelled (16 * chunks) (now (a .entry)) first step count skip ⌝ }
-{
-    let mut i = 0;
-    while i < chunks {
-        let v = sum16(a, first + 16 * i, step, count, skip);
-        if !zero16(v) {
-            return false;
-        }
-        i += 1;
-    }
-    true
-}
-
-// `cancel`, one byte at a time.
-fn cancel1(a: &[u8], first: usize, step: usize, count: usize, skip: usize, len: usize) -> bool
-    requires { ⌜ Within (now a) first step count len ⌝ }
-    requires { ⌜ first + len ≤ length (now a) ⌝ }
-    ensures { λ r. ⌜ r ≡ cancelled len (now (a .entry)) first step count skip ⌝ }
-{
-    let mut i = 0;
-    while i < len {
-        let v = sum1(a, first + i, step, count, skip);
-        if v != 0 {
+    while i < parts {
+        let v = sum(a, first + w * i, step, count, skip, w);
+        if !is_zero(v, w) {
             return false;
         }
         i += 1;
@@ -90,34 +51,37 @@ fn cancel1(a: &[u8], first: usize, step: usize, count: usize, skip: usize, len: 
 
 // Of `count` stretches of `len` bytes that stand `step` apart from `first` on, the sum of all but number `skip` is zero at
 // each place.
-pub fn cancel(a: &[u8], first: usize, step: usize, count: usize, skip: usize, len: usize) -> bool
+pub fn cancels(a: &[u8], first: usize, step: usize, count: usize, skip: usize, len: usize) -> bool
     requires { ⌜ Within (now a) first step count len ⌝ }
     requires { ⌜ first + len ≤ length (now a) ⌝ }
     ensures { λ r. ⌜ r ≡ cancelled len (now (a .entry)) first step count skip ⌝ }
 {
+    if len < 16 {
+        return parts_cancel(a, first, step, count, skip, len, 1);
+    }
     let wide = len / 128;
-    let rest = len % 128;
-    let narrow = rest / 16;
-    if !cancel128(a, first, step, count, skip, wide) {
+    let middle = len % 128 / 32;
+    let narrow = len % 32 / 16;
+    if !parts_cancel(a, first, step, count, skip, wide, 128) {
         return false;
     }
-    if !cancel16(a, first + 128 * wide, step, count, skip, narrow) {
+    if !parts_cancel(a, first + 128 * wide, step, count, skip, middle, 32) {
         return false;
     }
-    cancel1(
-        a,
-        first + 128 * wide + 16 * narrow,
-        step,
-        count,
-        skip,
-        rest % 16,
-    )
+    if !parts_cancel(a, first + (len - len % 32), step, count, skip, narrow, 16) {
+        return false;
+    }
+    if len % 16 == 0 {
+        return true;
+    }
+    parts_cancel(a, first + (len - 16), step, count, skip, 1, 16)
 }
 
 // The lowest of `total` sums that is not zero somewhere, or `total` where there is none. The stretches of sum number i
-// start at i * pitch.
+// start at first + i * pitch.
 pub fn lowest_nonzero(
     a: &[u8],
+    first: usize,
     pitch: usize,
     total: usize,
     step: usize,
@@ -125,13 +89,13 @@ pub fn lowest_nonzero(
     skip: usize,
     len: usize,
 ) -> usize
-    requires { ⌜ ((i : ℕ) → i < total → Within (now a) (i * pitch) step count len) ⌝ }
-    requires { ⌜ ((i : ℕ) → i < total → i * pitch + len ≤ length (now a)) ⌝ }
-    ensures { λ r. ⌜ r ≡ lowest total (λ i. not (cancelled len (now (a .entry)) (i * pitch) step count skip)) ⌝ }
+    requires { ⌜ ((i : ℕ) → i < total → Within (now a) (first + i * pitch) step count len) ⌝ }
+    requires { ⌜ ((i : ℕ) → i < total → first + i * pitch + len ≤ length (now a)) ⌝ }
+    ensures { λ r. ⌜ r ≡ lowest total (λ i. not (cancelled len (now (a .entry)) (first + i * pitch) step count skip)) ⌝ }
 {
     let mut i = 0;
     while i < total {
-        if !cancel(a, i * pitch, step, count, skip, len) {
+        if !cancels(a, first + i * pitch, step, count, skip, len) {
             return i;
         }
         i += 1;

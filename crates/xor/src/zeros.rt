@@ -3,7 +3,7 @@ ghost use mathlib.Core.Path.{_≡_};
 ghost use Prim.Native.Nat.{_+_, _≤_};
 ghost use lib.Dec.{eqb};
 ghost use lib.ListN.{length, getD};
-ghost use Rattle.model.specs.Fold.{every};
+ghost use Rattle.stripes.specs.Fold.{every};
 
 // Every one of the 16 bytes from `at` on is zero.
 pub fn all_zero16(a: &[u8], at: usize) -> bool

@@ -4,10 +4,9 @@ use mathlib.Core.Path.{_≡_, refl, _∙_, sym, subst}
 use mathlib.Core.Logic.{_↔_}
 use native.Mathlib.Omega.{arith}
 use borrow.Author.Needs.{needs}
-use Rattle.model.specs.Stripes.{whole, Bytes}
-use Rattle.model.specs.Grid.{gridOf}
-use Rattle.model.specs.Repair.{erasures, Belongs}
-use Rattle.model.specs.Rebuild.{outcomeStatus}
+use Rattle.stripes.specs.System.{whole, Bytes}
+use Rattle.stripes.specs.Erased.{erasures, Belongs}
+use Rattle.model.specs.Plan.{sheetLayout, outcomeStatus}
 use Rattle.model.specs.Follow.{Usable}
 use Rattle.model.specs.declared.Outcome.{Outcome}
 use Rattle.model.proofs.Follow.{follow-any, follow-contradicted, follow-fatal}
@@ -38,7 +37,7 @@ returns c =
                 subst
                 (λ (o : Outcome). (outcomeStatus o ≡ 7)
                 ↔ (Usable (a .size) (a .map .now) (a .sheet .now)
-                × (Belongs (gridOf (a .size)) (whole (a .block)) (erasures (a .map .now)) (a .array .now) → ⊥)))
+                × (Belongs (sheetLayout (a .size)) (whole (a .block)) (erasures (a .map .now)) (a .array .now) → ⊥)))
                 (sym outcome) (follow-contradicted (a .size) (a .block) (a .array .now) (a .map .now) (a .sheet .now) ok small),
             λ lossy. array ∙ follow-fatal (a .size) (a .block) (a .array .now) (a .map .now) (a .sheet .now) lossy .0,
           ),

@@ -5,15 +5,21 @@ use mathlib.Core.Bool.{true}
 use borrow.Author.Needs.{needs}
 use borrow.Author.Tests.{not-true, not-false}
 use lib.ListN.{length}
-use Rattle.model.specs.Grid.{gridOf, mapFits}
+use Rattle.stripes.specs.Erased.{erasures}
+use Rattle.stripes.specs.Repair.{clears}
+use Rattle.stripes.specs.System.{whole}
+use Rattle.model.specs.Grid.{mapFits}
+use Rattle.model.specs.Sheet.{narrow, sheetBytes}
 use Rattle.model.specs.Refusal.{refusal, arrayTests}
-use Rattle.model.specs.Repair.{erasures}
-use Rattle.model.specs.Rebuild.{sheetTests, rebuildRefusal}
-use Rattle.model.specs.Follow.{clears}
+use Rattle.model.specs.Plan.{sheetTests, sheetLayout}
+use Rattle.model.specs.Rebuild.{rebuildRefusal}
 use Rattle.model.proofs.Refusal.{array-fits}
 use Rattle.model.proofs.Accept.{sheet-fits}
-use Rattle.sheet.specs.Record.{records}
-use Rattle.follow.proofs.Answers.{Listed, array-refused, sheet-refused, tests-left, broken, records-listed, own-98, count-few, steps-refused, peels, agreed, contradicted}
+use Rattle.entries.specs.Listed.{listed}
+use native.Mathlib.Omega.{arith}
+use Rattle.layout.proofs.Numbers.{numbered}
+use Rattle.sums.proofs.Whole.{held}
+use Rattle.follow.proofs.Answers.{Read, array-refused, sheet-refused, tests-left, broken, records-listed, count-few, steps-refused, peels, agreed, contradicted}
 use Rattle.follow.proofs.follow.Statement.{statement}
 use Rattle.follow.proofs.follow.Tie as tie
 
@@ -27,7 +33,7 @@ tested : (c : tie.Else2) → let a = c .before .before .before .before .before .
 tested c = sym (c .before .sheet-refusal .ensures) ∙ c .if2 .left
 
 mapped : (c : tie.Else2) → let a = c .before .before .before .before .before .before .before .args in
-    (mapFits (a .size) (a .map .now) ≡ true) × (length (a .sheet .now) ≡ 98)
+    (mapFits (a .size) (a .map .now) ≡ true) × (length (a .sheet .now) ≡ sheetBytes narrow)
 mapped c = sheet-fits _ _ _ (tested c)
 
 passed : (c : tie.Else2) → let a = c .before .before .before .before .before .before .before .args in
@@ -37,14 +43,14 @@ passed c =
     tests-left (a .size) (a .block) (a .array .now) (a .map .now) (a .sheet .now) (sized (c .before .before)) ∙ tested c
 
 -- The chain fits, and its records are listed in their order.
-listed : (c : tie.After-chain) → Listed (c .before .before .before .before .before .before .before .before .before .before .before .before .args .sheet .now) (c .before .before .before .straighten .last .1 .0) (c .chain .given .0 .0)
-listed c =
-    let straighten = c .before .before .before .straighten in
-    records-listed _ _ _ (straighten .ensures .0) (straighten .ensures .1) _ (c .chain .given .1)
+is-read : (c : tie.After-chain) → Read (c .before .before .before .before .before .before .before .before .before .before .before .before .args .sheet .now) (c .before .before .before .read .last .1 .0) (c .chain .given .0 .0)
+is-read c =
+    let read = c .before .before .before .read in
+    records-listed _ _ _ (read .ensures .0) (read .ensures .1) _ (c .chain .given .1)
 
 -- Every step is allowed, and nothing is left erased.
 cleared : (c : tie.Else3) → let chain = c .before .before .before .before in let a = chain .before .before .before .before .before .before .before .before .before .before .before .before .args in
-    clears (gridOf (a .size)) (erasures (a .map .now)) (records (chain .before .before .before .straighten .last .1 .0) (chain .chain .given .0 .0)) ≡ true
+    clears (sheetLayout (a .size)) (erasures (a .map .now)) (listed (chain .before .before .before .read .last .1 .0) (chain .chain .given .0 .0)) ≡ true
 cleared c = sym (c .before .clears .ensures) ∙ not-false _ (c .if3 .left)
 
 array-refusal-requires : tie.Need-array-refusal-requires
@@ -66,11 +72,11 @@ returns-2 c =
     sheet-refused (a .size) (a .block) (a .array .now) (a .map .now) (a .sheet .now) (sized (c .before .before)) _ (c .before .sheet-refusal .ensures)
     (c .if2 .taken)
 
-slice-aggregate-straighten : tie.Need-slice-aggregate-straighten
-slice-aggregate-straighten c = search needs
+slice-aggregate-read : tie.Need-slice-aggregate-read
+slice-aggregate-read c = search needs
 
-straighten-requires : tie.Need-straighten-requires
-straighten-requires c κs = (mapped (c .before) .1, refl)
+read-requires : tie.Need-read-requires
+read-requires c κs = (mapped (c .before) .1, omega arith)
 
 enum-known-chain : tie.Need-enum-known-chain
 enum-known-chain c = search needs
@@ -82,7 +88,7 @@ returns-3 : tie.Need-returns-3
 returns-3 c =
     let a = c .before .before .before .before .before .before .before .before .before .before .before .before .args in
     broken (a .size) (a .block) (a .array .now) (a .map .now) (a .sheet .now) (passed (c .before .before .before .before .before))
-    _ (c .before .before .before .straighten .ensures .0) (c .enum-told .given .1)
+    _ (c .before .before .before .read .ensures .0) (c .enum-told .given .1)
 
 slice-aggregate-clears : tie.Need-slice-aggregate-clears
 slice-aggregate-clears c = search needs
@@ -90,44 +96,59 @@ slice-aggregate-clears c = search needs
 clears-requires : tie.Need-clears-requires
 clears-requires c κs =
     let a = c .before .before .before .before .before .before .before .before .before .before .before .before .before .before .args in
-    let l = listed (c .before .before) in
-    (array-fits (a .size) (a .block) (length (a .array .now)) (sized (c .before .before .before .before .before .before .before .before .before)) .size, (mapped (c .before .before .before .before .before .before .before) .0, (own-98 l, count-few l)))
+    let l = is-read (c .before .before) in
+    let size = array-fits (a .size) (a .block) (length (a .array .now)) (sized (c .before .before .before .before .before .before .before .before .before)) .size in
+    (numbered (a .size) size, (mapped (c .before .before .before .before .before .before .before) .0, let few = count-few l in omega arith))
 
 returns-4 : tie.Need-returns-4
 returns-4 c =
     let a = c .before .before .before .before .before .before .before .before .before .before .before .before .before .before .before .before .args in
-    steps-refused (listed (c .before .before .before .before)) (a .size) (a .block) (a .array .now) (a .map .now) (passed (c .before .before .before .before .before .before .before .before .before))
+    steps-refused (is-read (c .before .before .before .before)) (a .size) (a .block) (a .array .now) (a .map .now) (passed (c .before .before .before .before .before .before .before .before .before))
     (sym (c .before .clears .ensures) ∙ not-true _ (c .if3 .taken))
 
 slice-aggregate-restore : tie.Need-slice-aggregate-restore
 slice-aggregate-restore c = search needs
 
 restore-requires : tie.Need-restore-requires
+unfolding whole
 restore-requires c κs =
     let a = c .before .before .before .before .before .before .before .before .before .before .before .before .before .before .before .before .before .before .args in
-    let l = listed (c .before .before .before .before .before .before) in (
-      sized (c .before .before .before .before .before .before .before .before .before .before .before .before .before),
-      (mapped (c .before .before .before .before .before .before .before .before .before .before .before) .0, (own-98 l, (count-few l, peels l (a .size) (a .block) (a .array .now) (a .map .now) (passed (c .before .before .before .before .before .before .before .before .before .before .before)) (cleared (c .before .before))))),
+    let l = is-read (c .before .before .before .before .before .before) in
+    let tests = c .before .before .before .before .before .before .before .before .before .before .before in
+    let array = array-fits (a .size) (a .block) (length (a .array .now)) (sized (tests .before .before)) in (
+      numbered (a .size) (array .size),
+      (
+        held (a .size) (a .block) (a .array .now) array,
+        (
+          mapped tests .0,
+          (
+            let few = count-few l in omega arith,
+            peels l (a .size) (a .block) (a .array .now) (a .map .now) (passed tests) (cleared (c .before .before)),
+          ),
+        ),
+      ),
     )
 
 same-length : tie.Need-same-length
 same-length c = search needs
 
 returns-5 : tie.Need-returns-5
+unfolding whole
 returns-5 c =
     let a = c .before .before .before .before .before .before .before .before .before .before .before .before .before .before .before .before .before .before .before .before .before .before .args in
     let restore = c .before .before .before .restore in
-    contradicted (listed (c .before .before .before .before .before .before .before .before .before .before)) (a .size) (a .block) (a .array .now) (a .map .now) (passed (c .before .before .before .before .before .before .before .before .before .before .before .before .before .before .before)) (cleared (c .before .before .before .before .before .before))
+    contradicted (is-read (c .before .before .before .before .before .before .before .before .before .before)) (a .size) (a .block) (a .array .now) (a .map .now) (passed (c .before .before .before .before .before .before .before .before .before .before .before .before .before .before .before)) (cleared (c .before .before .before .before .before .before))
     _ (restore .ensures .1) (sym (restore .ensures .0) ∙ not-true _ (c .if4 .taken))
 
 same-length-2 : tie.Need-same-length-2
 same-length-2 c = search needs
 
 returns-6 : tie.Need-returns-6
+unfolding whole
 returns-6 c =
     let a = c .before .before .before .before .before .before .before .before .before .before .before .before .before .before .before .before .before .before .before .before .before .before .args in
     let restore = c .before .before .before .restore in
-    agreed (listed (c .before .before .before .before .before .before .before .before .before .before)) (a .size) (a .block) (a .array .now) (a .map .now) (passed (c .before .before .before .before .before .before .before .before .before .before .before .before .before .before .before)) (cleared (c .before .before .before .before .before .before))
+    agreed (is-read (c .before .before .before .before .before .before .before .before .before .before)) (a .size) (a .block) (a .array .now) (a .map .now) (passed (c .before .before .before .before .before .before .before .before .before .before .before .before .before .before .before)) (cleared (c .before .before .before .before .before .before))
     _ (restore .ensures .1) (sym (restore .ensures .0) ∙ not-false _ (c .if4 .left))
 
 pub follow-spec : {M : Type 1} → statement M
@@ -138,8 +159,8 @@ follow-spec =
     returns
     sheet-refusal-requires
     returns-2
-    slice-aggregate-straighten
-    straighten-requires
+    slice-aggregate-read
+    read-requires
     enum-known-chain
     enum-told
     returns-3

@@ -4,9 +4,8 @@ use mathlib.Core.Path.{_∙_, sym}
 use Prim.Native.Nat.{_-_}
 use native.Mathlib.Omega.{arith}
 use borrow.Author.Needs.{needs}
-use lib.ListN.{length, drop, length-drop}
+use lib.ListN.{length, drop, length-drop, drop-of-length-le}
 use lib.Seq.{take-all}
-use Rattle.listing.proofs.Answers.{empty}
 use Rattle.listing.proofs.map_of.Statement.{statement}
 use Rattle.listing.proofs.map_of.Tie as tie
 
@@ -23,10 +22,9 @@ returns : tie.Need-returns
 returns c =
     let s = c .before .before .args .input .now in
     let short = c .before .if1 .taken in
-    let here = length-drop (length s) s in
-    let there = length-drop 2 s in
+    let long = length-drop (length s) s in
     take-all (length s - length s) (drop (length s) s) (omega arith)
-    ∙ empty (drop (length s) s) (omega arith) ∙ sym (empty (drop 2 s) (omega arith))
+    ∙ drop-of-length-le s {i = length s} (omega arith) ∙ sym (drop-of-length-le s {i = 2} (omega arith))
 
 sub-result-2 : tie.Need-sub-result-2
 sub-result-2 c = search needs

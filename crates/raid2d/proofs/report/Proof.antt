@@ -3,7 +3,7 @@
 use mathlib.Core.Path.{_≡_, sym, ap}
 use Prim.Native.Nat.{ℕ}
 use borrow.Author.Needs.{needs}
-use Rattle.model.specs.Rebuild.{outcomeStatus, outcomeCount}
+use Rattle.model.specs.Plan.{outcomeStatus, outcomeCount}
 use Rattle.model.specs.declared.Outcome.{Outcome}
 use Rattle.raid2d.proofs.report.Statement.{statement}
 use Rattle.raid2d.proofs.report.Tie as tie

@@ -5,7 +5,11 @@ use borrow.Author.Needs.{needs}
 use borrow.Author.Tests.{not-true, not-false}
 use lib.ListN.{length}
 use Rattle.model.specs.Refusal.{refusal, arrayTests}
-use Rattle.rebuild.proofs.Answers.{Planned, refused, as-plan, plan-repairs, map-fits, sheet-98, count-few, peels, agreed, contradicted}
+use native.Mathlib.Omega.{arith}
+use Rattle.stripes.specs.System.{whole}
+use Rattle.layout.proofs.Numbers.{numbered}
+use Rattle.sums.proofs.Whole.{held}
+use Rattle.rebuild.proofs.Answers.{Planned, refused, as-plan, plan-repairs, map-fits, sheet-long, count-few, peels, agreed, contradicted}
 use Rattle.rebuild.proofs.rebuild.Statement.{statement}
 use Rattle.rebuild.proofs.rebuild.Tie as tie
 
@@ -15,16 +19,17 @@ accepted : (c : tie.Else1) → let a = c .before .before .before .before .before
 accepted c = sym (c .before .array-refusal .ensures) ∙ c .if1 .left
 
 -- Plan has answered with repairs.
-abbrev start : tie.After-plan → tie.Start
-start c = c .before .before .before .before .before .before .before
+abbrev start : tie.After-draft → tie.Start
+start c = c .before .before .before .before .before .before .before .before
 
-planned : (c : tie.After-answer) → let plan = c .before .before .before .before in let a = start plan .args in
-    Planned (a .size) (a .block) (a .array .now) (a .map .now) (a .sheet .now) (plan .plan .last .1 .1 .0) (c .answer .given .0 .0)
+planned : (c : tie.After-answer) → let draft = c .before .before .before .before .before in let a = start draft .args in
+    Planned (a .size) (a .block) (a .array .now) (a .map .now) (a .sheet .now)
+    (draft .draft .last .1 .1 .0) (draft .draft .last .1 .1 .1 .0) (c .answer .given .0 .0)
 planned c =
-    let plan = c .before .before .before .before in
-    let a = start plan .args in
-    plan-repairs (a .size) (a .block) (a .array .now) (a .map .now) (a .sheet .now) (accepted (plan .before .before))
-    _ _ (plan .plan .ensures .0) (plan .plan .ensures .1) _ (c .answer .given .1)
+    let draft = c .before .before .before .before .before in
+    let a = start draft .args in
+    plan-repairs (a .size) (a .block) (a .array .now) (a .map .now) (a .sheet .now) (accepted (draft .before .before .before))
+    _ _ (draft .draft .ensures .0) (draft .draft .ensures .1 .0) _ (draft .draft .ensures .1 .1) _ (c .answer .given .1)
 
 array-refusal-requires : tie.Need-array-refusal-requires
 array-refusal-requires c κs = search needs
@@ -34,8 +39,11 @@ returns c =
     let a = c .before .before .before .before .before .args in
     refused (a .size) (a .block) (a .array .now) (a .map .now) (a .sheet .now) _ (c .before .array-refusal .ensures) (c .if1 .taken)
 
-plan-requires : tie.Need-plan-requires
-plan-requires c κs = search needs
+slice-aggregate-draft : tie.Need-slice-aggregate-draft
+slice-aggregate-draft c = search needs
+
+draft-requires : tie.Need-draft-requires
+draft-requires c κs = search needs
 
 enum-known-answer : tie.Need-enum-known-answer
 enum-known-answer c = search needs
@@ -45,19 +53,28 @@ same-length c = search needs
 
 returns-2 : tie.Need-returns-2
 returns-2 c =
-    let plan = c .before .before .before in
-    let a = start plan .args in
-    as-plan (a .size) (a .block) (a .array .now) (a .map .now) (a .sheet .now) (accepted (plan .before .before))
-    _ _ (plan .plan .ensures .0) (plan .plan .ensures .1) (c .match .keys2)
+    let draft = c .before .before .before .before in
+    let a = start draft .args in
+    as-plan (a .size) (a .block) (a .array .now) (a .map .now) (a .sheet .now) (accepted (draft .before .before .before))
+    _ _ (draft .draft .ensures .0) (draft .draft .ensures .1 .0) (c .match .keys2)
+
+slice-aggregate-restore : tie.Need-slice-aggregate-restore
+slice-aggregate-restore c = search needs
 
 restore-requires : tie.Need-restore-requires
+unfolding whole
 restore-requires c κs =
-    let answer = c .before .before .before in
-    let p = planned answer in
-    (accepted (answer .before .before .before .before .before .before), (map-fits p, (sheet-98 p, (count-few p, peels p))))
+    let p = planned (c .before .before .before) in
+    let a = start (c .before .before .before .before .before .before .before .before) .args in (
+      numbered (a .size) (p .arrayFits .size),
+      (
+        held (a .size) (a .block) (a .array .now) (p .arrayFits),
+        (map-fits p, (let few = count-few p in omega arith, peels p)),
+      ),
+    )
 
 zero-requires : tie.Need-zero-requires
-zero-requires c κs = sheet-98 (planned (c .before .before .before .before .before .before .before .before))
+zero-requires c κs = sheet-long (planned (c .before .before .before .before .before .before .before .before))
 
 same-length-2 : tie.Need-same-length-2
 same-length-2 c = search needs
@@ -66,6 +83,7 @@ same-length-3 : tie.Need-same-length-3
 same-length-3 c = search needs
 
 returns-3 : tie.Need-returns-3
+unfolding whole
 returns-3 c =
     let other = c .before .before .before .before in
     let restore = other .before .before .before in
@@ -79,6 +97,7 @@ same-length-5 : tie.Need-same-length-5
 same-length-5 c = search needs
 
 returns-4 : tie.Need-returns-4
+unfolding whole
 returns-4 c =
     let restore = c .before .before .before in
     agreed (planned (restore .before .before .before .before)) _ (restore .restore .ensures .1)
@@ -90,10 +109,12 @@ rebuild-spec =
     (tie.spec
     array-refusal-requires
     returns
-    plan-requires
+    slice-aggregate-draft
+    draft-requires
     enum-known-answer
     same-length
     returns-2
+    slice-aggregate-restore
     restore-requires
     zero-requires
     same-length-2

@@ -2,61 +2,75 @@
 -- Assumes nothing.
 use mathlib.Core.Path.{_∙_, sym}
 use borrow.Author.Needs.{needs}
-use Rattle.restore.proofs.Judged.{Asked, on-disks, on-stripes, still-fits, all-sealed, contradicted}
+use borrow.Author.Tests.{not-false}
+use Rattle.stripes.specs.Erased.{erasures}
+use Rattle.restore.proofs.Judged.{on-disks, on-stripes, still-held, all-restored, contradicted}
 use Rattle.restore.proofs.restore.Statement.{statement}
 use Rattle.restore.proofs.restore.Tie as tie
-
-asked : (s : tie.Start) → let a = s .args in Asked (a .size) (a .block) (a .array .now) (a .map .now) (a .sheet .now) (a .count)
-asked s = record { ok = s .pre .0; peels = s .pre .1 .1 .1 .1 }
 
 repair-all-requires : tie.Need-repair-all-requires
 repair-all-requires c κs =
     let s = c .before .before .before .before in
-    (s .pre .0, (s .pre .1 .1 .0, (s .pre .1 .1 .1 .0, (on-disks (asked s), on-stripes (asked s)))))
+    let a = s .args in
+    let peels = s .pre .1 .1 .1 .1 in (
+      s .pre .0,
+      (
+        s .pre .1 .0,
+        (
+          s .pre .1 .1 .1 .0,
+          (
+            on-disks (a .size) (a .base) (erasures (a .map .now)) (a .list .now) (a .count) peels,
+            on-stripes (a .size) (a .base) (erasures (a .map .now)) (a .list .now) (a .count) peels,
+          ),
+        ),
+      ),
+    )
 
-check-requires : tie.Need-check-requires
-check-requires c κs = search needs
-
-enum-told : tie.Need-enum-told
-enum-told c = search needs
-
-zero-erased-requires : tie.Need-zero-erased-requires
-zero-erased-requires c κs =
-    let repairs = c .before .before .before .before .before .before in
-    let s = repairs .before .before .before .before .before in
-    (still-fits (asked s) _ (repairs .repair-all .ensures), s .pre .1 .0)
+all-cancel-requires : tie.Need-all-cancel-requires
+all-cancel-requires c κs =
+    let r = c .before .before .before in
+    let s = r .before .before .before .before .before in
+    let a = s .args in (
+      s .pre .0,
+      still-held (a .size) (a .base) (erasures (a .map .now)) (a .list .now) (a .count) (s .pre .1 .1 .1 .1) (a .stretch) (a .array .now) (s .pre .1 .0)
+          _ (r .repair-all .ensures),
+    )
 
 same-length : tie.Need-same-length
 same-length c = search needs
 
 returns : tie.Need-returns
 returns c =
-    let zeros = c .before .before in
-    let other = zeros .before .before in
-    let check = other .before in
-    let repairs = check .before .before .before .before in
-    contradicted (asked (repairs .before .before .before .before .before)) _ (repairs .repair-all .ensures)
-    (check .check .result) (check .check .ensures) (other .match .keys2) _ (zeros .zero-erased .ensures)
+    let r = c .before .before .before .before .before in
+    let s = r .before .before .before .before .before in
+    let a = s .args in
+    all-restored (a .size) (a .base) (erasures (a .map .now)) (a .list .now) (a .count) (s .pre .1 .1 .1 .1) (a .stretch) (a .array .now) (s .pre .1 .0)
+    _ (r .repair-all .ensures) (sym (c .before .all-cancel .ensures) ∙ c .if1 .taken)
+
+zero-erased-requires : tie.Need-zero-erased-requires
+zero-erased-requires c κs =
+    let r = c .before .before .before .before .before .before in
+    let s = r .before .before .before .before .before in
+    let a = s .args in (
+      still-held (a .size) (a .base) (erasures (a .map .now)) (a .list .now) (a .count) (s .pre .1 .1 .1 .1) (a .stretch) (a .array .now) (s .pre .1 .0)
+          _ (r .repair-all .ensures),
+      s .pre .1 .1 .0,
+    )
 
 same-length-2 : tie.Need-same-length-2
 same-length-2 c = search needs
 
 returns-2 : tie.Need-returns-2
 returns-2 c =
-    let check = c .before .before in
-    let repairs = check .before .before .before .before in
-    all-sealed (asked (repairs .before .before .before .before .before)) _ (repairs .repair-all .ensures)
-    (sym (check .check .ensures) ∙ c .enum-told .given .1)
+    let zeros = c .before .before in
+    let if1 = zeros .before .before in
+    let r = if1 .before .before .before .before .before in
+    let s = r .before .before .before .before .before in
+    let a = s .args in
+    contradicted (a .size) (a .base) (erasures (a .map .now)) (a .list .now) (a .count) (s .pre .1 .1 .1 .1) (a .stretch) (a .array .now) (s .pre .1 .0)
+    _ (r .repair-all .ensures) (sym (if1 .before .all-cancel .ensures) ∙ if1 .if1 .left) _ (zeros .zero-erased .ensures)
 
 pub restore-spec : {M : Type 1} → statement M
 restore-spec =
     tie.close
-    (tie.spec
-    repair-all-requires
-    check-requires
-    enum-told
-    zero-erased-requires
-    same-length
-    returns
-    same-length-2
-    returns-2)
+    (tie.spec repair-all-requires all-cancel-requires same-length returns zero-erased-requires same-length-2 returns-2)

@@ -1,73 +1,76 @@
 -- `plan::fatal::show` meets its contract: the trace of what is left up to the closing disk.
 -- Assumes nothing.
-use mathlib.Core.Path.{refl, _∙_, ap}
+use mathlib.Core.Path.{_∙_, ap}
+use Prim.Native.Nat.{_+_, _≤_}
 use native.Mathlib.Omega.{arith}
 use borrow.Author.Needs.{needs}
-use Rattle.model.specs.Repair.{erasures}
-use Rattle.model.specs.Sheet.{sheetOf}
-use Rattle.model.proofs.Grid.{size-fits, disks-bound}
-use Rattle.sheet.proofs.Appended.{no-record}
+use lib.ListN.{length}
+use Rattle.model.proofs.Grid.{layout-disks}
+use Rattle.layout.proofs.Runs.{numbered-two}
+use Rattle.plan.proofs.Memory.{map-disks, same-room}
 use Rattle.plan.proofs.Shown.{closing-inside, left-paired, left-lowest, left-cycle}
 use Rattle.plan.proofs.fatal.show.Statement.{statement}
 use Rattle.plan.proofs.fatal.show.Tie as tie
+
+-- Where the code began, from the closing disk on.
+abbrev start : tie.After-closing-disk → tie.Start
+start d = d .before .before .before .before .before .before .before .before .before .before
+
+-- The disks up to the closing one are some of the map.
+within : (d : tie.After-closing-disk) → d .closing-disk .result + 1 ≤ length (start d .args .map .now)
+within d =
+    let s = start d in
+    let inside = closing-inside _ _ (s .pre .1 .1 .0) _ (d .closing-disk .ensures) in
+    let long = map-disks _ (s .args .base) _ (s .pre .1 .0) in
+    omega arith
 
 closing-disk-requires : tie.Need-closing-disk-requires
 closing-disk-requires c κs = search needs
 
 add-peel-below : tie.Need-add-peel-below
-add-peel-below c =
-    let s = c .before .before .before in
-    let inside = closing-inside (s .args .size) (erasures (s .args .map .now)) (s .pre .1 .1 .0) _ (c .closing-disk .ensures) in
-    let bound = disks-bound (s .args .size) (size-fits (s .args .size) (s .pre .0)) in
-    omega arith
-
-slice-aggregate-peel-below : tie.Need-slice-aggregate-peel-below
-slice-aggregate-peel-below c = search needs
-
-slice-aggregate-peel-below-2 : tie.Need-slice-aggregate-peel-below-2
-slice-aggregate-peel-below-2 c = search needs
+add-peel-below c = let l = within (c .before .before .before .before .before .before .before .before) in omega arith
 
 peel-below-requires : tie.Need-peel-below-requires
 peel-below-requires c κs =
-    let s = c .before .before .before .before .before in
-    (s .pre .0, (s .pre .1 .0, (closing-inside _ _ (s .pre .1 .1 .0) _ (c .before .before .closing-disk .ensures), (refl, refl))))
-
-array-write-drawn : tie.Need-array-write-drawn
-array-write-drawn c = search needs
-
-slice-aggregate-trace : tie.Need-slice-aggregate-trace
-slice-aggregate-trace c = search needs
-
-slice-aggregate-trace-2 : tie.Need-slice-aggregate-trace-2
-slice-aggregate-trace-2 c = search needs
+    let d = c .before .before .before .before .before .before .before .before .before .before .before .before in
+    let p = start d .pre in
+    let k = d .closing-disk .kept in
+    (p .0, (p .1 .0, (within d, same-room (p .1 .1 .1) (k .1 .1 .1 .0) (k .1 .1 .1 .1 .0) (k .1 .1 .1 .1 .1 .0) (k .1 .1 .1 .1 .1 .1 .0))))
 
 trace-requires : tie.Need-trace-requires
 trace-requires c κs =
-    let peeled = c .before .before .before .before .peel-below in
-    let d = c .before .before .before .before .before .before .before in
-    let p = d .before .before .before .pre in
+    let l = c .before .before .before .before .before .before .before .before .before .before .before in
+    let d = l .before .before .before .before .before .before .before .before .before .before .before .before .before in
+    let s = start d in
     let last = d .closing-disk .ensures in
-    let left = peeled .ensures .1 .1 .0 in
-    let paired = left-paired _ _ (p .1 .1 .0) _ last _ left (p .0) in
-    let low = left-lowest _ _ (p .1 .1 .0) _ last _ left in
-    (p .0, (peeled .kept .1 .1 .1 .0, (paired, (low, no-record 2))))
-
-slice-aggregate-copy : tie.Need-slice-aggregate-copy
-slice-aggregate-copy c = search needs
-
-copy-requires : tie.Need-copy-requires
-copy-requires c κs = search needs
+    let left = l .peel-below .ensures .erased in
+    let lossy = s .pre .1 .1 .0 in
+    let few = layout-disks (s .args .size) (s .args .base) in
+    let low = left-lowest _ _ lossy _ last left in
+    let room = s .pre .1 .1 .1 .listFits in
+    let kept = d .closing-disk .kept .1 .1 .1 .1 .1 .1 .0 in
+    let kept2 = l .peel-below .kept .1 .1 .1 .1 .1 .1 .1 .0 in
+    (s .pre .0, (l .peel-below .ensures .table, (left-paired _ _ lossy _ last left (numbered-two (s .pre .0)), (omega arith, omega arith))))
 
 same-length : tie.Need-same-length
 same-length c = search needs
 
+same-length-2 : tie.Need-same-length-2
+same-length-2 c = search needs
+
+same-length-3 : tie.Need-same-length-3
+same-length-3 c = search needs
+
+same-length-4 : tie.Need-same-length-4
+same-length-4 c = search needs
+
 returns : tie.Need-returns
 returns c =
-    let t = c .before .before .before .before .before .before in
-    let left = t .before .before .before .before .before .peel-below .ensures .1 .1 .0 in
-    let d = t .before .before .before .before .before .before .before .before in
-    let cycle = left-cycle _ _ (d .before .before .before .pre .1 .1 .0) _ (d .closing-disk .ensures) _ left in
-    c .before .before .copy .ensures ∙ t .trace .ensures ∙ ap (sheetOf 2) cycle
+    let t = c .before .before in
+    let l = t .before .before .before .before .before .before .before .before .before .before .before .before in
+    let d = l .before .before .before .before .before .before .before .before .before .before .before .before .before in
+    let cycle = left-cycle _ _ (start d .pre .1 .1 .0) _ (d .closing-disk .ensures) (l .peel-below .ensures .erased) in
+    (t .trace .ensures .0 ∙ ap length cycle, t .trace .ensures .1 ∙ cycle)
 
 pub show-spec : {M : Type 1} → statement M
 show-spec =
@@ -75,14 +78,10 @@ show-spec =
     (tie.spec
     closing-disk-requires
     add-peel-below
-    slice-aggregate-peel-below
-    slice-aggregate-peel-below-2
     peel-below-requires
-    array-write-drawn
-    slice-aggregate-trace
-    slice-aggregate-trace-2
     trace-requires
-    slice-aggregate-copy
-    copy-requires
     same-length
+    same-length-2
+    same-length-3
+    same-length-4
     returns)

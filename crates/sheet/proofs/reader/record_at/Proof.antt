@@ -1,11 +1,11 @@
 -- `sheet::reader::record_at` meets its contract.
 -- Assumes nothing.
-use mathlib.Core.Path.{_≡_}
-use Prim.Native.Nat.{_+_, _*_, _-_}
-use native.Mathlib.Omega.{arith}
-use borrow.Author.Needs.{needs}
+use native.Mathlib.Nat.{add-zero}
+use mir.Facts.{fits-widen}
 use borrow.Author.Tests.{eq-eqb, ne-eqb, le-leb, lt-leb}
-use Rattle.model.specs.Sheet.{recordAt}
+use borrow.Author.Needs.{needs}
+use lib.ListN.{getD}
+use Rattle.model.specs.Sheet.{narrow, recordAt, numberAt}
 use Rattle.model.specs.Chain.{entryAt, nextNumber}
 use Rattle.sheet.specs.Found.{foundAt}
 use Rattle.sheet.proofs.reader.record_at.Statement.{statement}
@@ -23,42 +23,49 @@ returns-3 : tie.Need-returns-3
 unfolding foundAt
 returns-3 c = rw (ne-eqb _ _ (c .before .before .if1 .left), le-leb _ 32 (c .before .if2 .left), ne-eqb _ _ (c .if3 .taken))
 
-mul-at : tie.Need-mul-at
-mul-at c = search needs
-
 sub-at : tie.Need-sub-at
 sub-at c = search needs
 
-shared-slice-read-t7 : tie.Need-shared-slice-read-t7
-shared-slice-read-t7 c = search needs
+mul-at : tie.Need-mul-at
+mul-at c = search needs
+
+add-at : tie.Need-add-at
+add-at c = search needs
+
+shared-slice-read-t8 : tie.Need-shared-slice-read-t8
+shared-slice-read-t8 c = search needs
 
 cast-t5 : tie.Need-cast-t5
-cast-t5 c = omega (arith, c .shared-slice-known .given (3 * c .before .before .before .before .args .number - 1))
+cast-t5 c = fits-widen tt (c .shared-slice-known .given _)
 
-add-t8 : tie.Need-add-t8
-add-t8 c = search needs
+add-t6 : tie.Need-add-t6
+add-t6 c = search needs
 
 shared-slice-read-t10 : tie.Need-shared-slice-read-t10
 shared-slice-read-t10 c = search needs
 
 cast-t11 : tie.Need-cast-t11
-cast-t11 c = omega (arith, c .shared-slice-known2 .given (3 * c .before .before .before .before .before .args .number - 1 + 1))
+cast-t11 c = fits-widen tt (c .shared-slice-known2 .given _)
 
 add-t12 : tie.Need-add-t12
 add-t12 c = search needs
 
-shared-slice-read-t14 : tie.Need-shared-slice-read-t14
-shared-slice-read-t14 c = search needs
+add-t13 : tie.Need-add-t13
+add-t13 c = search needs
 
-cast-t15 : tie.Need-cast-t15
-cast-t15 c = omega (arith, c .shared-slice-known3 .given (3 * c .before .before .before .before .before .before .args .number - 1 + 2))
+shared-slice-read-t15 : tie.Need-shared-slice-read-t15
+shared-slice-read-t15 c = search needs
+
+cast-t16 : tie.Need-cast-t16
+cast-t16 c = fits-widen tt (c .shared-slice-known3 .given _)
 
 returns-4 : tie.Need-returns-4
-unfolding foundAt entryAt nextNumber
+unfolding foundAt entryAt nextNumber numberAt
 returns-4 c =
     let d = c .before .before .before in
-    let place : recordAt (d .before .before .before .args .number) ≡ 3 * d .before .before .before .args .number - 1 = omega arith in
-    rw (ne-eqb _ _ (d .before .before .if1 .left), le-leb _ 32 (d .before .if2 .left), eq-eqb _ _ (d .if3 .left), place)
+    let a = d .before .before .before .args in
+    let disk = add-zero (getD (a .sheet .now) (recordAt narrow (a .number)) 0) in
+    rw (ne-eqb _ _ (d .before .before .if1 .left), le-leb _ 32 (d .before .if2 .left), eq-eqb _ _ (d .if3 .left), disk)
 
 pub record-at-spec : {M : Type 1} → statement M
 record-at-spec =
@@ -67,14 +74,16 @@ record-at-spec =
     returns
     returns-2
     returns-3
-    mul-at
     sub-at
-    shared-slice-read-t7
+    mul-at
+    add-at
+    shared-slice-read-t8
     cast-t5
-    add-t8
+    add-t6
     shared-slice-read-t10
     cast-t11
     add-t12
-    shared-slice-read-t14
-    cast-t15
+    add-t13
+    shared-slice-read-t15
+    cast-t16
     returns-4)

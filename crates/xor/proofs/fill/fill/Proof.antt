@@ -1,7 +1,8 @@
--- `xor::fill::fill` meets its contract: the three stretches that are filled lie one behind the other.
+-- `xor::fill::fill` meets its contract: the parts lie one behind the other, and the last may overlap the one before it.
 -- Assumes nothing.
-use mathlib.Core.Path.{_∙_, ap, refl}
-use Prim.Native.Nat.{ℕ, _+_, _*_, _/_, _%_}
+use mathlib.Core.Path.{_≡_, _∙_, ap, refl}
+use Prim.Native.Nat.{ℕ, _+_, _*_, _-_, _/_, _%_}
+use native.Mathlib.Nat.{le-refl}
 use native.Mathlib.Omega.{arith}
 use borrow.Author.Needs.{needs}
 use Rattle.xor.specs.Strided.{filled}
@@ -9,75 +10,106 @@ use Rattle.xor.proofs.Strided.{filled-then, spaced-later}
 use Rattle.xor.proofs.fill.fill.Statement.{statement}
 use Rattle.xor.proofs.fill.fill.Tie as tie
 
-fill128-requires : tie.Need-fill128-requires
-fill128-requires c κs =
-    let s = c .before .before in
+-- What is filled after the parts of 32 bytes, and after those of 16.
+middle : (c : tie.After-fill-parts3)
+    → let a = c .before .before .before .before .before .before .before .before .args in c .fill-parts3 .last .0 ≡ filled (a .len - a .len % 32) (a .a .now) (a .first) (a .step) (a .count) (a .skip)
+middle c =
+    let s = c .before .before .before .before .before .before .before .before in
     let a = s .args in
-    spaced-later (a .a .now) _ (a .first) (a .step) (a .count) (a .skip) (a .len) (0) (128 * (a .len / 128)) _ (s .pre) (omega arith) refl (omega arith)
+    let h = s .pre .apart in
+    let wide = c .before .before .before .before .fill-parts2 in
+    filled-then (a .a .now) (a .first) (a .step) (a .count) (a .skip) _ (128 * (a .len / 128)) _ _ _ _ _ (omega arith) (le-refl _) (omega arith)
+    (omega arith) (wide .ensures) refl (c .fill-parts3 .ensures)
 
-mul-fill16 : tie.Need-mul-fill16
-mul-fill16 c = search needs
-
-add-fill16 : tie.Need-add-fill16
-add-fill16 c = let s = c .before .before .before .before .before .before in omega (arith, s .pre .within (s .args .skip) (s .pre .one))
-
-fill16-requires : tie.Need-fill16-requires
-fill16-requires c κs =
-    let s = c .before .before .before .before .before .before in
+narrow : (c : tie.After-fill-parts4)
+    → let a = c .before .before .before .before .before .before .before .before .before .before .before .before .args in c .fill-parts4 .last .0 ≡ filled (a .len - a .len % 16) (a .a .now) (a .first) (a .step) (a .count) (a .skip)
+narrow c =
+    let s = c .before .before .before .before .before .before .before .before .before .before .before .before in
     let a = s .args in
-    let wide = c .before .before .before .fill128 in
-    spaced-later (a .a .now) _ (a .first) (a .step) (a .count) (a .skip) (a .len) (128 * (a .len / 128)) (16 * (a .len % 128 / 16)) _ (s .pre) (omega arith) (wide .kept .0) (omega arith)
+    let h = s .pre .apart in
+    filled-then (a .a .now) (a .first) (a .step) (a .count) (a .skip) _ (a .len - a .len % 32) _ _ _ _ _ (omega arith) (le-refl _) (omega arith)
+    (omega arith) (middle (c .before .before .before .before)) refl (c .fill-parts4 .ensures)
 
-mul-fill1 : tie.Need-mul-fill1
-mul-fill1 c = search needs
-
-add-fill1 : tie.Need-add-fill1
-add-fill1 c = let s = c .before .before .before .before .before .before .before .before .before .before in omega (arith, s .pre .within (s .args .skip) (s .pre .one))
-
-mul-fill1-2 : tie.Need-mul-fill1-2
-mul-fill1-2 c = search needs
-
-add-fill1-2 : tie.Need-add-fill1-2
-add-fill1-2 c = let s = c .before .before .before .before .before .before .before .before .before .before in omega (arith, s .pre .within (s .args .skip) (s .pre .one))
-
-fill1-requires : tie.Need-fill1-requires
-fill1-requires c κs =
-    let s = c .before .before .before .before .before .before .before .before .before .before in
-    let a = s .args in
-    let wide = c .before .before .before .before .before .before .before .fill128 in
-    let narrow = c .before .before .before .fill16 in
-    spaced-later (a .a .now) _ (a .first) (a .step) (a .count) (a .skip) (a .len) (128 * (a .len / 128) + 16 * (a .len % 128 / 16)) (a .len % 128 % 16) _ (s .pre) (omega arith) (narrow .kept .0 ∙ wide .kept .0) (omega arith)
+fill-parts-requires : tie.Need-fill-parts-requires
+fill-parts-requires c κs = (search needs, spaced-later 0 (c .before .before .before .pre) (omega arith) refl (omega arith))
 
 same-length : tie.Need-same-length
 same-length c = search needs
 
 returns : tie.Need-returns
 returns c =
-    let s = c .before .before .before .before .before .before .before .before .before .before .before .before .before in
+    let a = c .before .before .before .before .before .before .args in
+    c .before .before .fill-parts .ensures ∙ ap (λ (n : ℕ). filled n (a .a .now) (a .first) (a .step) (a .count) (a .skip)) (omega arith)
+
+fill-parts-requires-2 : tie.Need-fill-parts-requires-2
+fill-parts-requires-2 c κs = (search needs, spaced-later 0 (c .before .before .before .pre) (omega arith) refl (omega arith))
+
+mul-fill-parts : tie.Need-mul-fill-parts
+mul-fill-parts c = search needs
+
+add-fill-parts : tie.Need-add-fill-parts
+add-fill-parts c = let s = c .before .before .before .before .before .before .before in omega (arith, s .pre .within (s .args .skip) (s .pre .one))
+
+fill-parts-requires-3 : tie.Need-fill-parts-requires-3
+fill-parts-requires-3 c κs =
+    let s = c .before .before .before .before .before .before .before in
+    (search needs, spaced-later (128 * (s .args .len / 128)) (s .pre) (omega arith) (omega arith) refl)
+
+sub-fill-parts : tie.Need-sub-fill-parts
+sub-fill-parts c = search needs
+
+add-fill-parts-2 : tie.Need-add-fill-parts-2
+add-fill-parts-2 c = let s = c .before .before .before .before .before .before .before .before .before .before .before in omega (arith, s .pre .within (s .args .skip) (s .pre .one))
+
+fill-parts-requires-4 : tie.Need-fill-parts-requires-4
+fill-parts-requires-4 c κs =
+    let s = c .before .before .before .before .before .before .before .before .before .before .before in
+    (search needs, spaced-later (s .args .len - s .args .len % 32) (s .pre) (omega arith) (omega arith) refl)
+
+same-length-2 : tie.Need-same-length-2
+same-length-2 c = search needs
+
+returns-2 : tie.Need-returns-2
+returns-2 c =
+    let a = c .before .before .before .before .before .before .before .before .before .before .before .before .before .before .before .args in
+    narrow (c .before .before .before) ∙ ap (λ (n : ℕ). filled n (a .a .now) (a .first) (a .step) (a .count) (a .skip)) (omega arith)
+
+add-fill-parts-3 : tie.Need-add-fill-parts-3
+add-fill-parts-3 c = let s = c .before .before .before .before .before .before .before .before .before .before .before .before .before .before .before .before in omega (arith, s .pre .within (s .args .skip) (s .pre .one))
+
+fill-parts-requires-5 : tie.Need-fill-parts-requires-5
+fill-parts-requires-5 c κs =
+    let s = c .before .before .before .before .before .before .before .before .before .before .before .before .before .before .before .before in
+    (search needs, spaced-later (s .args .len - 16) (s .pre) (omega arith) (omega arith) refl)
+
+same-length-3 : tie.Need-same-length-3
+same-length-3 c = search needs
+
+returns-3 : tie.Need-returns-3
+returns-3 c =
+    let s = c .before .before .before .before .before .before .before .before .before .before .before .before .before .before .before .before .before .before .before in
     let a = s .args in
     let h = s .pre .apart in
-    let wide = c .before .before .before .before .before .before .before .before .before .before .fill128 in
-    let narrow = c .before .before .before .before .before .before .fill16 in
-    let one = c .before .before .fill1 in
-    let both =
-    filled-then (a .a .now) (a .first) (a .step) (a .count) (a .skip) (128 * (a .len / 128)) (16 * (a .len % 128 / 16)) (wide .last .0)
-    (narrow .last .0) _ (omega arith) (wide .ensures) refl (narrow .ensures) in
-    filled-then (a .a .now) (a .first) (a .step) (a .count) (a .skip) (128 * (a .len / 128) + 16 * (a .len % 128 / 16)) (a .len % 128 % 16)
-    (narrow .last .0) (one .last .0) _ (omega arith) both (omega arith) (one .ensures)
-    ∙ ap (λ (n : ℕ). filled n (a .a .now) (a .first) (a .step) (a .count) (a .skip)) (omega arith)
+    filled-then (a .a .now) (a .first) (a .step) (a .count) (a .skip) _ (a .len - 16) _ _ _ _ _ (omega arith) (omega arith) (omega arith) (omega arith)
+    (narrow (c .before .before .before .before .before .before .before)) refl (c .before .before .fill-parts5 .ensures)
 
 pub fill-spec : {M : Type 1} → statement M
 fill-spec =
     tie.close
     (tie.spec
-    fill128-requires
-    mul-fill16
-    add-fill16
-    fill16-requires
-    mul-fill1
-    add-fill1
-    mul-fill1-2
-    add-fill1-2
-    fill1-requires
+    fill-parts-requires
     same-length
-    returns)
+    returns
+    fill-parts-requires-2
+    mul-fill-parts
+    add-fill-parts
+    fill-parts-requires-3
+    sub-fill-parts
+    add-fill-parts-2
+    fill-parts-requires-4
+    same-length-2
+    returns-2
+    add-fill-parts-3
+    fill-parts-requires-5
+    same-length-3
+    returns-3)

@@ -8,7 +8,7 @@ use native.Mathlib.Omega.{arith}
 use borrow.Author.Needs.{needs}
 use lib.Dec.{eqb}
 use lib.ListN.{getD}
-use Rattle.model.specs.Fold.{every}
+use Rattle.stripes.specs.Fold.{every}
 use Rattle.xor.proofs.Strided.{zero-next}
 use Rattle.xor.proofs.zeros.all_zero16.Statement.{statement}
 use Rattle.xor.proofs.zeros.all_zero16.Tie as tie

@@ -1,5 +1,0 @@
-pub mod Blocks
-pub mod Rows
-pub mod Sums
-pub mod Part
-pub mod Turns

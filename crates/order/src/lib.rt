@@ -1,0 +1,75 @@
+// Plan's order: repairs one after another, until none is allowed.
+ghost use mathlib.Core.Path.{_≡_};
+ghost use Prim.Native.Nat.{_≤_};
+ghost use lib.ListN.{length};
+ghost use Rattle.stripes.specs.Fold.{count};
+ghost use Rattle.stripes.specs.Erased.{erasures};
+ghost use Rattle.stripes.specs.Repair.{repairs, residual};
+ghost use Rattle.model.specs.Grid.{layoutOf, disks};
+ghost use Rattle.layout.specs.Stripe.{Numbered};
+ghost use Rattle.entries.specs.Listed.{listed};
+ghost use Rattle.tally.specs.Tally.{Table, Tallied};
+ghost use Rattle.order.specs.Pick.{picked};
+use model::Size;
+
+// The repair that comes next: a disk and a stripe.
+pub enum Next {
+    Repair(usize, usize),
+    Nothing,
+}
+
+// The repair that comes next in plan's order: of the lowest erased disk that is alone on one of its stripes, by the lower of
+// them if it is alone there, else by the higher.
+pub fn pick(size: Size, base: usize, work: &[u8], stripes: &[u8], counts: &[u8]) -> Next
+    requires { ⌜ Numbered size base ⌝ }
+    requires { ⌜ Tallied (layoutOf size base) (now work) (now stripes) (now counts) ⌝ }
+    ensures { λ r. ⌜ r ≡ picked (layoutOf size base) (erasures (now (work .entry))) ⌝ }
+{
+    let mut d = tally::scan::next_erased(work, 0);
+    while d < work.len() {
+        let pair = tally::table::stripes_of(size, base, work, stripes, d);
+        let low = pair.low;
+        if counts[low] == 1 {
+            return Next::Repair(d, low);
+        }
+        let high = pair.high;
+        if counts[high] == 1 {
+            return Next::Repair(d, high);
+        }
+        d = tally::scan::next_erased(work, d + 1);
+    }
+    Next::Nothing
+}
+
+// All repairs in plan's order, written into the list, and how many they are. What they leave erased stays in `work`, and in
+// the table. `erased` is how many disks are erased: where all of them are repaired, no more is looked for.
+pub fn peel(
+    size: Size,
+    base: usize,
+    erased: usize,
+    work: &mut [u8],
+    stripes: &[u8],
+    counts: &mut [u8],
+    list: &mut [u32],
+) -> usize
+    requires { ⌜ Numbered size base ⌝ }
+    requires { ⌜ erased ≡ count (disks size) (erasures (now work)) ⌝ }
+    requires { ⌜ Tallied (layoutOf size base) (now work) (now stripes) (now counts) ⌝ }
+    requires { ⌜ 32 ≤ length (now list) ⌝ }
+    ensures number { λ r. ⌜ r ≡ length (repairs (layoutOf size base) (erasures (now (work .entry)))) ⌝ }
+    ensures left { λ r. ⌜ erasures (now (work .exit)) ≡ residual (layoutOf size base) (erasures (now (work .entry))) ⌝ }
+    ensures list { λ r. ⌜ listed (now (list .exit)) r ≡ repairs (layoutOf size base) (erasures (now (work .entry))) ⌝ }
+    ensures table { λ r. ⌜ Table (layoutOf size base) (now (work .exit)) (now (stripes .entry)) ⌝ }
+{
+    let mut k = 0;
+    while k < erased {
+        let answer = pick(size, base, work, stripes, counts);
+        let Next::Repair(disk, stripe) = answer else {
+            break;
+        };
+        tally::take::take(size, base, work, stripes, counts, disk);
+        entries::put(list, k, disk, stripe);
+        k += 1;
+    }
+    k
+}

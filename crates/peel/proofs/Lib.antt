@@ -1,5 +1,0 @@
-pub mod Tallies
-pub mod Alone
-pub mod Rows
-pub mod Turns
-pub mod Replayed

@@ -1,2 +1,0 @@
-pub mod Tally
-pub mod Pick

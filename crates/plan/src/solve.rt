@@ -1,0 +1,47 @@
+// The repairs of a loss in plan's order, or for a fatal loss the cycle that shows it, as a list.
+ghost use mathlib.Core.Path.{_≡_};
+ghost use mathlib.Core.Bool.{true};
+ghost use Prim.Native.Nat.{_≤_};
+ghost use lib.ListN.{length};
+ghost use Rattle.stripes.specs.Erased.{erasures};
+ghost use Rattle.model.specs.Grid.{layoutOf, mapFits};
+ghost use Rattle.layout.specs.Stripe.{Numbered};
+ghost use Rattle.plan.specs.Solved.{Solves};
+use model::Size;
+
+pub enum Solved {
+    // The number of repairs.
+    Repairs(usize),
+    // The number of disks in the cycle, and of disks that plan's order leaves.
+    Cycle { disks: usize, left: usize },
+}
+
+// Lists the repairs of a map's erased disks in plan's order, or for a fatal loss a cycle of them. The list has room for
+// entries::CAPACITY words. No other function makes the planner's working memory.
+pub fn solve(size: Size, base: usize, map: &[u8], list: &mut [u32]) -> Solved
+    requires { ⌜ Numbered size base ⌝ }
+    requires { ⌜ mapFits size (now map) ≡ true ⌝ }
+    requires { ⌜ 32 ≤ length (now list) ⌝ }
+    ensures { λ r. ⌜ Solves (layoutOf size base) (erasures (now (map .entry))) r (now (list .exit)) ⌝ }
+{
+    let mut work = [0u8; tally::DISKS];
+    let mut stripes = [0u8; tally::TABLE];
+    let mut counts = [0u8; tally::STRIPES];
+    let found = crate::peeled::peel_below(
+        size,
+        base,
+        map,
+        map.len(),
+        &mut work,
+        &mut stripes,
+        &mut counts,
+        list,
+    );
+    if found.left == 0 {
+        return Solved::Repairs(found.made);
+    }
+    Solved::Cycle {
+        disks: crate::fatal::show(size, base, map, &mut work, &mut stripes, &mut counts, list),
+        left: found.left,
+    }
+}

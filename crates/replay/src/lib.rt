@@ -1,0 +1,90 @@
+// A list of repairs from elsewhere, judged on the working map: nothing is repaired here.
+ghost use mathlib.Core.Path.{_≡_};
+ghost use mathlib.Core.Bool.{true};
+ghost use Prim.Native.Nat.{_≤_};
+ghost use lib.ListN.{length};
+ghost use Rattle.stripes.specs.Erased.{erasures};
+ghost use Rattle.stripes.specs.Repair.{allowed as Repair·allowed, allAllowed, clears as Repair·clears};
+ghost use Rattle.model.specs.Grid.{mapFits, layoutOf};
+ghost use Rattle.layout.specs.Stripe.{Numbered};
+ghost use Rattle.entries.specs.Listed.{listed};
+ghost use Rattle.tally.specs.Tally.{Tallied};
+use model::Size;
+
+// The disk can be repaired by the stripe: it is erased, the stripe is one of its two, and it is the only erased disk there.
+fn allowed(
+    size: Size,
+    base: usize,
+    work: &[u8],
+    stripes: &[u8],
+    counts: &[u8],
+    disk: usize,
+    stripe: usize,
+) -> bool
+    requires { ⌜ Numbered size base ⌝ }
+    requires { ⌜ Tallied (layoutOf size base) (now work) (now stripes) (now counts) ⌝ }
+    ensures { λ r. ⌜ r ≡ Repair·allowed (layoutOf size base) (erasures (now (work .entry))) disk stripe ⌝ }
+{
+    if work.len() <= disk {
+        return false;
+    }
+    if work[disk] != 1 {
+        return false;
+    }
+    let pair = tally::table::stripes_of(size, base, work, stripes, disk);
+    let low = pair.low;
+    if stripe == low {
+        return counts[low] == 1;
+    }
+    let high = pair.high;
+    if stripe == high {
+        return counts[high] == 1;
+    }
+    false
+}
+
+// Each of the first `count` entries of a list is a repair that is allowed at its turn.
+fn all_allowed(
+    size: Size,
+    base: usize,
+    list: &[u32],
+    count: usize,
+    work: &mut [u8],
+    stripes: &[u8],
+    counts: &mut [u8],
+) -> bool
+    requires { ⌜ Numbered size base ⌝ }
+    requires { ⌜ Tallied (layoutOf size base) (now work) (now stripes) (now counts) ⌝ }
+    requires { ⌜ count ≤ length (now list) ⌝ }
+    ensures { λ r. ⌜ r ≡ allAllowed (layoutOf size base) (erasures (now (work .entry))) (listed (now (list .entry)) count) ⌝ }
+{
+    let mut k = 0;
+    while k < count {
+        let disk = entries::disk_of(list, k);
+        let stripe = entries::stripe_of(list, k);
+        if !allowed(size, base, work, stripes, counts, disk, stripe) {
+            return false;
+        }
+        tally::take::take(size, base, work, stripes, counts, disk);
+        k += 1;
+    }
+    true
+}
+
+// Besides, no disk is left erased after them, which is so if they are as many as the erased disks.
+pub fn clears(size: Size, base: usize, map: &[u8], list: &[u32], count: usize) -> bool
+    requires { ⌜ Numbered size base ⌝ }
+    requires { ⌜ mapFits size (now map) ≡ true ⌝ }
+    requires { ⌜ count ≤ length (now list) ⌝ }
+    ensures { λ r. ⌜ r ≡ Repair·clears (layoutOf size base) (erasures (now (map .entry))) (listed (now (list .entry)) count) ⌝ }
+{
+    let mut work = [0u8; tally::DISKS];
+    let mut stripes = [0u8; tally::TABLE];
+    let mut counts = [0u8; tally::STRIPES];
+    tally::load::copy(map, map.len(), &mut work);
+    let erased = tally::load::tally(size, base, &work, &mut stripes, &mut counts);
+    if !all_allowed(size, base, list, count, &mut work, &stripes, &mut counts) {
+        return false;
+    }
+    count == erased
+}

@@ -1,0 +1,15 @@
+pub mod Xor
+pub mod Fold
+pub mod Bytes
+pub mod Sums
+pub mod Peel
+pub mod Erased
+pub mod Degree
+pub mod Core
+pub mod Counts
+pub mod Alone
+pub mod Walk
+pub mod Trace
+pub mod Restore
+pub mod Clears
+pub mod Theorems

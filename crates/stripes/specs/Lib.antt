@@ -1,0 +1,5 @@
+pub mod Fold
+pub mod System
+pub mod Erased
+pub mod Repair
+pub mod Cycle

@@ -1,0 +1,4 @@
+pub mod Blocks
+pub mod Stripes
+pub mod Runs
+pub mod Whole

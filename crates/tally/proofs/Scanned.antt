@@ -1,0 +1,119 @@
+-- The laws of the search for the next erased disk, and of a map that is copied.
+-- Assumes nothing.
+use mathlib.Core.Path.{_≡_, sym, _∙_, ap, subst, fun-ext}
+use mathlib.Core.Bool.{Bool, true, false, _&&_, and-false}
+use mathlib.Core.Logic.{⊎-elim}
+use mathlib.Core.List.{List}
+use Prim.Native.Nat.{ℕ, _+_, _-_, _≤_, _<_}
+use native.Mathlib.Nat.{le-refl, add-sub-of-le}
+use native.Mathlib.Omega.{arith}
+use borrow.Author.Count.{below-more}
+use borrow.Author.Tests.{eqb-true, le-leb, leb-true, lt-leb, lt-ltb, le-ltb}
+use lib.Dec.{eqb, leb, ltb}
+use lib.ListN.{length, getD, set, List·getD-eq-default}
+use lib.Seq.{getD-set-other, getD-set-same}
+use Rattle.stripes.specs.Fold.{every}
+use Rattle.stripes.specs.Erased.{erasures, below}
+use Rattle.stripes.proofs.Fold.{and-left, and-right, and-both, lt-or-le, every-at, Lowest, lowest-is, lowest-unique}
+use Rattle.stripes.proofs.Erased.{is-present}
+use Rattle.tally.specs.Tally.{nextErased, Passed}
+use Rattle.xor.specs.Strided.{stored}
+use Rattle.xor.proofs.Stored.{getD-before, getD-stored, length-stored}
+
+-- ---- passing over disks that are present
+pub passed-none : (m : List ℕ) (from : ℕ) → from ≤ length m → Passed m from from
+passed-none m from h = record { after = le-refl from; within = h; none = λ i a b. absurd (omega arith) }
+
+module _ {m : List ℕ} {from d : ℕ} (p : Passed m from d) where
+  passed-to : (k : ℕ) → d ≤ k → k ≤ length m → ((i : ℕ) → d ≤ i → i < k → erasures m i ≡ false) → Passed m from k
+  passed-to k more fits clear =
+      record {
+        after = let h = p .after in omega arith;
+        within = fits;
+        none = λ i a b. ⊎-elim (λ l. p .none i a l) (λ l. clear i l b) (lt-or-le i d);
+      }
+
+  pub passed-next : d < length m → (getD m d 0 ≡ 1 → ⊥) → Passed m from (d + 1)
+  passed-next l present =
+      passed-to (d + 1) (omega arith) (omega arith)
+      (λ i a b. let here : d ≡ i = omega arith in subst (λ (j : ℕ). erasures m j ≡ false) here (is-present m d present))
+
+  -- A stretch of zeros that begins at d or before.
+  pub passed-zeros : (at n k : ℕ) → at + n ≡ k → at ≤ d → d ≤ k → k ≤ length m → every n (λ i. eqb (getD m (at + i) 0) 0) ≡ true
+      → Passed m from k
+  passed-zeros at n k end start more fits zeros =
+      passed-to k more fits
+      (λ i a b.
+      let place : at + (i - at) ≡ i = add-sub-of-le (omega arith) in
+      let zero : getD m i 0 ≡ 0 =
+      ap (λ (j : ℕ). getD m j 0) (sym place) ∙ eqb-true _ 0 (every-at n (λ i. eqb (getD m (at + i) 0) 0) zeros (i - at) (omega arith)) in
+      is-present m i (λ e. omega arith))
+
+-- ---- the next erased disk
+
+-- A search that found nothing before d ends there, if d is erased or past the last disk.
+pub next-is : (m : List ℕ) (from d : ℕ) → d ≤ length m → ((i : ℕ) → from ≤ i → i < d → erasures m i ≡ false)
+    → (d < length m → (from ≤ d) × (erasures m d ≡ true)) → d ≡ nextErased m from
+unfolding nextErased
+next-is m from d fits clear found =
+    lowest-unique (length m) (λ i. leb from i && erasures m i) d _
+    (record {
+      within = fits;
+      none = λ i b.
+          ⊎-elim (λ l. ap (λ (x : Bool). x && erasures m i) (lt-leb from i l))
+          (λ l. ap (λ (x : Bool). leb from i && x) (clear i l b) ∙ and-false (leb from i)) (lt-or-le i from);
+      found = λ l. and-both (le-leb from d (found l .0)) (found l .1);
+    })
+    (lowest-is (length m) (λ i. leb from i && erasures m i))
+
+module _ (m : List ℕ) (from : ℕ) where
+  next-lowest : Lowest (length m) (λ i. leb from i && erasures m i) (nextErased m from)
+  unfolding nextErased
+  next-lowest = lowest-is (length m) (λ i. leb from i && erasures m i)
+
+  pub next-erased : nextErased m from < length m → erasures m (nextErased m from) ≡ true
+  next-erased l = and-right (leb from (nextErased m from)) _ (next-lowest .found l)
+
+  pub next-passed : from ≤ length m → Passed m from (nextErased m from)
+  next-passed h =
+      record {
+        after =
+            ⊎-elim (λ l. leb-true from _ (and-left (leb from (nextErased m from)) _ (next-lowest .found l))) (λ l. omega arith)
+            (lt-or-le (nextErased m from) (length m));
+        within = next-lowest .within;
+        none = λ i a b. ap (λ (x : Bool). x && erasures m i) (sym (le-leb from i a)) ∙ next-lowest .none i b;
+      }
+
+-- ---- a map that is copied
+
+-- The first i bytes of `work` are those of the map.
+abbrev pub Copied : (map work : List ℕ) → ℕ → Type 0
+Copied map work i = (j : ℕ) → j < i → getD work j 0 ≡ getD map j 0
+
+pub copied-next : (map work : List ℕ) (i : ℕ) → i < length work → Copied map work i → Copied map (set work i (getD map i 0)) (i + 1)
+copied-next map work i l same =
+    below-more (λ j. getD (set work i (getD map i 0)) j 0 ≡ getD map j 0) i
+    (λ j h. getD-set-other work i j (getD map i 0) 0 (λ q. omega arith) ∙ same j h) (getD-set-same work i (getD map i 0) 0 l)
+
+-- With zeros behind them, they are the erased disks below k.
+pub copied-below : (map work : List ℕ) (k : ℕ) → k ≤ length work → Copied map work k
+    → erasures (stored work k (length work - k) (λ i. 0)) ≡ below k (erasures map)
+unfolding erasures below
+copied-below map work k fits same =
+    fun-ext (λ d. ⊎-elim (copied d) (zeros d) (lt-or-le d k))
+  where
+    stretch : List ℕ
+    stretch = stored work k (length work - k) (λ i. 0)
+
+    copied : (d : ℕ) → d < k → eqb (getD stretch d 0) 1 ≡ (ltb d k && eqb (getD map d 0) 1)
+    copied d l =
+        ap (λ (x : ℕ). eqb x 1) (getD-before work k (length work - k) (λ i. 0) d l ∙ same d l)
+        ∙ ap (λ (b : Bool). b && eqb (getD map d 0) 1) (sym (lt-ltb d k l))
+
+    zeros : (d : ℕ) → k ≤ d → eqb (getD stretch d 0) 1 ≡ (ltb d k && eqb (getD map d 0) 1)
+    zeros d l =
+        ap (λ (x : ℕ). eqb x 1)
+        (⊎-elim (λ h. getD-stored work k (length work - k) (λ i. 0) d h l (omega arith))
+        (λ h. List·getD-eq-default stretch 0 {n = d} (let same = length-stored work k (length work - k) (λ i. 0) in omega arith))
+        (lt-or-le d (length work)))
+        ∙ ap (λ (b : Bool). b && eqb (getD map d 0) 1) (sym (le-ltb d k l))

@@ -1,0 +1,50 @@
+// Loading: a map is copied, and its erased disks are counted on their stripes.
+ghost use mathlib.Core.Path.{_≡_};
+ghost use mathlib.Core.Bool.{false};
+ghost use Prim.Native.Nat.{ℕ, _*_, _≤_};
+ghost use lib.ListN.{length};
+ghost use Rattle.stripes.specs.Fold.{count};
+ghost use Rattle.stripes.specs.Erased.{erasures, below};
+ghost use Rattle.model.specs.Grid.{disks, layoutOf};
+ghost use Rattle.layout.specs.Stripe.{Numbered};
+ghost use Rattle.tally.specs.Tally.{Tallied};
+use model::Size;
+
+// `work` becomes the first k bytes of a map, with zeros behind them.
+pub fn copy(map: &[u8], k: usize, work: &mut [u8])
+    requires { ⌜ k ≤ length (now map) ⌝ }
+    requires { ⌜ length (now map) ≤ length (now work) ⌝ }
+    ensures { λ r. ⌜ erasures (now (work .exit)) ≡ below k (erasures (now (map .entry))) ⌝ }
+{
+    let mut i = 0;
+    while i < k {
+        work[i] = map[i];
+        i += 1;
+    }
+    xor::wipe::wipe(work, k, work.len() - k);
+}
+
+// Writes the stripes of each erased disk into the table, counts the erased disks on every stripe, and says how many they are.
+// What the table and the counts held before does not matter.
+pub fn tally(size: Size, base: usize, work: &[u8], stripes: &mut [u8], counts: &mut [u8]) -> usize
+    requires { ⌜ Numbered size base ⌝ }
+    requires { ⌜ disks size ≤ length (now work) ⌝ }
+    requires { ⌜ ((d : ℕ) → disks size ≤ d → erasures (now work) d ≡ false) ⌝ }
+    requires { ⌜ 2 * length (now work) ≤ length (now stripes) ⌝ }
+    requires { ⌜ 64 ≤ length (now counts) ⌝ }
+    ensures number { λ r. ⌜ r ≡ count (disks size) (erasures (now (work .entry))) ⌝ }
+    ensures tallied { λ r. ⌜ Tallied (layoutOf size base) (now (work .entry)) (now (stripes .exit)) (now (counts .exit)) ⌝ }
+{
+    xor::wipe::wipe(counts, 0, counts.len());
+    let mut number = 0;
+    let mut d = crate::scan::next_erased(work, 0);
+    while d < work.len() {
+        let pair = layout::stripe::stripes_of(size, base, d);
+        crate::table::enter(stripes, d, pair);
+        crate::count::raise(counts, pair.low);
+        crate::count::raise(counts, pair.high);
+        number += 1;
+        d = crate::scan::next_erased(work, d + 1);
+    }
+    number
+}
