@@ -57,12 +57,19 @@ peeled-whole {L} m {made} {left} {work} {stripes} {list} p =
 
 -- ---- room
 
--- The memory that is made is large enough for every size.
-pub room-made : (z : Size) (base : ℕ) → Numbered z base → {work stripes counts list : List ℕ}
-    → length work ≡ 256 → length stripes ≡ 512 → length counts ≡ 64 → 32 ≤ length list → Room (layoutOf z base) work stripes counts list
-room-made z base n ew es ec room =
+-- A map has at most 256 bytes.
+pub map-few : (z : Size) (base : ℕ) → Numbered z base → (m : List ℕ) → mapFits z m ≡ true → length m ≤ 256
+map-few z base n m fits =
     let few = disks-bound z (size-fits z (n .fits)) in
-    let same = layout-disks z base in
+    let long = map-length z m fits in
+    omega arith
+
+-- The memory that is made is large enough: the working map is as long as the map.
+pub room-made : (z : Size) (base : ℕ) → Numbered z base → (m : List ℕ) → mapFits z m ≡ true → {work stripes counts list : List ℕ}
+    → length m ≡ length work → length stripes ≡ 512 → length counts ≡ 64 → 32 ≤ length list → Room (layoutOf z base) work stripes counts list
+room-made z base n m fits ew es ec room =
+    let few = map-few z base n m fits in
+    let same = map-disks z base m fits in
     record { disksFit = omega arith; tableFits = omega arith; stripesFit = omega arith; listFits = room }
 
 -- Other memory of the same size has the same room.

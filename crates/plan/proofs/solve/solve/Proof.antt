@@ -1,74 +1,43 @@
--- `plan::solve::solve` meets its contract: what plan's order leaves decides.
+-- `plan::solve::solve` meets its contract: the memory that it makes is large enough.
 -- Assumes nothing.
-use mathlib.Core.Path.{refl}
-use native.Mathlib.Nat.{le-refl}
-use native.Mathlib.Omega.{arith}
+use mathlib.Core.Path.{sym, refl}
 use borrow.Author.Needs.{needs}
-use Rattle.plan.proofs.Memory.{peeled-whole, room-made}
-use Rattle.plan.proofs.Solving.{solves-repairs, is-lossy, solves-cycle}
+use lib.Seq.{length-take-le}
+use Rattle.plan.proofs.Memory.{map-few, room-made}
 use Rattle.plan.proofs.solve.solve.Statement.{statement}
 use Rattle.plan.proofs.solve.solve.Tie as tie
 
-slice-aggregate-peel-below : tie.Need-slice-aggregate-peel-below
-slice-aggregate-peel-below c = search needs
+array-borrow-prefix-work : tie.Need-array-borrow-prefix-work
+array-borrow-prefix-work c = let p = c .before .before .pre in map-few _ _ (p .0) _ (p .1 .0)
 
-slice-aggregate-peel-below-2 : tie.Need-slice-aggregate-peel-below-2
-slice-aggregate-peel-below-2 c = search needs
+slice-aggregate-solve-in : tie.Need-slice-aggregate-solve-in
+slice-aggregate-solve-in c = sym (length-take-le _ _ (array-borrow-prefix-work (c .before)))
 
-slice-aggregate-peel-below-3 : tie.Need-slice-aggregate-peel-below-3
-slice-aggregate-peel-below-3 c = search needs
+slice-aggregate-solve-in-2 : tie.Need-slice-aggregate-solve-in-2
+slice-aggregate-solve-in-2 c = search needs
 
-peel-below-requires : tie.Need-peel-below-requires
-peel-below-requires c κs =
+slice-aggregate-solve-in-3 : tie.Need-slice-aggregate-solve-in-3
+slice-aggregate-solve-in-3 c = search needs
+
+solve-in-requires : tie.Need-solve-in-requires
+solve-in-requires c κs =
     let p = c .before .before .before .before .before .before .pre in
-    (p .0, (p .1 .0, (le-refl _, room-made _ _ (p .0) refl refl refl (p .1 .1))))
+    (p .0, (p .1 .0, room-made _ _ (p .0) _ (p .1 .0) (slice-aggregate-solve-in (c .before .before .before)) refl refl (p .1 .1)))
 
 same-length : tie.Need-same-length
 same-length c = search needs
 
 returns : tie.Need-returns
-returns c = solves-repairs (peeled-whole _ (c .before .before .before .before .before .before .before .peel-below .ensures)) (c .if1 .taken)
-
-slice-aggregate-show : tie.Need-slice-aggregate-show
-slice-aggregate-show c = search needs
-
-slice-aggregate-show-2 : tie.Need-slice-aggregate-show-2
-slice-aggregate-show-2 c = search needs
-
-slice-aggregate-show-3 : tie.Need-slice-aggregate-show-3
-slice-aggregate-show-3 c = search needs
-
-show-requires : tie.Need-show-requires
-show-requires c κs =
-    let l = c .before .before .before .before .before .before .before .before .before .before .before in
-    let p = l .before .before .before .before .before .before .before .pre in
-    let k = l .peel-below .kept in
-    let room = p .1 .1 in
-    let same = k .1 .1 .1 .1 .1 .1 .1 .0 in
-    (p .0, (p .1 .0, (is-lossy (peeled-whole _ (l .peel-below .ensures)) (c .before .before .before .before .if1 .left), room-made _ _ (p .0) (k .1 .1 .1 .1 .0) (k .1 .1 .1 .1 .1 .0) (k .1 .1 .1 .1 .1 .1 .0) (omega arith))))
-
-same-length-2 : tie.Need-same-length-2
-same-length-2 c = search needs
-
-returns-2 : tie.Need-returns-2
-returns-2 c =
-    let s = c .before .before .before .before .before in
-    let l = c .before .before .before .before .before .before .before .before .before .before .before .before .before .before .before .before .before in
-    solves-cycle (peeled-whole _ (l .peel-below .ensures)) (c .before .before .before .before .before .before .before .before .before .before .if1 .left) _ (s .show .ensures .0) (s .show .ensures .1)
+returns c = search needs
 
 pub solve-spec : {M : Type 1} → statement M
 solve-spec =
     tie.close
     (tie.spec
-    slice-aggregate-peel-below
-    slice-aggregate-peel-below-2
-    slice-aggregate-peel-below-3
-    peel-below-requires
+    array-borrow-prefix-work
+    slice-aggregate-solve-in
+    slice-aggregate-solve-in-2
+    slice-aggregate-solve-in-3
+    solve-in-requires
     same-length
-    returns
-    slice-aggregate-show
-    slice-aggregate-show-2
-    slice-aggregate-show-3
-    show-requires
-    same-length-2
-    returns-2)
+    returns)
