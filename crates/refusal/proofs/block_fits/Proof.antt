@@ -1,4 +1,4 @@
--- `layout::block_fits` meets its contract: each test is one of the definition's.
+-- `refusal::block_fits` meets its contract: each test is one of the definition's.
 -- Assumes nothing.
 use borrow.Author.Tests.{lt-leb, le-leb}
 use Rattle.model.specs.Grid.{blockFits}

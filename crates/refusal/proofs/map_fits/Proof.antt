@@ -1,4 +1,4 @@
--- `layout::map_fits` meets its contract: the bytes so far are 0 or 1 exactly if what was gathered is.
+-- `refusal::map_fits` meets its contract: the bytes so far are 0 or 1 exactly if what was gathered is.
 -- Assumes nothing.
 use mathlib.Core.Path.{_≡_, _∙_, sym, ap, refl}
 use mathlib.Core.Bool.{Bool, _&&_}

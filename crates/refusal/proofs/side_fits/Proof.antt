@@ -1,4 +1,4 @@
--- `layout::side_fits` meets its contract: each test is one of the definition's.
+-- `refusal::side_fits` meets its contract: each test is one of the definition's.
 -- Assumes nothing.
 use borrow.Author.Tests.{lt-leb, le-leb}
 use Rattle.model.specs.Grid.{sideFits}
