@@ -70,11 +70,10 @@ module _ (L : Layout) (set : List ℕ) (r : Entry) where
   pub search-next : (from : ℕ) → from ≤ length set → ((i : ℕ) → i < from → isOther L set r i ≡ false)
       → {n : ℕ} → n ≡ nextErased set from → Searched L set r n
   search-next from room none e =
-      subst (Searched L set r) (sym e)
-      (record {
-        erased = next-erased set from;
-        none = λ i b. ⊎-elim (λ l. none i l) (λ l. none-absent i (next-passed set from room .none i l b)) (lt-or-le i from);
-      })
+      record {
+        erased = next-erased set from e;
+        none = λ i b. ⊎-elim (λ l. none i l) (λ l. none-absent i (next-passed set from e room .none i l b)) (lt-or-le i from);
+      }
 
   module _ {stripes : List ℕ} (t : Table L set stripes) {n : ℕ} (p : Searched L set r n) where
     pub partner-found : n < length set → (n ≡ r .disk → ⊥) → on L n (r .stripe) ≡ true → n ≡ partner L (erasures set) r

@@ -41,8 +41,12 @@ fn partner(size: Size, base: usize, set: &[u8], stripes: &[u8], disk: usize, str
     requires { ⌜ Cycle·partner (layoutOf size base) (erasures (now set)) (record { disk = disk; stripe = stripe }) < layoutOf size base .disks ⌝ }
     ensures { λ r. ⌜ r ≡ Cycle·partner (layoutOf size base) (erasures (now (set .entry))) (record { disk = disk; stripe = stripe }) ⌝ }
 {
-    let mut d = tally::scan::next_erased(set, 0);
-    while d < set.len() {
+    let mut from = 0;
+    loop {
+        let d = tally::scan::next_erased(set, from);
+        if set.len() <= d {
+            return d;
+        }
         if d != disk {
             if either_is(
                 tally::table::stripes_of(size, base, set, stripes, d),
@@ -51,9 +55,8 @@ fn partner(size: Size, base: usize, set: &[u8], stripes: &[u8], disk: usize, str
                 return d;
             }
         }
-        d = tally::scan::next_erased(set, d + 1);
+        from = d + 1;
     }
-    d
 }
 
 // Lists the cycle that the disks of a set form, and says how many they are. A list of entries::CAPACITY words has room for

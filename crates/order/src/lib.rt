@@ -25,8 +25,12 @@ pub fn pick(size: Size, base: usize, work: &[u8], stripes: &[u8], counts: &[u8])
     requires { ⌜ Tallied (layoutOf size base) (now work) (now stripes) (now counts) ⌝ }
     ensures { λ r. ⌜ r ≡ picked (layoutOf size base) (erasures (now (work .entry))) ⌝ }
 {
-    let mut d = tally::scan::next_erased(work, 0);
-    while d < work.len() {
+    let mut from = 0;
+    loop {
+        let d = tally::scan::next_erased(work, from);
+        if work.len() <= d {
+            return Next::Nothing;
+        }
         let pair = tally::table::stripes_of(size, base, work, stripes, d);
         let low = pair.low;
         if counts[low] == 1 {
@@ -36,9 +40,8 @@ pub fn pick(size: Size, base: usize, work: &[u8], stripes: &[u8], counts: &[u8])
         if counts[high] == 1 {
             return Next::Repair(d, high);
         }
-        d = tally::scan::next_erased(work, d + 1);
+        from = d + 1;
     }
-    Next::Nothing
 }
 
 // All repairs in plan's order, written into the list, and how many they are. What they leave erased stays in `work`, and in

@@ -14,8 +14,9 @@ use Rattle.model.specs.Grid.{disks, layoutOf, mapFits}
 use Rattle.model.specs.declared.Size.{Size}
 use Rattle.stripes.proofs.Peel.{repairs-left}
 use Rattle.stripes.proofs.Erased.{past-end, below-not, below-all}
-use Rattle.model.proofs.Grid.{layout-disks, map-length, size-fits, disks-bound}
+use Rattle.model.proofs.Grid.{layout-disks, map-length}
 use Rattle.layout.specs.Stripe.{Numbered}
+use Rattle.layout.proofs.Numbers.{map-few}
 use Rattle.entries.specs.Listed.{listed}
 use Rattle.tally.specs.Tally.{Table}
 use Rattle.plan.specs.Memory.{Room, Peeled}
@@ -56,13 +57,6 @@ peeled-whole {L} m {made} {left} {work} {stripes} {list} p =
     subst (λ (f : ℕ → Bool). Peeled L f made left work stripes list) (below-all (length m) (erasures m) (past-end m)) p
 
 -- ---- room
-
--- A map has at most 256 bytes.
-pub map-few : (z : Size) (base : ℕ) → Numbered z base → (m : List ℕ) → mapFits z m ≡ true → length m ≤ 256
-map-few z base n m fits =
-    let few = disks-bound z (size-fits z (n .fits)) in
-    let long = map-length z m fits in
-    omega arith
 
 -- The memory that is made is large enough: the working map is as long as the map.
 pub room-made : (z : Size) (base : ℕ) → Numbered z base → (m : List ℕ) → mapFits z m ≡ true → {work stripes counts list : List ℕ}

@@ -1,7 +1,7 @@
 // A list of repairs from elsewhere, judged on the working map: nothing is repaired here.
 ghost use mathlib.Core.Path.{_≡_};
 ghost use mathlib.Core.Bool.{true};
-ghost use Prim.Native.Nat.{_≤_};
+ghost use Prim.Native.Nat.{_*_, _≤_};
 ghost use lib.ListN.{length};
 ghost use Rattle.stripes.specs.Erased.{erasures};
 ghost use Rattle.stripes.specs.Repair.{allowed as Repair·allowed, allAllowed, clears as Repair·clears};
@@ -71,7 +71,35 @@ fn all_allowed(
     true
 }
 
-// Besides, no disk is left erased after them, which is so if they are as many as the erased disks.
+// `clears` in memory that is lent. What it held does not matter.
+fn clears_in(
+    size: Size,
+    base: usize,
+    map: &[u8],
+    list: &[u32],
+    count: usize,
+    work: &mut [u8],
+    stripes: &mut [u8],
+    counts: &mut [u8],
+) -> bool
+    requires { ⌜ Numbered size base ⌝ }
+    requires { ⌜ mapFits size (now map) ≡ true ⌝ }
+    requires { ⌜ count ≤ length (now list) ⌝ }
+    requires { ⌜ length (now map) ≤ length (now work) ⌝ }
+    requires { ⌜ 2 * length (now work) ≤ length (now stripes) ⌝ }
+    requires { ⌜ 64 ≤ length (now counts) ⌝ }
+    ensures { λ r. ⌜ r ≡ Repair·clears (layoutOf size base) (erasures (now (map .entry))) (listed (now (list .entry)) count) ⌝ }
+{
+    tally::load::copy(map, map.len(), work);
+    let erased = tally::load::tally(size, base, work, stripes, counts);
+    if !all_allowed(size, base, list, count, work, stripes, counts) {
+        return false;
+    }
+    count == erased
+}
+
+// Besides, no disk is left erased after them, which is so if they are as many as the erased disks. The working map is as long as
+// the map, so that nothing behind it is looked at.
 pub fn clears(size: Size, base: usize, map: &[u8], list: &[u32], count: usize) -> bool
     requires { ⌜ Numbered size base ⌝ }
     requires { ⌜ mapFits size (now map) ≡ true ⌝ }
@@ -81,10 +109,14 @@ pub fn clears(size: Size, base: usize, map: &[u8], list: &[u32], count: usize) -
     let mut work = [0u8; tally::DISKS];
     let mut stripes = [0u8; tally::TABLE];
     let mut counts = [0u8; tally::STRIPES];
-    tally::load::copy(map, map.len(), &mut work);
-    let erased = tally::load::tally(size, base, &work, &mut stripes, &mut counts);
-    if !all_allowed(size, base, list, count, &mut work, &stripes, &mut counts) {
-        return false;
-    }
-    count == erased
+    clears_in(
+        size,
+        base,
+        map,
+        list,
+        count,
+        &mut work[..map.len()],
+        &mut stripes,
+        &mut counts,
+    )
 }

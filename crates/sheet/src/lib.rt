@@ -28,21 +28,21 @@ pub const BASE: usize = 16;
 // The bytes of a sheet: the kind, the number of the first record, the records.
 pub const BYTES: usize = 98;
 
-// Copies one sheet over another.
-fn copy(from: &[u8], to: &mut [u8])
-    requires { ⌜ length (now from) ≡ sheetBytes narrow ⌝ }
-    requires { ⌜ length (now to) ≡ sheetBytes narrow ⌝ }
-    ensures { λ r. ⌜ now (to .exit) ≡ now (from .entry) ⌝ }
+// Zeros the whole sheet.
+pub fn zero(sheet: &mut [u8])
+    requires { ⌜ length (now sheet) ≡ sheetBytes narrow ⌝ }
+    ensures { λ r. ⌜ now (sheet .exit) ≡ blankSheet narrow ⌝ }
 {
+    let blank = [0u8; BYTES];
     let mut i = 0;
     while i < BYTES {
-        to[i] = from[i];
+        sheet[i] = blank[i];
         i += 1;
     }
 }
 
-// Writes a list of `count` entries: record 1 is entry 0, record 2 entry 1, and so on. Each record stands behind the number that
-// leads to it. Of a disk the low byte is stored, which is all of it where disks are below 256.
+// Writes a list of `count` entries over a blank sheet: record 1 is entry 0, record 2 entry 1, and so on. Each record stands
+// behind the number that leads to it. Of a disk the low byte is stored, which is all of it where disks are below 256.
 pub fn write(kind: u8, list: &[u32], count: usize, sheet: &mut [u8])
     requires { ⌜ length (now sheet) ≡ sheetBytes narrow ⌝ }
     requires { ⌜ count ≤ narrow .records ⌝ }
@@ -50,24 +50,14 @@ pub fn write(kind: u8, list: &[u32], count: usize, sheet: &mut [u8])
     requires { ⌜ ((i : ℕ) → i < count → entryStripe (now list) i < 256) ⌝ }
     ensures { λ r. ⌜ now (sheet .exit) ≡ sheetOf narrow kind (listed (now (list .entry)) count) ⌝ }
 {
-    let mut blank = [0u8; BYTES];
-    blank[0] = kind;
+    zero(sheet);
+    sheet[0] = kind;
     let mut k = 0;
     while k < count {
         let at = 1 + RECORD_BYTES * k;
-        blank[at] = (1 + k) as u8;
-        blank[at + 1] = (entries::disk_of(list, k) % 256) as u8;
-        blank[at + 2] = entries::stripe_of(list, k) as u8;
+        sheet[at] = (1 + k) as u8;
+        sheet[at + 1] = (entries::disk_of(list, k) % 256) as u8;
+        sheet[at + 2] = entries::stripe_of(list, k) as u8;
         k += 1;
     }
-    copy(&blank, sheet);
-}
-
-// Zeros the whole sheet.
-pub fn zero(sheet: &mut [u8])
-    requires { ⌜ length (now sheet) ≡ sheetBytes narrow ⌝ }
-    ensures { λ r. ⌜ now (sheet .exit) ≡ blankSheet narrow ⌝ }
-{
-    let blank = [0u8; BYTES];
-    copy(&blank, sheet);
 }

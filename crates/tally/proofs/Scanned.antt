@@ -66,20 +66,19 @@ next-is m from d fits clear found =
     })
     (lowest-is (length m) (λ i. leb from i && erasures m i))
 
-module _ (m : List ℕ) (from : ℕ) where
-  next-lowest : Lowest (length m) (λ i. leb from i && erasures m i) (nextErased m from)
+module _ (m : List ℕ) (from : ℕ) {d : ℕ} (found : d ≡ nextErased m from) where
+  next-lowest : Lowest (length m) (λ i. leb from i && erasures m i) d
   unfolding nextErased
-  next-lowest = lowest-is (length m) (λ i. leb from i && erasures m i)
+  next-lowest = rw found (lowest-is (length m) (λ i. leb from i && erasures m i))
 
-  pub next-erased : nextErased m from < length m → erasures m (nextErased m from) ≡ true
-  next-erased l = and-right (leb from (nextErased m from)) _ (next-lowest .found l)
+  pub next-erased : d < length m → erasures m d ≡ true
+  next-erased l = and-right (leb from d) _ (next-lowest .found l)
 
-  pub next-passed : from ≤ length m → Passed m from (nextErased m from)
+  pub next-passed : from ≤ length m → Passed m from d
   next-passed h =
       record {
         after =
-            ⊎-elim (λ l. leb-true from _ (and-left (leb from (nextErased m from)) _ (next-lowest .found l))) (λ l. omega arith)
-            (lt-or-le (nextErased m from) (length m));
+            ⊎-elim (λ l. leb-true from _ (and-left (leb from d) _ (next-lowest .found l))) (λ l. omega arith) (lt-or-le d (length m));
         within = next-lowest .within;
         none = λ i a b. ap (λ (x : Bool). x && erasures m i) (sym (le-leb from i a)) ∙ next-lowest .none i b;
       }

@@ -37,14 +37,17 @@ pub fn tally(size: Size, base: usize, work: &[u8], stripes: &mut [u8], counts: &
 {
     xor::wipe::wipe(counts, 0, counts.len());
     let mut number = 0;
-    let mut d = crate::scan::next_erased(work, 0);
-    while d < work.len() {
+    let mut from = 0;
+    loop {
+        let d = crate::scan::next_erased(work, from);
+        if work.len() <= d {
+            return number;
+        }
         let pair = layout::stripe::stripes_of(size, base, d);
         crate::table::enter(stripes, d, pair);
         crate::count::raise(counts, pair.low);
         crate::count::raise(counts, pair.high);
         number += 1;
-        d = crate::scan::next_erased(work, d + 1);
+        from = d + 1;
     }
-    number
 }

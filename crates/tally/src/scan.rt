@@ -7,8 +7,7 @@ ghost use Rattle.tally.specs.Tally.{nextErased, Passed};
 // Bytes that are passed over at once.
 const CHUNK: usize = 16;
 
-// Passes over bytes from `from` on that are all zero, a chunk at a time. Where fewer are left, the last chunk of the map holds
-// them, with some that were passed.
+// Passes over bytes from `from` on that are all zero, a chunk at a time.
 fn pass_zeros(map: &[u8], from: usize) -> usize
     requires { ⌜ from ≤ length (now map) ⌝ }
     ensures { λ r. ⌜ Passed (now (map .entry)) from r ⌝ }
@@ -20,22 +19,19 @@ fn pass_zeros(map: &[u8], from: usize) -> usize
         }
         d += CHUNK;
     }
-    if map.len() < CHUNK {
-        return d;
-    }
-    let last = map.len() - CHUNK;
-    if xor::zeros::all_zero16(map, last) {
-        return map.len();
-    }
     d
 }
 
-// The lowest erased disk from `from` on, or the length where there is none.
+// The lowest erased disk from `from` on, or the length where there is none. Where many disks are erased it is often the first
+// one looked at.
 pub fn next_erased(map: &[u8], from: usize) -> usize
     ensures { λ r. ⌜ r ≡ nextErased (now (map .entry)) from ⌝ }
 {
     if map.len() <= from {
         return map.len();
+    }
+    if map[from] == 1 {
+        return from;
     }
     let mut d = pass_zeros(map, from);
     while d < map.len() {

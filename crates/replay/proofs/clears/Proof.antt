@@ -1,105 +1,42 @@
--- `replay::clears` meets its contract: the map is loaded, its list judged, and the repairs are counted.
+-- `replay::clears` meets its contract: the memory that it makes is large enough.
 -- Assumes nothing.
-use mathlib.Core.Path.{_≡_, sym, _∙_, ap, ap₂}
-use mathlib.Core.Bool.{Bool}
-use Prim.Native.Nat.{ℕ, _≤_}
+use mathlib.Core.Path.{sym}
 use native.Mathlib.Omega.{arith}
 use borrow.Author.Needs.{needs}
-use borrow.Author.Tests.{not-true, not-false}
-use lib.ListN.{length}
-use Rattle.stripes.specs.Fold.{count}
-use Rattle.stripes.specs.Erased.{erasures}
-use Rattle.stripes.specs.Repair.{allAllowed}
-use Rattle.stripes.proofs.Erased.{past-end, below-all}
-use Rattle.model.specs.Grid.{disks, layoutOf}
-use Rattle.model.proofs.Grid.{size-fits, disks-bound, map-length, layout-disks}
-use Rattle.entries.specs.Listed.{listed}
-use Rattle.replay.proofs.Replayed.{clears-all, clears-not}
+use lib.Seq.{length-take-le}
+use Rattle.layout.proofs.Numbers.{map-few}
 use Rattle.replay.proofs.clears.Statement.{statement}
 use Rattle.replay.proofs.clears.Tie as tie
 
--- The map has a byte for each disk, and the buffer is long enough.
-fits : (s : tie.Start) → let n = length (s .args .map .now) in (n ≡ disks (s .args .size)) × (n ≤ 256)
-fits s =
-    let long = map-length (s .args .size) (s .args .map .now) (s .pre .1 .0) in
-    let most = disks-bound (s .args .size) (size-fits (s .args .size) (s .pre .0 .fits)) in
-    (long, omega arith)
+array-borrow-prefix-work : tie.Need-array-borrow-prefix-work
+array-borrow-prefix-work c = let p = c .before .before .pre in map-few _ _ (p .0) _ (p .1 .0)
 
--- All its erased disks are loaded.
-copied : (c : tie.After-copy) → erasures (c .copy .last .1 .1 .0) ≡ erasures (c .before .before .before .before .args .map .now)
-copied c =
-    let m = c .before .before .before .before .args .map .now in
-    c .copy .ensures ∙ below-all (length m) (erasures m) (past-end m)
+slice-aggregate-clears-in : tie.Need-slice-aggregate-clears-in
+slice-aggregate-clears-in c = sym (length-take-le _ _ (array-borrow-prefix-work (c .before)))
 
-slice-aggregate-copy : tie.Need-slice-aggregate-copy
-slice-aggregate-copy c = search needs
+slice-aggregate-clears-in-2 : tie.Need-slice-aggregate-clears-in-2
+slice-aggregate-clears-in-2 c = search needs
 
-copy-requires : tie.Need-copy-requires
-copy-requires c κs = (search needs, fits (c .before .before .before) .1)
+slice-aggregate-clears-in-3 : tie.Need-slice-aggregate-clears-in-3
+slice-aggregate-clears-in-3 c = search needs
 
-slice-aggregate-tally : tie.Need-slice-aggregate-tally
-slice-aggregate-tally c = search needs
-
-slice-aggregate-tally-2 : tie.Need-slice-aggregate-tally-2
-slice-aggregate-tally-2 c = search needs
-
-slice-aggregate-tally-3 : tie.Need-slice-aggregate-tally-3
-slice-aggregate-tally-3 c = search needs
-
-tally-requires : tie.Need-tally-requires
-tally-requires c κs =
-    let s = c .before .before .before .before .before .before .before .before in
-    let k = c .before .before .before .before in
-    let f = fits s in
-    let m = s .args .map .now in
-    (s .pre .0, (omega (arith, k .copy .kept), (λ d l. ap (λ (e : ℕ → Bool). e d) (copied k) ∙ past-end m d (omega arith), (omega arith, omega arith))))
-
-slice-aggregate-all-allowed : tie.Need-slice-aggregate-all-allowed
-slice-aggregate-all-allowed c = search needs
-
-slice-aggregate-all-allowed-2 : tie.Need-slice-aggregate-all-allowed-2
-slice-aggregate-all-allowed-2 c = search needs
-
-slice-aggregate-all-allowed-3 : tie.Need-slice-aggregate-all-allowed-3
-slice-aggregate-all-allowed-3 c = search needs
-
-all-allowed-requires : tie.Need-all-allowed-requires
-all-allowed-requires c κs = search needs
-
--- What is found is so of the map.
-judged : (c : tie.After-all-allowed) →
-    let a = c .before .before .before .before .before .before .before .before .before .before .before .before .before .before .before .args in
-    c .all-allowed .result ≡ allAllowed (layoutOf (a .size) (a .base)) (erasures (a .map .now)) (listed (a .list .now) (a .count))
-judged c =
-    let a = c .before .before .before .before .before .before .before .before .before .before .before .before .before .before .before .args in
-    c .all-allowed .ensures
-    ∙ ap (λ (e : ℕ → Bool). allAllowed (layoutOf (a .size) (a .base)) e (listed (a .list .now) (a .count)))
-    (copied (c .before .before .before .before .before .before .before .before .before .before .before))
+clears-in-requires : tie.Need-clears-in-requires
+clears-in-requires c κs =
+    let p = c .before .before .before .before .before .pre in
+    let few = map-few _ _ (p .0) _ (p .1 .0) in
+    let long = slice-aggregate-clears-in (c .before .before) in
+    (p .0, (p .1 .0, (p .1 .1, (omega arith, (omega arith, omega arith)))))
 
 returns : tie.Need-returns
-returns c = let j = c .before .before .before in clears-not _ _ _ _ (sym (judged j) ∙ not-true _ (c .if1 .taken))
-
-returns-2 : tie.Need-returns-2
-returns-2 c =
-    let j = c .before .before .before in
-    let k = j .before .before .before .before .before .before .before .before .before .before .before in
-    let a = k .before .before .before .before .args in
-    clears-all _ _ _ _ (sym (judged j) ∙ not-false _ (c .if1 .left)) _
-    (j .before .before .before .before .before .before .tally .ensures .0 ∙ ap₂ count (sym (layout-disks (a .size) (a .base))) (copied k))
+returns c = search needs
 
 pub clears-spec : {M : Type 1} → statement M
 clears-spec =
     tie.close
     (tie.spec
-    slice-aggregate-copy
-    copy-requires
-    slice-aggregate-tally
-    slice-aggregate-tally-2
-    slice-aggregate-tally-3
-    tally-requires
-    slice-aggregate-all-allowed
-    slice-aggregate-all-allowed-2
-    slice-aggregate-all-allowed-3
-    all-allowed-requires
-    returns
-    returns-2)
+    array-borrow-prefix-work
+    slice-aggregate-clears-in
+    slice-aggregate-clears-in-2
+    slice-aggregate-clears-in-3
+    clears-in-requires
+    returns)

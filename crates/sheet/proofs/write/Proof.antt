@@ -1,10 +1,10 @@
 -- `sheet::write` meets its contract: each turn writes one record more.
 -- Assumes nothing.
-use mathlib.Core.Path.{_≡_, ap, _∙_, sym}
+use mathlib.Core.Path.{_≡_, ap, _∙_}
 use Prim.Native.Nat.{_-_, _≤_}
 use native.Mathlib.Omega.{arith}
 use borrow.Author.Needs.{needs}
-use lib.ListN.{length}
+use lib.ListN.{length, length-set}
 use Rattle.model.specs.Sheet.{sheetOf, narrow}
 use Rattle.model.proofs.Sheets.{sheet-length}
 use Rattle.entries.specs.Listed.{listed}
@@ -13,16 +13,21 @@ use Rattle.sheet.proofs.write.Statement.{statement}
 use Rattle.sheet.proofs.write.Tie as tie
 
 abbrev Inv-loop : tie.InvT-loop
-Inv-loop kind list count sheet blank₀ k₀ blank k = (k ≤ count) × (blank ≡ sheetOf narrow kind (listed list k))
+Inv-loop kind list count sheet₀ k₀ sheet k = (k ≤ count) × (length sheet ≡ 98) × (sheet ≡ sheetOf narrow kind (listed list k))
 
 abbrev μ-loop : tie.MeasureT-loop
-μ-loop kind list count sheet blank₀ k₀ blank k = count - k
+μ-loop kind list count sheet₀ k₀ sheet k = count - k
 
-array-write-blank : tie.Need-array-write-blank Inv-loop μ-loop
-array-write-blank c = search needs
+zero-requires : tie.Need-zero-requires Inv-loop μ-loop
+zero-requires c κs = search needs
+
+slice-write-sheet : tie.Need-slice-write-sheet Inv-loop μ-loop
+slice-write-sheet c = search needs
 
 loop-holds : tie.Need-loop-holds Inv-loop μ-loop
-loop-holds c = (search needs, written-none _ _)
+loop-holds c =
+    let first = written-none _ _ (c .before .before .zero .ensures) in
+    (search needs, ap length first ∙ sheet-length narrow _ _, first)
 
 mul-at : tie.Need-mul-at Inv-loop μ-loop
 mul-at c = search needs
@@ -30,39 +35,39 @@ mul-at c = search needs
 add-at : tie.Need-add-at Inv-loop μ-loop
 add-at c = search needs
 
-add-blank : tie.Need-add-blank Inv-loop μ-loop
-add-blank c = search needs
+add-sheet : tie.Need-add-sheet Inv-loop μ-loop
+add-sheet c = search needs
 
-cast-blank : tie.Need-cast-blank Inv-loop μ-loop
-cast-blank c = search needs
+cast-sheet : tie.Need-cast-sheet Inv-loop μ-loop
+cast-sheet c = search needs
 
-array-write-blank-2 : tie.Need-array-write-blank-2 Inv-loop μ-loop
-array-write-blank-2 c = search needs
+slice-write-sheet-2 : tie.Need-slice-write-sheet-2 Inv-loop μ-loop
+slice-write-sheet-2 c = search needs
 
 disk-of-requires : tie.Need-disk-of-requires Inv-loop μ-loop
 disk-of-requires c κs = search needs
 
-cast-blank-2 : tie.Need-cast-blank-2 Inv-loop μ-loop
-cast-blank-2 c = search needs
+cast-sheet-2 : tie.Need-cast-sheet-2 Inv-loop μ-loop
+cast-sheet-2 c = search needs
 
-add-blank-2 : tie.Need-add-blank-2 Inv-loop μ-loop
-add-blank-2 c = search needs
+add-sheet-2 : tie.Need-add-sheet-2 Inv-loop μ-loop
+add-sheet-2 c = search needs
 
-array-write-blank-3 : tie.Need-array-write-blank-3 Inv-loop μ-loop
-array-write-blank-3 c = search needs
+slice-write-sheet-3 : tie.Need-slice-write-sheet-3 Inv-loop μ-loop
+slice-write-sheet-3 c = simp length-set (omega arith)
 
 stripe-of-requires : tie.Need-stripe-of-requires Inv-loop μ-loop
 stripe-of-requires c κs = search needs
 
-cast-blank-3 : tie.Need-cast-blank-3 Inv-loop μ-loop
-cast-blank-3 c =
-    let l = c .before .before .before in omega (arith, l .before .before .before .pre .1 .1 .1 (l .loop .k) (search needs))
+cast-sheet-3 : tie.Need-cast-sheet-3 Inv-loop μ-loop
+cast-sheet-3 c =
+    let l = c .before .before .before in omega (arith, l .before .before .before .before .before .before .before .pre .1 .1 .1 (l .loop .k) (search needs))
 
-add-blank-3 : tie.Need-add-blank-3 Inv-loop μ-loop
-add-blank-3 c = search needs
+add-sheet-3 : tie.Need-add-sheet-3 Inv-loop μ-loop
+add-sheet-3 c = search needs
 
-array-write-blank-4 : tie.Need-array-write-blank-4 Inv-loop μ-loop
-array-write-blank-4 c = search needs
+slice-write-sheet-4 : tie.Need-slice-write-sheet-4 Inv-loop μ-loop
+slice-write-sheet-4 c = simp length-set (omega arith)
 
 add-k : tie.Need-add-k Inv-loop μ-loop
 add-k c = search needs
@@ -73,22 +78,16 @@ loop-less c = search needs
 loop-again : tie.Need-loop-again Inv-loop μ-loop
 loop-again c =
     let l = c .before .before .before .loop in
-    (search needs, written-next _ _ _ (l .k) _ _ (search needs) (l .inv .1) (c .before .disk-of .ensures) (c .stripe-of .ensures))
-
-slice-aggregate-copy : tie.Need-slice-aggregate-copy Inv-loop μ-loop
-slice-aggregate-copy c = sym (ap length (c .before .before .loop .inv .1) ∙ sheet-length narrow _ _)
-
-copy-requires : tie.Need-copy-requires Inv-loop μ-loop
-copy-requires c κs = (ap length (c .before .before .before .loop .inv .1) ∙ sheet-length narrow _ _, search needs)
+    (search needs, search needs, written-next _ _ _ (l .k) _ _ (search needs) (l .inv .2) (c .before .disk-of .ensures) (c .stripe-of .ensures))
 
 same-length : tie.Need-same-length Inv-loop μ-loop
 same-length c = search needs
 
 returns : tie.Need-returns Inv-loop μ-loop
 returns c =
-    let l = c .before .before .before .before .before .before .loop in
-    let all : l .k ≡ c .before .before .before .before .before .before .before .before .before .args .count = search needs in
-    c .before .before .copy .ensures ∙ (rw all at (l .inv .1))
+    let l = c .before .loop in
+    let all : l .k ≡ c .before .before .before .before .before .before .before .before .args .count = search needs in
+    rw all at (l .inv .2)
 
 pub write-spec : {M : Type 1} → statement M
 write-spec =
@@ -96,25 +95,24 @@ write-spec =
     (tie.spec
     Inv-loop
     μ-loop
-    array-write-blank
+    zero-requires
+    slice-write-sheet
     loop-holds
     mul-at
     add-at
-    add-blank
-    cast-blank
-    array-write-blank-2
+    add-sheet
+    cast-sheet
+    slice-write-sheet-2
     disk-of-requires
-    cast-blank-2
-    add-blank-2
-    array-write-blank-3
+    cast-sheet-2
+    add-sheet-2
+    slice-write-sheet-3
     stripe-of-requires
-    cast-blank-3
-    add-blank-3
-    array-write-blank-4
+    cast-sheet-3
+    add-sheet-3
+    slice-write-sheet-4
     add-k
     loop-less
     loop-again
-    slice-aggregate-copy
-    copy-requires
     same-length
     returns)

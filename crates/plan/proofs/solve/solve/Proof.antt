@@ -3,7 +3,8 @@
 use mathlib.Core.Path.{sym, refl}
 use borrow.Author.Needs.{needs}
 use lib.Seq.{length-take-le}
-use Rattle.plan.proofs.Memory.{map-few, room-made}
+use Rattle.layout.proofs.Numbers.{map-few}
+use Rattle.plan.proofs.Memory.{room-made}
 use Rattle.plan.proofs.solve.solve.Statement.{statement}
 use Rattle.plan.proofs.solve.solve.Tie as tie
 

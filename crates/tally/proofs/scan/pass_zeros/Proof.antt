@@ -41,23 +41,7 @@ loop-again c =
     (sym (c .before .all-zero16 .ensures) ∙ not-false _ (c .if1 .left))
 
 returns-2 : tie.Need-returns-2 Inv-loop μ-loop
-returns-2 c = c .before .before .loop .inv
-
-sub-last : tie.Need-sub-last Inv-loop μ-loop
-sub-last c = search needs
-
-all-zero16-requires-2 : tie.Need-all-zero16-requires-2 Inv-loop μ-loop
-all-zero16-requires-2 c κs = search needs
-
-returns-3 : tie.Need-returns-3 Inv-loop μ-loop
-returns-3 c =
-    let l = c .before .before .before .before in
-    let fits = c .before .before .if2 .left in
-    let left = c .before .before .before .loop-test .left in
-    passed-zeros (l .loop .inv) _ 16 _ (omega arith) (omega arith) (omega arith) (omega arith) (sym (c .before .all-zero162 .ensures) ∙ c .if3 .taken)
-
-returns-4 : tie.Need-returns-4 Inv-loop μ-loop
-returns-4 c = c .before .before .before .before .loop .inv
+returns-2 c = c .before .loop .inv
 
 pub pass-zeros-spec : {M : Type 1} → statement M
 pass-zeros-spec =
@@ -72,8 +56,4 @@ pass-zeros-spec =
     add-d
     loop-less
     loop-again
-    returns-2
-    sub-last
-    all-zero16-requires-2
-    returns-3
-    returns-4)
+    returns-2)
