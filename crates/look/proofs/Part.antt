@@ -21,7 +21,7 @@ module _ (z : Size) (B : ℕ) (a m : List ℕ) (d : ℕ) where
   -- What look promises of the bytes and of the place that it hands back, where the array stands at p.
   abbrev pub Looked : ℕ × ℕ → List ℕ → ℕ × ℕ → Type 0
   Looked p r q =
-      (r ≡ take (lookLength z B a m d) (drop (lookOffset z B a m d) a)) × (q ≡ (p .0, p .1 + lookOffset z B a m d))
+      (r ≡ take (lookLength z B a m d) (drop (lookOffset z B a m d 0) a)) × (q ≡ (p .0, p .1 + lookOffset z B a m d 0))
 
   -- An empty part at the array's own place.
   pub look-nothing : (Passed → ⊥) → (p : ℕ × ℕ) → Looked p [] p

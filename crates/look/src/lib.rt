@@ -10,10 +10,10 @@ use model::Size;
 pub fn look<'a>(size: Size, block: usize, array: &'a [u8], map: &[u8], disk: usize) -> &'a [u8]
     ensures bytes { λ r. ⌜
         now r ≡ take (lookLength size block (now (array .entry)) (now (map .entry)) disk)
-        (drop (lookOffset size block (now (array .entry)) (now (map .entry)) disk) (now (array .entry)))
+        (drop (lookOffset size block (now (array .entry)) (now (map .entry)) disk 0) (now (array .entry)))
         ⌝ }
     ensures place { λ r. ⌜
-        ptr r ≡ (ptr (array .entry) .0, ptr (array .entry) .1 + lookOffset size block (now (array .entry)) (now (map .entry)) disk)
+        ptr r ≡ (ptr (array .entry) .0, ptr (array .entry) .1 + lookOffset size block (now (array .entry)) (now (map .entry)) disk 0)
         ⌝ }
 {
     if refusal::array_refusal(size, block, array.len()) != 0 {

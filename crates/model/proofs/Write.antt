@@ -93,7 +93,9 @@ module _ (z : Size) (d : ℕ) (isdata : isData z d ≡ true) where
   parity-at r c k =
       let j : d % across z ≤ columns z = le-of-lt (data-column z d isdata) in
       let last : columns z ≤ columns z = le-refl (columns z) in
-      rw (eqb-disk z r c (d / across z) (columns z) k last, eqb-disk z r c (rows z) (d % across z) k j, eqb-disk z r c (rows z) (columns z) k last)
+      let either : Bool → Bool → Bool = λ s t. s || t in
+      ap₂ either (eqb-disk z r c (d / across z) (columns z) k last)
+      (ap₂ either (eqb-disk z r c (rows z) (d % across z) k j) (eqb-disk z r c (rows z) (columns z) k last))
 
   touched-at : (r c : ℕ) → c ≤ columns z
       → touched z d (diskAt z r c) ≡ ((eqb r (d / across z) || eqb r (rows z)) && (eqb c (d % across z) || eqb c (columns z)))

@@ -99,13 +99,10 @@ unfoldable pub canLook : Size → ℕ → List ℕ → List ℕ → ℕ → Bool
 canLook z B a m d =
     eqb (refusal (arrayTests z B (length a))) 0 && (mapFits z m && (ltb d (disks z) && eqb (getD m d 0) 0))
 
--- Where the part that look hands back begins in the array, and its length: the block, or an empty part.
-unfoldable pub lookOffset : Size → ℕ → List ℕ → List ℕ → ℕ → ℕ
-lookOffset z B a m d = cond (canLook z B a m d) (d * B) 0
+-- Where the part that look hands back begins in the array, and its length: the block, or an empty part. For an empty part the
+-- place is what the caller gives as `before`: 0, the array's start, or what stood in the place for a number.
+unfoldable pub lookOffset : Size → ℕ → List ℕ → List ℕ → (d before : ℕ) → ℕ
+lookOffset z B a m d before = cond (canLook z B a m d) (d * B) before
 
 unfoldable pub lookLength : Size → ℕ → List ℕ → List ℕ → ℕ → ℕ
 lookLength z B a m d = cond (canLook z B a m d) B 0
-
--- The same place for a caller that gets a number: what stood there before where there is no part.
-unfoldable pub lookPlace : Size → ℕ → List ℕ → List ℕ → (d before : ℕ) → ℕ
-lookPlace z B a m d before = cond (canLook z B a m d) (d * B) before

@@ -1,7 +1,7 @@
 -- What a loss comes to, by what plan's order leaves.
 -- Assumes nothing.
 use mathlib.Core.Path.{_≡_, sym, _∙_, ap}
-use mathlib.Core.Bool.{Bool, true}
+use mathlib.Core.Bool.{Bool, true, false}
 use mathlib.Core.List.{List}
 use Prim.Native.Nat.{ℕ}
 use native.Mathlib.Nat.{pos-of-ne-zero}
@@ -17,10 +17,12 @@ use Rattle.plan.specs.Solved.{Repairable, Lossy}
 
 module _ {L : Layout} {e : ℕ → Bool} {made left : ℕ} {work stripes list : List ℕ} (p : Peeled L e made left work stripes list) where
   -- Nothing is left: the repairs.
-  pub solves-repairs : left ≡ 0 → Repairable L e made list
+  pub is-fine : left ≡ 0 → fatal L e ≡ false
   unfolding fatal
-  solves-repairs none =
-      record { fine = ap (λ (n : ℕ). ltb 0 n) (sym (p .rest) ∙ none); number = p .number; entries = p .listed }
+  is-fine none = ap (λ (n : ℕ). ltb 0 n) (sym (p .rest) ∙ none)
+
+  pub solves-repairs : left ≡ 0 → Repairable L e made list
+  solves-repairs none = record { fine = is-fine none; number = p .number; entries = p .listed }
 
   -- Disks are left: their number, and a cycle.
   module _ (some : left ≡ 0 → ⊥) where

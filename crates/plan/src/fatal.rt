@@ -3,7 +3,7 @@ ghost use mathlib.Core.Path.{_≡_};
 ghost use mathlib.Core.Bool.{true};
 ghost use Prim.Native.Nat.{_≤_};
 ghost use lib.ListN.{length};
-ghost use Rattle.stripes.specs.Erased.{erasures, below};
+ghost use Rattle.stripes.specs.Erased.{erasures};
 ghost use Rattle.stripes.specs.Repair.{fatal};
 ghost use Rattle.stripes.specs.Cycle.{closing, shownCycle};
 ghost use Rattle.model.specs.Grid.{layoutOf, mapFits};
@@ -11,27 +11,6 @@ ghost use Rattle.layout.specs.Stripe.{Numbered};
 ghost use Rattle.entries.specs.Listed.{listed};
 ghost use Rattle.plan.specs.Memory.{Room};
 use model::Size;
-
-// The loss of the erased disks below k alone is fatal.
-fn fatal_below(
-    size: Size,
-    base: usize,
-    map: &[u8],
-    k: usize,
-    work: &mut [u8],
-    stripes: &mut [u8],
-    counts: &mut [u8],
-    list: &mut [u32],
-) -> bool
-    requires { ⌜ Numbered size base ⌝ }
-    requires { ⌜ mapFits size (now map) ≡ true ⌝ }
-    requires { ⌜ k ≤ length (now map) ⌝ }
-    requires { ⌜ Room (layoutOf size base) (now work) (now stripes) (now counts) (now list) ⌝ }
-    ensures { λ r. ⌜ r ≡ fatal (layoutOf size base) (below k (erasures (now (map .entry)))) ⌝ }
-{
-    let found = crate::peeled::peel_below(size, base, map, k, work, stripes, counts, list);
-    0 < found.left
-}
 
 // The lowest disk with which the loss of the erased disks up to it is fatal, found by halving.
 fn closing_disk(
@@ -53,10 +32,20 @@ fn closing_disk(
     let mut high = map.len() - 1;
     while low < high {
         let middle = (low + high) / 2;
-        if fatal_below(size, base, map, middle + 1, work, stripes, counts, list) {
-            high = middle;
-        } else {
+        let found = crate::peeled::peel_below(
+            size,
+            base,
+            map,
+            middle + 1,
+            work,
+            stripes,
+            counts,
+            list,
+        );
+        if found.left == 0 {
             low = middle + 1;
+        } else {
+            high = middle;
         }
     }
     low

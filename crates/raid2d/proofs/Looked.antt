@@ -11,7 +11,7 @@ use lib.Dec.{eqb}
 use lib.ListN.{length, take, drop, length-take, length-drop}
 use Rattle.model.specs.Grid.{disks, mapFits}
 use Rattle.model.specs.Refusal.{refusal, arrayTests}
-use Rattle.model.specs.Array.{canLook, lookLength, lookOffset, lookPlace}
+use Rattle.model.specs.Array.{canLook, lookLength, lookOffset}
 use Rattle.model.specs.declared.Size.{Size}
 use Rattle.stripes.proofs.Fold.{and-left, and-right}
 use Rattle.model.proofs.Grid.{block-fits, block-within}
@@ -21,17 +21,16 @@ module _ (z : Size) (B : ℕ) (a m : List ℕ) (d : ℕ) where
   -- Either there is no part, or it is a block of one byte or more that lies within the array.
   pub record Found : Type 0 where
     pub length-is : lookLength z B a m d ≡ B
-    pub offset-is : lookOffset z B a m d ≡ d * B
-    pub place-is : (before : ℕ) → lookPlace z B a m d before ≡ d * B
+    pub offset-is : (before : ℕ) → lookOffset z B a m d before ≡ d * B
     pub some : 1 ≤ B
     pub within : d * B + B ≤ length a
 
   pub record Nothing : Type 0 where
     pub length-is : lookLength z B a m d ≡ 0
-    pub place-is : (before : ℕ) → lookPlace z B a m d before ≡ before
+    pub offset-is : (before : ℕ) → lookOffset z B a m d before ≡ before
 
   look-by : Found ⊎ Nothing
-  unfolding lookLength lookOffset lookPlace canLook
+  unfolding lookLength lookOffset canLook
   look-by = go (canLook z B a m d) refl
     where
       go : (b : Bool) → canLook z B a m d ≡ b → Found ⊎ Nothing
@@ -42,24 +41,23 @@ module _ (z : Size) (B : ℕ) (a m : List ℕ) (d : ℕ) where
           inl
           (record {
             length-is = ap (λ (b : Bool). cond b B 0) e;
-            offset-is = ap (λ (b : Bool). cond b (d * B) 0) e;
-            place-is = λ before. ap (λ (b : Bool). cond b (d * B) before) e;
+            offset-is = λ before. ap (λ (b : Bool). cond b (d * B) before) e;
             some = block-fits B (fits .block) .low;
             within = block-within z B (length a) (fits .long) d below;
           })
-      go false e = inr (record { length-is = ap (λ (b : Bool). cond b B 0) e; place-is = λ before. ap (λ (b : Bool). cond b (d * B) before) e })
+      go false e = inr (record { length-is = ap (λ (b : Bool). cond b B 0) e; offset-is = λ before. ap (λ (b : Bool). cond b (d * B) before) e })
 
-  pub part-length : length (take (lookLength z B a m d) (drop (lookOffset z B a m d) a)) ≡ lookLength z B a m d
+  pub part-length : length (take (lookLength z B a m d) (drop (lookOffset z B a m d 0) a)) ≡ lookLength z B a m d
   part-length = ⊎-elim
       (λ f.
       let n = f .length-is in
-      let o = f .offset-is in
+      let o = f .offset-is 0 in
       let w = f .within in
       simp (length-take, length-drop) (omega arith))
       (λ n. let e = n .length-is in simp length-take (omega arith)) look-by
 
-  pub look-none : 0 ≡ lookLength z B a m d → (before : ℕ) → before ≡ lookPlace z B a m d before
-  look-none e before = ⊎-elim (λ f. let h = f .length-is in let s = f .some in omega arith) (λ n. sym (n .place-is before)) look-by
+  pub look-none : 0 ≡ lookLength z B a m d → (before : ℕ) → before ≡ lookOffset z B a m d before
+  look-none e before = ⊎-elim (λ f. let h = f .length-is in let s = f .some in omega arith) (λ n. sym (n .offset-is before)) look-by
 
   pub look-some : (0 ≡ lookLength z B a m d → ⊥) → Found
   look-some h = ⊎-elim (λ f. f) (λ n. absurd (h (sym (n .length-is)))) look-by

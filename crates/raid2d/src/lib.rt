@@ -3,7 +3,7 @@
 // in crates/demands, of the same definitions.
 ghost use mathlib.Core.Path.{_≡_};
 ghost use Rattle.model.specs.Grid.{rectangle};
-ghost use Rattle.model.specs.Array.{sealStatus, sealArray, checked, checkStatus, checkStripe, writeStatus, writeArray, lookLength, lookPlace};
+ghost use Rattle.model.specs.Array.{sealStatus, sealArray, checked, checkStatus, checkStripe, writeStatus, writeArray, lookLength, lookOffset};
 ghost use Rattle.model.specs.Plan.{planOutcome, planSheet, outcomeStatus, outcomeCount};
 ghost use Rattle.model.specs.Rebuild.{rebuildOutcome, rebuildArray, rebuildSheet};
 ghost use Rattle.model.specs.Follow.{followOutcome, followArray};
@@ -81,7 +81,7 @@ pub extern "C" fn raid2d_look(
     ensures length { λ r. ⌜ r ≡ lookLength (rectangle rows columns) block (now (array .entry)) (now (map .entry)) disk ⌝ }
     ensures offset { λ r. ⌜
         now (offset .exit)
-        ≡ lookPlace (rectangle rows columns) block (now (array .entry)) (now (map .entry)) disk (now (offset .entry))
+        ≡ lookOffset (rectangle rows columns) block (now (array .entry)) (now (map .entry)) disk (now (offset .entry))
         ⌝ }
 {
     let part = look::look(Size { rows, columns }, block, array, map, disk);

@@ -35,7 +35,7 @@ mul-offset c = let h = found c .within in omega arith
 
 returns-2 : tie.Need-returns-2
 unfolding rectangle
-returns-2 c = (part-is (c .before), sym (found c .place-is (c .before .before .before .before .args .offset .now)))
+returns-2 c = (part-is (c .before), sym (found c .offset-is (c .before .before .before .before .args .offset .now)))
 
 pub raid2d-look-spec : {M : Type 1} → statement M
 raid2d-look-spec = tie.close (tie.spec look-requires returns mul-offset returns-2)

@@ -7,6 +7,7 @@ use lib.ListN.{length}
 use Rattle.stripes.specs.Erased.{erasures}
 use Rattle.model.specs.Grid.{layoutOf}
 use Rattle.plan.proofs.Memory.{map-disks, same-room}
+use Rattle.plan.proofs.Solving.{is-fine, is-lossy}
 use Rattle.plan.proofs.Halving.{Between, half-between, some-disk, between-first, between-high, between-low, between-closing}
 use Rattle.plan.proofs.fatal.closing_disk.Statement.{statement}
 use Rattle.plan.proofs.fatal.closing_disk.Tie as tie
@@ -55,11 +56,11 @@ loop-holds c =
 add-middle : tie.Need-add-middle Inv-loop μ-loop
 add-middle c = let m = middle c in omega arith
 
-add-fatal-below : tie.Need-add-fatal-below Inv-loop μ-loop
-add-fatal-below c = let m = middle c in omega arith
+add-peel-below : tie.Need-add-peel-below Inv-loop μ-loop
+add-peel-below c = let m = middle c in omega arith
 
-fatal-below-requires : tie.Need-fatal-below-requires Inv-loop μ-loop
-fatal-below-requires c κs =
+peel-below-requires : tie.Need-peel-below-requires Inv-loop μ-loop
+peel-below-requires c κs =
     let t = c .before .before .before .before in
     let p = start (t .before) .pre in
     let i = t .before .loop .inv in
@@ -67,42 +68,42 @@ fatal-below-requires c κs =
     (p .0, (p .1 .0, (omega arith, same-room (p .1 .1 .1) (i .0) (i .1) (i .2) (i .3))))
 
 -- The turn in which a loss was tried, and the memory after that.
-abbrev turn : tie.After-fatal-below Inv-loop μ-loop → tie.In-loop Inv-loop μ-loop
+abbrev turn : tie.After-peel-below Inv-loop μ-loop → tie.In-loop Inv-loop μ-loop
 turn f = f .before .before .before .before .before
 
-kept : (f : tie.After-fatal-below Inv-loop μ-loop) →
+kept : (f : tie.After-peel-below Inv-loop μ-loop) →
     let a = start (turn f .before) .args in
-    let w = f .fatal-below .last .1 .1 .1 .1 in
+    let w = f .peel-below .last .1 .1 .1 .1 in
     (length (w .0) ≡ length (a .work .now)) × (length (w .1 .0) ≡ length (a .stripes .now))
     × (length (w .1 .1 .0) ≡ length (a .counts .now)) × (length (w .1 .1 .1 .0) ≡ length (a .list .now))
 kept f =
     let i = turn f .before .loop .inv in
-    let k = f .fatal-below .kept .1 .1 .1 .1 in
+    let k = f .peel-below .kept .1 .1 .1 .1 in
     (k .0 ∙ i .0, k .1 .0 ∙ i .1, k .1 .1 .0 ∙ i .2, k .1 .1 .1 .0 ∙ i .3)
 
+add-low : tie.Need-add-low Inv-loop μ-loop
+add-low c = let m = middle (turn (c .before .before .before .before .before .before .before .before .before .before)) in omega arith
+
 loop-less : tie.Need-loop-less Inv-loop μ-loop
-loop-less c = let m = middle (turn (c .before .before .before .before .before .before .before .before .before)) in omega arith
+loop-less c = let m = middle (turn (c .before .before .before .before .before .before .before .before .before .before)) in omega arith
 
 loop-again : tie.Need-loop-again Inv-loop μ-loop
 loop-again c =
-    let f = c .before .before .before .before .before .before .before .before .before in
+    let f = c .before .before .before .before .before .before .before .before .before .before in
     let m = middle (turn f) in
     let k = kept f in
-    let b = between-high _ _ (turn f .before .loop .inv .4) _ (m .0) (m .1) (sym (f .fatal-below .ensures) ∙ c .if1 .taken) in
+    let b = between-low _ _ (turn f .before .loop .inv .4) _ (m .1) (is-fine (f .peel-below .ensures) (c .if1 .taken)) in
     (k .0, k .1, k .2, k .3, b)
 
-add-low : tie.Need-add-low Inv-loop μ-loop
-add-low c = let m = middle (turn (c .before .before .before .before .before .before .before .before .before)) in omega arith
-
 loop-less-2 : tie.Need-loop-less-2 Inv-loop μ-loop
-loop-less-2 c = let m = middle (turn (c .before .before .before .before .before .before .before .before .before)) in omega arith
+loop-less-2 c = let m = middle (turn (c .before .before .before .before .before .before .before .before .before .before)) in omega arith
 
 loop-again-2 : tie.Need-loop-again-2 Inv-loop μ-loop
 loop-again-2 c =
-    let f = c .before .before .before .before .before .before .before .before .before in
+    let f = c .before .before .before .before .before .before .before .before .before .before in
     let m = middle (turn f) in
     let k = kept f in
-    let b = between-low _ _ (turn f .before .loop .inv .4) _ (m .1) (sym (f .fatal-below .ensures) ∙ c .if1 .left) in
+    let b = between-high _ _ (turn f .before .loop .inv .4) _ (m .0) (m .1) (is-lossy (f .peel-below .ensures) (c .if1 .left)) in
     (k .0, k .1, k .2, k .3, b)
 
 same-length : tie.Need-same-length Inv-loop μ-loop
@@ -129,11 +130,11 @@ closing-disk-spec =
     sub-high
     loop-holds
     add-middle
-    add-fatal-below
-    fatal-below-requires
+    add-peel-below
+    peel-below-requires
+    add-low
     loop-less
     loop-again
-    add-low
     loop-less-2
     loop-again-2
     same-length
