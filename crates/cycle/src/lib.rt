@@ -9,7 +9,7 @@ ghost use Rattle.stripes.specs.Erased.{erasures};
 ghost use Rattle.stripes.specs.Cycle.{partner as Cycle·partner, otherThan, lowestOf, cycleOf, Paired};
 ghost use Rattle.model.specs.Grid.{layoutOf, disks};
 ghost use Rattle.layout.specs.Stripe.{Numbered};
-ghost use Rattle.entries.specs.Listed.{listed};
+ghost use Rattle.entries.specs.Listed.{capacity, listed};
 ghost use Rattle.tally.specs.Tally.{Table};
 use layout::stripe::Pair;
 use model::Size;
@@ -66,7 +66,7 @@ pub fn trace(size: Size, base: usize, set: &[u8], stripes: &[u8], list: &mut [u3
     requires { ⌜ Table (layoutOf size base) (now set) (now stripes) ⌝ }
     requires { ⌜ Paired (layoutOf size base) (erasures (now set)) ⌝ }
     requires { ⌜ lowestOf (layoutOf size base) (erasures (now set)) < disks size ⌝ }
-    requires { ⌜ 32 ≤ length (now list) ⌝ }
+    requires { ⌜ capacity ≤ length (now list) ⌝ }
     ensures number { λ r. ⌜ r ≡ length (cycleOf (layoutOf size base) (erasures (now (set .entry)))) ⌝ }
     ensures list { λ r. ⌜ listed (now (list .exit)) r ≡ cycleOf (layoutOf size base) (erasures (now (set .entry))) ⌝ }
 {

@@ -5,6 +5,10 @@ use Prim.Native.Nat.{ℕ, zero, suc, _+_, _*_, _/_, _%_}
 use lib.ListN.{getD}
 use Rattle.stripes.specs.Repair.{Entry}
 
+-- The words that a list has room for. No loss takes more repairs, and no loop has more disks.
+abbrev pub capacity : ℕ
+capacity = 32
+
 -- A disk and a stripe in one word, each in half of it.
 abbrev pub wordOf : (disk stripe : ℕ) → ℕ
 wordOf disk stripe = disk + 65536 * stripe

@@ -1,6 +1,6 @@
 -- What follow answers and leaves of the array at each of its ends.
 -- Assumes nothing.
-use mathlib.Core.Path.{_≡_, refl, sym, _∙_, ap, ap₂, subst}
+use mathlib.Core.Path.{_≡_, refl, sym, _∙_, ap, subst}
 use mathlib.Core.Bool.{Bool, true, false}
 use mathlib.Core.List.{List}
 use Prim.Native.Nat.{ℕ, _≤_}
@@ -8,9 +8,8 @@ use native.Mathlib.Omega.{arith}
 use lib.ListN.{length}
 use Rattle.stripes.specs.Erased.{erasures}
 use Rattle.stripes.specs.Repair.{Peels, clears}
-use Rattle.model.specs.Grid.{layoutOf}
 use Rattle.model.specs.Refusal.{refusal, arrayTests}
-use Rattle.model.specs.Sheet.{sheetOf, narrow}
+use Rattle.model.specs.Sheet.{narrow}
 use Rattle.model.specs.Chain.{chainFits, chainEntries}
 use Rattle.model.specs.Plan.{sheetTests, sheetLayout}
 use Rattle.model.specs.Rebuild.{rebuildTests, rebuildRefusal}
@@ -22,7 +21,6 @@ use Rattle.stripes.proofs.Clears.{clears-peels}
 use Rattle.stripes.specs.System.{whole}
 use Rattle.model.proofs.Refusal.{refused-first, array-fits, array-passed}
 use Rattle.model.proofs.Chain.{chain-few}
-use Rattle.model.proofs.Sheets.{sheet-length}
 use Rattle.model.proofs.Follow.{Gives, follow-given, follow-first, follow-order, follow-ten, follow-eleven}
 use Rattle.entries.specs.Listed.{listed}
 use Rattle.sheet.specs.Found.{chainRead}

@@ -8,12 +8,16 @@ use Rattle.model.specs.Grid.{rows, across, down, sizeFits}
 use Rattle.model.specs.declared.Size.{Size}
 use Rattle.layout.specs.declared.stripe.Run.{Run}
 
--- A size that the library takes, and a base that its stripes can be numbered with: above the rows, and so that every stripe
--- number is below 64.
+-- The planner has room for the stripes below this number.
+abbrev pub stripeLimit : ℕ
+stripeLimit = 64
+
+-- A size that the library takes, and a base that its stripes can be numbered with: above the rows, and so that the planner has
+-- room for every stripe.
 pub record Numbered (z : Size) (base : ℕ) : Type 0 where
   pub fits : sizeFits z ≡ true
   pub above : rows z < base
-  pub small : base + across z ≤ 64
+  pub small : base + across z ≤ stripeLimit
 
 -- The disks of row r stand one apart, the disks of column c (stripe base + c) one row apart.
 unfoldable pub disksOn : Size → (base s : ℕ) → Run

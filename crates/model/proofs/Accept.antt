@@ -15,7 +15,7 @@ use Rattle.model.specs.Refusal.{Test, _unless_, refusal, arrayTests}
 use Rattle.model.specs.Array.{writeTests, writeStatus}
 use Rattle.model.specs.Plan.{sheetTests, planTests}
 use Rattle.model.specs.Rebuild.{rebuildTests, rebuildRefusal}
-use Rattle.model.specs.Follow.{followTests, followRefusal}
+use Rattle.model.specs.Follow.{followTests, followStatus}
 use Rattle.model.specs.declared.Size.{Size}
 use Rattle.stripes.proofs.Fold.{by-cases, and-left, and-right, and-both, every-at, every-all}
 use Rattle.model.proofs.Grid.{size-fits, block-fits, disk-is, data-at, data-row, data-column}
@@ -42,8 +42,8 @@ pub size-refused : (a b : ℕ) → ((2 ≤ a) × (a ≤ 15) × (2 ≤ b) × (b �
     × ((B : ℕ) (array : List ℕ) (d : ℕ) (new : List ℕ) → writeStatus (rectangle a b) B array d new ≡ 1)
     × ((m : List ℕ) (len : ℕ) → refusal (planTests (rectangle a b) m len) ≡ 1)
     × ((B : ℕ) (array m sheet : List ℕ) → rebuildRefusal (rectangle a b) B array m sheet ≡ 1)
-    × ((B : ℕ) (array m sheet : List ℕ) → followRefusal (rectangle a b) B array m sheet ≡ 1)
-unfolding arrayTests writeStatus writeTests planTests rebuildRefusal rebuildTests followRefusal followTests
+    × ((B : ℕ) (array m sheet : List ℕ) → followStatus (rectangle a b) B array m sheet ≡ 1)
+unfolding arrayTests writeStatus writeTests planTests rebuildRefusal rebuildTests followStatus followTests
 size-refused a b outside =
     let one = outside-refused a b outside in
     (λ B len. one _, λ B array d new. one _, λ m len. one _, λ B array m sheet. one _, λ B array m sheet. one _)

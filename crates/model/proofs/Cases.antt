@@ -18,11 +18,11 @@ use Rattle.model.specs.Sheet.{chainBytes, sheetOf, blankSheet, numberByt
 use Rattle.model.specs.Chain.{entryAt, nextNumber, visited, chainNumbers, within, different, chainFits, entriesAt, chainEntries}
 use Rattle.model.specs.Plan.{sheetTests, planTests, planOutcome, outcomeStatus, outcomeCount, lossOutcome, lossSheet, planSheet}
 use Rattle.model.specs.Rebuild.{rebuildTests, rebuildRefusal, repairedArray, choose, rebuildOutcome, rebuildArray, rebuildSheet, loss}
-use Rattle.model.specs.Follow.{followedArray, followTests, followRefusal, followOutcome, followArray}
+use Rattle.model.specs.Follow.{followedArray, followTests, followStatus, followOutcome, followArray}
 use Rattle.model.specs.Listing.{digit, decimal, repairWord, fatalWord, refusedWord, entryLines, listed, listing}
 use Rattle.model.specs.declared.Size.{Size}
 
--- A case by its number in the paper: numbers and bytes in one list.
+-- A case by its number in the paper, 0 where it has none: numbers and bytes in one list.
 pub record Case : Type 0 where
   pub number : ℕ
   pub computed : List ℕ
@@ -212,6 +212,8 @@ cases =
     }
     ∷ []
 
-pub cases-hold : map (λ (c : Case). c .computed) cases ≡ map (λ (c : Case). c .expected) cases
-unfolding cases sealStatus sealArray encoded encodedByte writeStatus writeArray writeTests written writtenByte isParityOf refusal arrayTests sideFits sizeFits blockFits arrayBytes arrayOf disks across down rows columns diskAt isData rowData columnData cell byte whole xsum _⊕_ tabulate gate every bit count lowest among on sumOver stripeSum sumsToZero grid layoutOf mapFits erasures without alone allowed firstAllowed someAllowed nextDisk repairOf peel repairs after residual residualCount lost fatal changed sumOfOthers repaired rebuilt zeroed consistent below closing core partner firstOf otherThan trace lowestOf cycleOf shownCycle numberBytes numberAt chainBytes sheetOf blankSheet sheetTests planTests lossOutcome lossSheet planOutcome planSheet outcomeStatus outcomeCount rebuildTests rebuildRefusal repairedArray loss choose rebuildOutcome rebuildArray rebuildSheet entryAt nextNumber visited chainNumbers within different chainFits entriesAt chainEntries allAllowed clears followedArray followTests followRefusal followOutcome followArray rectangle digit decimal repairWord fatalWord refusedWord entryLines listed listing
-cases-hold = refl
+-- Every case holds, and the paper's nine are there.
+pub cases-hold : (map (λ (c : Case). c .computed) cases ≡ map (λ (c : Case). c .expected) cases)
+    × (map (λ (c : Case). c .number) cases ≡ 1 ∷ 2 ∷ 3 ∷ 4 ∷ 5 ∷ 6 ∷ 7 ∷ 8 ∷ 9 ∷ replicate 7 0)
+unfolding cases sealStatus sealArray encoded encodedByte writeStatus writeArray writeTests written writtenByte isParityOf refusal arrayTests sideFits sizeFits blockFits arrayBytes arrayOf disks across down rows columns diskAt isData rowData columnData cell byte whole xsum _⊕_ tabulate gate every bit count lowest among on sumOver stripeSum sumsToZero grid layoutOf mapFits erasures without alone allowed firstAllowed someAllowed nextDisk repairOf peel repairs after residual residualCount lost fatal changed sumOfOthers repaired rebuilt zeroed consistent below closing core partner firstOf otherThan trace lowestOf cycleOf shownCycle numberBytes numberAt chainBytes sheetOf blankSheet sheetTests planTests lossOutcome lossSheet planOutcome planSheet outcomeStatus outcomeCount rebuildTests rebuildRefusal repairedArray loss choose rebuildOutcome rebuildArray rebuildSheet entryAt nextNumber visited chainNumbers within different chainFits entriesAt chainEntries allAllowed clears followedArray followTests followStatus followOutcome followArray rectangle digit decimal repairWord fatalWord refusedWord entryLines listed listing
+cases-hold = (refl, refl)

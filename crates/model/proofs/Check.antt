@@ -11,7 +11,7 @@ use borrow.Author.Tests.{eqb-true, eqb-false, ltb-true, ltb-false, lt-ltb, le-lt
 use lib.Dec.{eqb, ltb}
 use lib.ListN.{length}
 use Rattle.stripes.specs.Fold.{lowest}
-use Rattle.stripes.specs.System.{whole, stripeSum, sumsToZero, consistent}
+use Rattle.stripes.specs.System.{whole, stripeSum, sumsToZero}
 use Rattle.model.specs.Grid.{layoutOf, columnBase}
 use Rattle.model.specs.Equations.{Equations}
 use Rattle.model.specs.Refusal.{refusal, arrayTests}
@@ -20,7 +20,7 @@ use Rattle.model.specs.declared.Size.{Size}
 use Rattle.model.specs.declared.Checked.{Checked}
 use Rattle.model.specs.declared.Checked.the-variants.{Sealed, Unsealed, Refused}
 use Rattle.stripes.proofs.Fold.{Lowest, lowest-is, lowest-unique}
-use Rattle.stripes.proofs.Sums.{place-of-nonzero, sums-of-zero, nonzero-of-place, consistent-iff, zero-of-sums}
+use Rattle.stripes.proofs.Sums.{place-of-nonzero, sums-of-zero, nonzero-of-place, zero-of-sums}
 use Rattle.model.proofs.Equations.{equations-iff-sums}
 use Rattle.model.proofs.Refusal.{given-accepted, array-fits}
 use Rattle.model.proofs.Grid.{rows-below}
@@ -112,12 +112,3 @@ answer-zero z B a = (
       (ok, answer-sealed z B a ok .0 (given-accepted _ _ (Refused (refusal (arrayTests z B (length a)))) ok ∙ none)),
   λ h. ap checkStatus (answer-sealed z B a (h .0) .1 (h .1)),
 )
-
--- All sums are zero exactly if check says sealed.
-pub consistent-sealed : (z : Size) (B : ℕ) (a : List ℕ) → refusal (arrayTests z B (length a)) ≡ 0
-    → (consistent (layoutOf z (columnBase z)) (whole B) a ≡ true) ↔ (checked z B a ≡ Sealed)
-consistent-sealed z B a ok =
-    let (sums, zeros) = consistent-iff (layoutOf z (columnBase z)) (whole B) a in
-    let (of-equations, to-equations) = equations-iff-sums z (columnBase z) (rows-below z (array-fits z B (length a) ok .size)) (whole B) a in
-    let (of-sealed, to-sealed) = answer-sealed z B a ok in
-    (λ e. to-sealed (to-equations (sums e)), λ e. zeros (of-equations (of-sealed e)))

@@ -3,21 +3,18 @@
 -- Assumes nothing.
 use mathlib.Core.Path.{_≡_, refl, sym, _∙_, ap, ap₂}
 use mathlib.Core.Bool.{Bool, true, false, cond, true≢false}
-use mathlib.Core.List.{List, [], _∷_}
-use Prim.Native.Nat.{ℕ, _+_, _*_, _≤_}
+use mathlib.Core.List.{List}
+use Prim.Native.Nat.{ℕ, _*_}
 use lib.ListN.{length}
-use Rattle.stripes.specs.System.{Layout, whole, consistent}
-use Rattle.stripes.specs.Erased.{erasures, without, Agree}
-use Rattle.stripes.specs.Repair.{Entry, Peels, repairs, after, fatal, repaired, rebuilt}
+use Rattle.stripes.specs.System.{whole, consistent}
+use Rattle.stripes.specs.Erased.{erasures, Agree}
+use Rattle.stripes.specs.Repair.{fatal}
 use Rattle.model.specs.Sheet.{narrow}
 use Rattle.model.specs.Plan.{sheetLayout}
 use Rattle.model.specs.Refusal.{refusal}
 use Rattle.model.specs.Rebuild.{rebuildTests, rebuildRefusal, repairedArray, loss, choose, rebuildOutcome, rebuildArray, rebuildSheet}
-use Rattle.stripes.specs.declared.Stretch.{Stretch}
 use Rattle.model.specs.declared.Size.{Size}
-use Rattle.stripes.proofs.Peel.{repairs-peels}
-use Rattle.stripes.proofs.Bytes.{whole-inside, whole-equal}
-use Rattle.stripes.proofs.Restore.{length-repaired, length-rebuilt, agree-step, zeroed-whole, none-left, same-rebuilt}
+use Rattle.stripes.proofs.Restore.{zeroed-whole, same-rebuilt}
 use Rattle.model.proofs.Grid.{block-fits, layout-sized}
 use Rattle.model.proofs.Refusal.{given-accepted, ArrayFits, array-tests}
 

@@ -1,7 +1,6 @@
 -- The parity equations hold if and only if every stripe's sum is zero at every place.
 -- Assumes nothing.
 use mathlib.Core.Path.{_≡_, sym, _∙_, ap}
-use mathlib.Core.Bool.{true}
 use mathlib.Core.Logic.{_↔_}
 use mathlib.Core.List.{List}
 use Prim.Native.Nat.{ℕ, _+_, _≤_, _<_, suc-le-suc}
@@ -9,13 +8,13 @@ use native.Mathlib.Nat.{le-refl, le-of-lt}
 use native.Mathlib.Numerals.{add-one}
 use Rattle.stripes.specs.Fold.{_⊕_, xsum}
 use Rattle.stripes.specs.System.{stripeSum}
-use Rattle.model.specs.Grid.{rows, columns, across, layoutOf, sizeFits}
+use Rattle.model.specs.Grid.{rows, columns, across, layoutOf}
 use Rattle.model.specs.Equations.{cell, rowData, columnData, Equations}
 use Rattle.stripes.specs.declared.Stretch.{Stretch}
 use Rattle.model.specs.declared.Size.{Size}
 use Rattle.stripes.proofs.Xor.{equal-of-zero, zero-of-equal}
 use Rattle.stripes.proofs.Fold.{below-suc}
-use Rattle.model.proofs.Grid.{size-fits, row-stripe, column-stripe, empty-stripe, row-number, column-number, by-stripe}
+use Rattle.model.proofs.Grid.{row-stripe, column-stripe, empty-stripe, row-number, column-number, by-stripe}
 
 -- A sum is zero if and only if its last part is the sum of the others.
 last-is-sum : {sum : ℕ} (n : ℕ) (f : ℕ → ℕ) → sum ≡ xsum (n + 1) f → (sum ≡ 0) ↔ (f n ≡ xsum n f)

@@ -6,7 +6,6 @@ use mathlib.Core.Bool.{Bool, true, false, cond, true≢false}
 use mathlib.Core.Logic.{_↔_, _⊎_, inl, inr}
 use mathlib.Core.List.{List, _++_}
 use Prim.Native.Nat.{ℕ, _≤_}
-use native.Mathlib.Nat.{le-of-lt}
 use native.Mathlib.Omega.{arith}
 use borrow.Author.Tests.{ne-eqb, eqb-true, eqb-false}
 use lib.Dec.{eqb}
@@ -16,13 +15,13 @@ use Rattle.stripes.specs.System.{among, whole, Codeword, Bytes, consistent}
 use Rattle.stripes.specs.Erased.{erasures, Agree, Belongs}
 use Rattle.stripes.specs.Repair.{Entry, repairs, fatal, zeroed, clears}
 use Rattle.stripes.specs.Cycle.{shownCycle}
-use Rattle.model.specs.Grid.{layoutOf, disks, sizeFits, blockFits, arrayBytes, mapFits}
+use Rattle.model.specs.Grid.{disks, sizeFits, blockFits, arrayBytes, mapFits}
 use Rattle.model.specs.Refusal.{Test, refusal, arrayTests}
 use Rattle.model.specs.Sheet.{sheetOf, narrow, sheetBytes}
 use Rattle.model.specs.Chain.{entryAt, nextNumber, chainNumbers, within, chainFits, chainEntries}
 use Rattle.model.specs.Plan.{sheetTests, planTests, outcomeStatus, lossOutcome, lossSheet, planSheet, sheetLayout}
 use Rattle.model.specs.Rebuild.{rebuildTests, rebuildRefusal, repairedArray, choose, rebuildOutcome, rebuildArray, loss}
-use Rattle.model.specs.Follow.{Usable, followedArray, followTests, followRefusal, followOutcome, followArray}
+use Rattle.model.specs.Follow.{Usable, followedArray, followTests, followStatus, followOutcome, followArray}
 use Rattle.model.specs.declared.Size.{Size}
 use Rattle.model.specs.declared.Outcome.{Outcome}
 use Rattle.model.specs.declared.Outcome.the-variants.{Repairs, Refused}
@@ -32,7 +31,7 @@ use Rattle.stripes.proofs.Sums.{consistent-iff}
 use Rattle.stripes.proofs.Clears.{clears-peels, clears-length, clears-fine, repairs-clear, clears-restored, clears-judged, clears-alike}
 use Rattle.model.proofs.Grid.{layout-disks, layout-ordered, layout-sized, rows-below}
 use Rattle.model.proofs.Refusal.{passes, by-test, refused-first, passed, ArrayFits, array-tests, array-passed}
-use Rattle.model.proofs.Limits.{grid-repairs-bound, peels-fitting}
+use Rattle.model.proofs.Limits.{peels-fitting}
 use Rattle.model.proofs.Accept.{sheet-small}
 use Rattle.model.proofs.Sheets.{sheet-length}
 use Rattle.model.proofs.Chain.{written-chain, loop-sheet-unfit, Linked, linked-fits, off-chain}
@@ -65,16 +64,16 @@ module _ (z : Size) (B : ℕ) (a m s : List ℕ) where
       array-passed z B (length a) array _ ∙ passes 4 (mapFits z m) _ map ∙ passes 5 (eqb (length s) (sheetBytes narrow)) ts long
 
   -- What follow gives where it refuses by k, or where k is 0.
-  pub follow-given : (k : ℕ) → followRefusal z B a m s ≡ k
+  pub follow-given : (k : ℕ) → followStatus z B a m s ≡ k
       → Gives z B a m s (cond (eqb k 0) (Repairs (length (chainEntries narrow s))) (Refused k))
       (cond (eqb k 0) (followedArray z B a s) (cond (eqb k 7) (zeroed (whole B) a (erasures m)) a))
   unfolding followOutcome followArray
   follow-given k e = (rw e, rw e)
 
-  status-is : outcomeStatus (followOutcome z B a m s) ≡ followRefusal z B a m s
+  status-is : outcomeStatus (followOutcome z B a m s) ≡ followStatus z B a m s
   unfolding followOutcome outcomeStatus
   status-is =
-      let k = followRefusal z B a m s in
+      let k = followStatus z B a m s in
       by-cases (λ (t : Bool). outcomeStatus (cond t (Repairs (length (chainEntries narrow s))) (Refused k)) ≡ k) (eqb k 0)
       (λ e. sym (eqb-true k 0 e)) (λ e. refl)
 
@@ -94,7 +93,7 @@ rebuild-kept z B a m t lossy = rw lossy (by-cases (λ (u : Bool). cond u a a ≡
 module _ (z : Size) (B : ℕ) (a m s : List ℕ) where
   -- Follow: 1, 2, 3, 4, 5. They are rebuild's, and nothing changes.
   pub follow-first : (rebuildRefusal z B a m s ≡ 0 → ⊥) → Gives z B a m s (Refused (rebuildRefusal z B a m s)) a
-  unfolding followRefusal followTests rebuildRefusal
+  unfolding followStatus followTests rebuildRefusal
   follow-first refused =
       let k = rebuildRefusal z B a m s in
       let few : k ≤ 5 = first-five z B a m s in
@@ -104,10 +103,10 @@ module _ (z : Size) (B : ℕ) (a m s : List ℕ) where
   -- Otherwise 10 exactly if the chain does not fit; else 11 exactly if a step is not an allowed repair or a disk stays erased; else 7
   -- exactly if a stripe's sum is not zero after the repairs.
   pub follow-order : rebuildRefusal z B a m s ≡ 0
-      → followRefusal z B a m s
+      → followStatus z B a m s
       ≡ cond (chainFits narrow s)
       (cond (clears (sheetLayout z) (erasures m) (chainEntries narrow s)) (cond (consistent (sheetLayout z) (whole B) (followedArray z B a s)) 0 7) 11) 10
-  unfolding followRefusal followTests refusal
+  unfolding followStatus followTests refusal
   follow-order ok = decided z B a m s ok _
 
   -- Numbers 10 and 11 come before any block is changed: after a refusal by a number other than 7 the array is as it was.
@@ -116,7 +115,7 @@ module _ (z : Size) (B : ℕ) (a m s : List ℕ) where
   unfolding followArray
   follow-refused some other =
       let status = status-is z B a m s in
-      rw (ne-eqb (followRefusal z B a m s) 0 (λ e. some (status ∙ e)), ne-eqb (followRefusal z B a m s) 7 (λ e. other (status ∙ e)))
+      rw (ne-eqb (followStatus z B a m s) 0 (λ e. some (status ∙ e)), ne-eqb (followStatus z B a m s) 7 (λ e. other (status ∙ e)))
 
   module _ (ok : rebuildRefusal z B a m s ≡ 0) where
     -- 10, and nothing changes.
@@ -259,7 +258,7 @@ module _ (z : Size) (B : ℕ) (a m s₁ t : List ℕ) (planOk : refusal (planTes
 pub follow-off-chain : (z : Size) (B : ℕ) (a m s t : List ℕ) → length s ≡ length t → getD s 0 0 ≡ getD t 0 0 → getD s 1 0 ≡ getD t 1 0
     → ((k : ℕ) → among k (chainNumbers narrow s) ≡ true → (entryAt narrow s k ≡ entryAt narrow t k) × (nextNumber narrow s k ≡ nextNumber narrow t k))
     → Gives z B a m s (followOutcome z B a m t) (followArray z B a m t)
-unfolding followOutcome followArray followRefusal followTests followedArray
+unfolding followOutcome followArray followStatus followTests followedArray
 follow-off-chain z B a m s t long kind first same = let (fit, lists) = off-chain narrow s t kind first same in rw (long, fit, lists) (refl, refl)
 
 -- Its chain may visit records in any order: every chain of records up to 32 that lists allowed repairs and leaves nothing erased

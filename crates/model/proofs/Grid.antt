@@ -12,12 +12,12 @@ use lib.Arith.{digits-div, digits-mod, digits-lt}
 use lib.Dec.{eqb, leb, ltb}
 use lib.ListN.{length, getD}
 use Rattle.stripes.specs.Fold.{xsum, gate}
-use Rattle.stripes.specs.System.{TwoStripes, among, on, whole, byte, sumOver, stripeSum, changed, Ordered}
+use Rattle.stripes.specs.System.{TwoStripes, among, on, whole, byte, sumOver, stripeSum, Ordered}
 use Rattle.model.specs.Grid.{grid, rows, columns, across, layoutOf, columnBase, disks, diskAt, isData, arrayBytes, arrayOf, sideFits, sizeFits, blockFits, mapFits, down}
 use Rattle.stripes.specs.declared.Stretch.{Stretch}
 use Rattle.model.specs.declared.Size.{Size}
 use Rattle.stripes.proofs.Fold.{and-left, and-right, and-both, same-test, xsum-ext, xsum-zero, xsum-swap, xsum-mul, xsum-only, length-tabulate, getD-tabulate, list-is}
-use Rattle.stripes.proofs.Bytes.{block-before, byte-whole, by-block, length-changed, byte-changed, whole-inside}
+use Rattle.stripes.proofs.Bytes.{block-before, byte-whole, by-block}
 use Rattle.stripes.proofs.Degree.{two-ordered}
 
 -- ---- the stripes of a grid
@@ -234,10 +234,6 @@ module _ (z : Size) where
   unfolding across
   column-within d = let b : d % (columns z + 1) < columns z + 1 = mod-lt d (omega arith) in omega arith
 
-  -- What holds of the disk in every row and column holds of every disk.
-  pub by-disk : (P : ℕ → Type 0) → ((r c : ℕ) → r ≤ rows z → c ≤ columns z → P (diskAt z r c)) → (d : ℕ) → d < disks z → P d
-  by-disk P all d l = subst P (sym (disk-is d)) (all (d / across z) (d % across z) (row-within d l) (column-within d))
-
   -- Two disks are the same if and only if their rows and their columns are.
   pub eqb-disk : (r c i j : ℕ) → c ≤ columns z → j ≤ columns z → eqb (diskAt z r c) (diskAt z i j) ≡ (eqb r i && eqb c j)
   eqb-disk r c i j l k = go (eqb r i) (eqb c j) refl refl
@@ -330,13 +326,6 @@ module _ (z : Size) (B : ℕ) (f : ℕ → ℕ → ℕ) where
 pub block-within : (z : Size) (B len : ℕ) → len ≡ arrayBytes z B → (d : ℕ) → d < disks z → d * B + B ≤ len
 unfolding arrayBytes
 block-within z B len long d below = let end = block-before B below in omega arith
-
--- Where the stretch is the whole block, nothing is left of the array.
-pub changed-whole : (z : Size) (B : ℕ) (a : List ℕ) (f : ℕ → ℕ → ℕ) → length a ≡ arrayBytes z B → changed (whole B) a f ≡ arrayOf z B f
-unfolding whole arrayBytes
-changed-whole z B a f long =
-    array-is z B f (changed (whole B) a f) (length-changed (whole B) a f ∙ long)
-    (λ d p l h. sym (byte-whole B (changed (whole B) a f) d p) ∙ byte-changed (whole B) (whole-inside B) (disks z) a long f d p l h)
 
 -- An array of the right length holds a block for each disk of the layout.
 pub layout-sized : (z : Size) (base B : ℕ) (a : List ℕ) → length a ≡ arrayBytes z B → length a ≡ layoutOf z base .disks * whole B .block

@@ -18,13 +18,7 @@ use Rattle.model.specs.Plan.{sheetTests, planTests}
 use Rattle.model.specs.declared.Size.{Size}
 use Rattle.stripes.proofs.Fold.{lt-or-le}
 use Rattle.model.proofs.Grid.{size-fits, disks-bound}
-use Rattle.model.proofs.Refusal.{given-refused, fails, passes, by-test}
-use Rattle.model.proofs.Accept.{sheet-small}
-
--- Refusal numbers are small.
-pub refusal-small : (z : Size) (m : List ℕ) (len : ℕ) → refusal (planTests z m len) ≤ 5
-unfolding planTests
-refusal-small z m len = by-test (λ k. k ≤ 5) 1 (sizeFits z) _ (omega arith) (sheet-small z m len)
+use Rattle.model.proofs.Refusal.{given-refused, fails, passes}
 
 -- A map of more than 256 bytes is refused by 4, or by 1 together with its size.
 overlong : (z : Size) (m : List ℕ) → 256 < length m → refusal (planTests z m 98) ≡ cond (sizeFits z) 4 1

@@ -14,7 +14,7 @@ use lib.ListN.{length}
 use Rattle.stripes.specs.Fold.{count}
 use Rattle.stripes.specs.System.{Layout, on}
 use Rattle.stripes.specs.Repair.{Entry, fatal, diskOf, stripeOf}
-use Rattle.stripes.specs.Cycle.{following, Cycle, shownCycle}
+use Rattle.stripes.specs.Cycle.{following, Cycle}
 use Rattle.model.specs.Grid.{rows, columns, across, layoutOf, disks, diskAt, sizeFits}
 use Rattle.model.specs.Loop.{Loop}
 use Rattle.model.specs.declared.Size.{Size}

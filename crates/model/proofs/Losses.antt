@@ -1,30 +1,26 @@
 -- What comes of a loss in any edition of the array, and what demand 3 asks of an edition.
 -- Assumes nothing.
 use mathlib.Core.Path.{_≡_, refl, sym, _∙_, ap}
-use mathlib.Core.Bool.{Bool, true, false, cond, true≢false}
-use mathlib.Core.Logic.{_↔_}
+use mathlib.Core.Bool.{Bool, true, false, true≢false}
 use mathlib.Core.List.{List}
 use Prim.Native.Nat.{ℕ, _*_, _≤_, _<_}
 use native.Mathlib.Omega.{arith}
 use lib.ListN.{length}
 use Rattle.stripes.specs.Fold.{count}
 use Rattle.stripes.specs.System.{Layout, TwoStripes, whole, Codeword, Bytes, consistent, Ordered}
-use Rattle.stripes.specs.Erased.{erasures, Agree, Belongs, Ambiguous}
+use Rattle.stripes.specs.Erased.{erasures, Agree, Belongs}
 use Rattle.stripes.specs.Repair.{Entry, Peels, repairs, lost, fatal, zeroed}
 use Rattle.stripes.specs.Cycle.{Cycle, shownCycle}
 use Rattle.model.specs.Sheet.{Format, sheetOf, blankSheet}
 use Rattle.model.specs.Plan.{lossOutcome, lossSheet, outcomeStatus}
 use Rattle.model.specs.Rebuild.{repairedArray, loss}
 use Rattle.model.specs.Edition.{Edition}
-use Rattle.model.specs.Demand3.{RepairSheet, LoopSheet, Planned, Results, Demand3}
+use Rattle.model.specs.Demand3.{Planned, Results, Demand3}
 use Rattle.model.specs.declared.Outcome.{Outcome}
 use Rattle.model.specs.declared.Outcome.the-variants.{Repairs, Fatal, Refused}
-use Rattle.stripes.proofs.Bytes.{whole-inside}
-use Rattle.stripes.proofs.Peel.{repairs-peels, repairs-count, in-order}
+use Rattle.stripes.proofs.Peel.{repairs-peels}
 use Rattle.stripes.proofs.Degree.{two-ordered}
-use Rattle.stripes.proofs.Core.{ambiguous}
 use Rattle.stripes.proofs.Trace.{shown}
-use Rattle.stripes.proofs.Restore.{judge, restored-is, unique}
 use Rattle.stripes.proofs.Theorems.{fatal-ambiguous, all-repaired, all-unique, all-ordered, all-judged, all-restored}
 
 -- What is to be shown of an edition, with sheets of a format.

@@ -1,4 +1,4 @@
--- Demand 2 of paper 01 as statements about seal, check and write, where their tests refuse nothing.
+-- Demand 2, what seal, check and write promise of the parities, as statements about them where their tests refuse nothing.
 -- Assumes nothing.
 use mathlib.Core.Path.{_≡_}
 use mathlib.Core.Bool.{true}

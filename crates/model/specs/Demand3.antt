@@ -1,5 +1,6 @@
--- Demand 3 of paper 01 as one statement about plan and rebuild on the same map, over any edition of the array and format of the
--- sheets, for one block length B and array a. The survivors are the disks that the map has as present.
+-- Demand 3, what plan and rebuild promise of a loss, as one statement about both on the same map, in the words that paper 01
+-- gives for it: over any edition of the array and format of the sheets, for one block length B and array a. The survivors are the
+-- disks that the map has as present.
 -- Assumes nothing.
 use mathlib.Core.Path.{_≡_}
 use mathlib.Core.Bool.{Bool}

@@ -35,15 +35,15 @@ followTests z B a m sheet =
     ∷ 7 unless consistent (sheetLayout z) (whole B) (followedArray z B a sheet)
     ∷ [])
 
-unfoldable pub followRefusal : Size → ℕ → (a m sheet : List ℕ) → ℕ
-followRefusal z B a m sheet = refusal (followTests z B a m sheet)
+unfoldable pub followStatus : Size → ℕ → (a m sheet : List ℕ) → ℕ
+followStatus z B a m sheet = refusal (followTests z B a m sheet)
 
 -- What follow answers, and the array after it: repaired, for 7 with zeros on the erased disks, else as it was.
 unfoldable pub followOutcome : Size → ℕ → (a m sheet : List ℕ) → Outcome
 followOutcome z B a m sheet =
-    cond (eqb (followRefusal z B a m sheet) 0) (Repairs (length (chainEntries narrow sheet))) (Refused (followRefusal z B a m sheet))
+    cond (eqb (followStatus z B a m sheet) 0) (Repairs (length (chainEntries narrow sheet))) (Refused (followStatus z B a m sheet))
 
 unfoldable pub followArray : Size → ℕ → (a m sheet : List ℕ) → List ℕ
 followArray z B a m sheet =
-    cond (eqb (followRefusal z B a m sheet) 0) (followedArray z B a sheet)
-    (cond (eqb (followRefusal z B a m sheet) 7) (zeroed (whole B) a (erasures m)) a)
+    cond (eqb (followStatus z B a m sheet) 0) (followedArray z B a sheet)
+    (cond (eqb (followStatus z B a m sheet) 7) (zeroed (whole B) a (erasures m)) a)

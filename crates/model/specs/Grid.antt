@@ -41,7 +41,7 @@ down z = rows z + 1
 unfoldable pub layoutOf : Size → (base : ℕ) → Layout
 layoutOf z base = grid (rows z) (columns z) base
 
--- The base in what check answers, where no sheet gives one.
+-- The base in what check answers, where no sheet gives one: 16 for every size.
 abbrev pub columnBase : Size → ℕ
 columnBase z = 16
 

@@ -7,7 +7,7 @@ ghost use Rattle.stripes.specs.Erased.{erasures};
 ghost use Rattle.stripes.specs.Repair.{repairs, residual};
 ghost use Rattle.model.specs.Grid.{layoutOf, disks};
 ghost use Rattle.layout.specs.Stripe.{Numbered};
-ghost use Rattle.entries.specs.Listed.{listed};
+ghost use Rattle.entries.specs.Listed.{capacity, listed};
 ghost use Rattle.tally.specs.Tally.{Table, Tallied};
 ghost use Rattle.order.specs.Pick.{picked};
 use model::Size;
@@ -58,7 +58,7 @@ pub fn peel(
     requires { ⌜ Numbered size base ⌝ }
     requires { ⌜ erased ≡ count (disks size) (erasures (now work)) ⌝ }
     requires { ⌜ Tallied (layoutOf size base) (now work) (now stripes) (now counts) ⌝ }
-    requires { ⌜ 32 ≤ length (now list) ⌝ }
+    requires { ⌜ capacity ≤ length (now list) ⌝ }
     ensures number { λ r. ⌜ r ≡ length (repairs (layoutOf size base) (erasures (now (work .entry)))) ⌝ }
     ensures left { λ r. ⌜ erasures (now (work .exit)) ≡ residual (layoutOf size base) (erasures (now (work .entry))) ⌝ }
     ensures list { λ r. ⌜ listed (now (list .exit)) r ≡ repairs (layoutOf size base) (erasures (now (work .entry))) ⌝ }

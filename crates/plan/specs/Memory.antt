@@ -8,15 +8,16 @@ use lib.ListN.{length}
 use Rattle.stripes.specs.System.{Layout}
 use Rattle.stripes.specs.Erased.{erasures}
 use Rattle.stripes.specs.Repair.{repairs, residual, residualCount}
-use Rattle.entries.specs.Listed.{listed}
+use Rattle.layout.specs.Stripe.{stripeLimit}
+use Rattle.entries.specs.Listed.{capacity, listed}
 use Rattle.tally.specs.Tally.{Table}
 
--- It is large enough for a layout of at most 64 stripes.
+-- It is large enough: for the disks of a layout, any stripes that can be numbered, and a whole list.
 pub record Room (L : Layout) (work stripes counts list : List ℕ) : Type 0 where
   pub disksFit : L .disks ≤ length work
   pub tableFits : 2 * length work ≤ length stripes
-  pub stripesFit : 64 ≤ length counts
-  pub listFits : 32 ≤ length list
+  pub stripesFit : stripeLimit ≤ length counts
+  pub listFits : capacity ≤ length list
 
 -- The repairs of the disks e are listed, and how many they are; what they leave erased is in the map, with its stripes in the
 -- table, and how many they are.

@@ -1,7 +1,6 @@
 // A fatal loss: the disk that makes it so, and the cycle that shows it. All memory is lent, and what it held does not matter.
 ghost use mathlib.Core.Path.{_≡_};
 ghost use mathlib.Core.Bool.{true};
-ghost use Prim.Native.Nat.{_≤_};
 ghost use lib.ListN.{length};
 ghost use Rattle.stripes.specs.Erased.{erasures};
 ghost use Rattle.stripes.specs.Repair.{fatal};

@@ -3,6 +3,7 @@ ghost use mathlib.Core.Path.{_≡_};
 ghost use Prim.Native.Nat.{_≤_};
 ghost use lib.ListN.{length};
 ghost use Rattle.model.specs.Plan.{planOutcome, planSheet};
+ghost use Rattle.entries.specs.Listed.{capacity};
 ghost use Rattle.plan.specs.Solved.{Drafted};
 
 mod fatal;
@@ -16,7 +17,7 @@ use model::Size;
 // Writes the repairs, or for a fatal loss a cycle, into the sheet, and into a list that has room for entries::CAPACITY words.
 // The map is only read.
 pub fn draft(size: Size, map: &[u8], sheet: &mut [u8], list: &mut [u32]) -> Outcome
-    requires { ⌜ 32 ≤ length (now list) ⌝ }
+    requires { ⌜ capacity ≤ length (now list) ⌝ }
     ensures outcome { λ r. ⌜ r ≡ planOutcome size (now (map .entry)) (now (sheet .entry)) ⌝ }
     ensures sheet { λ r. ⌜ now (sheet .exit) ≡ planSheet size (now (map .entry)) (now (sheet .entry)) ⌝ }
     ensures list { λ r. ⌜ Drafted size (now (map .entry)) (now (sheet .entry)) (now (list .exit)) ⌝ }

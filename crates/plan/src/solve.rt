@@ -6,6 +6,7 @@ ghost use lib.ListN.{length};
 ghost use Rattle.stripes.specs.Erased.{erasures};
 ghost use Rattle.model.specs.Grid.{layoutOf, mapFits};
 ghost use Rattle.layout.specs.Stripe.{Numbered};
+ghost use Rattle.entries.specs.Listed.{capacity};
 ghost use Rattle.plan.specs.Memory.{Room};
 ghost use Rattle.plan.specs.Solved.{Solves};
 use model::Size;
@@ -48,7 +49,7 @@ fn solve_in(
 pub fn solve(size: Size, base: usize, map: &[u8], list: &mut [u32]) -> Solved
     requires { ⌜ Numbered size base ⌝ }
     requires { ⌜ mapFits size (now map) ≡ true ⌝ }
-    requires { ⌜ 32 ≤ length (now list) ⌝ }
+    requires { ⌜ capacity ≤ length (now list) ⌝ }
     ensures { λ r. ⌜ Solves (layoutOf size base) (erasures (now (map .entry))) r (now (list .exit)) ⌝ }
 {
     let mut work = [0u8; tally::DISKS];

@@ -1,11 +1,10 @@
 -- What rebuild answers and leaves behind at each of its four ends.
 -- Assumes nothing.
-use mathlib.Core.Path.{_≡_, refl, sym, _∙_, ap, ap₂, subst}
+use mathlib.Core.Path.{_≡_, refl, sym, _∙_, ap, subst}
 use mathlib.Core.Bool.{Bool, true, false}
 use mathlib.Core.List.{List, [], _∷_, _++_}
 use mathlib.Core.Logic.{⊎-elim}
 use Prim.Native.Nat.{ℕ, _≤_}
-use native.Mathlib.Nat.{le-of-lt}
 use native.Mathlib.Omega.{arith}
 use types.Run.{OneOf}
 use denote.Enum.Declared.{tagOf}
@@ -14,7 +13,7 @@ use lib.Dec.{eqb}
 use lib.ListN.{length}
 use Rattle.stripes.specs.Repair.{Entry, Peels, repairs, lost, fatal}
 use Rattle.stripes.specs.Erased.{erasures}
-use Rattle.model.specs.Grid.{layoutOf, sizeFits, mapFits}
+use Rattle.model.specs.Grid.{sizeFits, mapFits}
 use Rattle.model.specs.Refusal.{refusal, arrayTests}
 use Rattle.model.specs.Sheet.{sheetOf, blankSheet, narrow, sheetBytes}
 use Rattle.model.specs.Plan.{sheetTests, planTests, lossOutcome, lossSheet, planOutcome, planSheet, sheetLayout}

@@ -6,7 +6,7 @@ ghost use lib.ListN.{length};
 ghost use Rattle.stripes.specs.Erased.{erasures};
 ghost use Rattle.stripes.specs.Repair.{allowed as Repair·allowed, allAllowed, clears as Repair·clears};
 ghost use Rattle.model.specs.Grid.{mapFits, layoutOf};
-ghost use Rattle.layout.specs.Stripe.{Numbered};
+ghost use Rattle.layout.specs.Stripe.{Numbered, stripeLimit};
 ghost use Rattle.entries.specs.Listed.{listed};
 ghost use Rattle.tally.specs.Tally.{Tallied};
 use model::Size;
@@ -87,7 +87,7 @@ fn clears_in(
     requires { ⌜ count ≤ length (now list) ⌝ }
     requires { ⌜ length (now map) ≤ length (now work) ⌝ }
     requires { ⌜ 2 * length (now work) ≤ length (now stripes) ⌝ }
-    requires { ⌜ 64 ≤ length (now counts) ⌝ }
+    requires { ⌜ stripeLimit ≤ length (now counts) ⌝ }
     ensures { λ r. ⌜ r ≡ Repair·clears (layoutOf size base) (erasures (now (map .entry))) (listed (now (list .entry)) count) ⌝ }
 {
     tally::load::copy(map, map.len(), work);

@@ -7,7 +7,6 @@ use Prim.Native.Nat.{ℕ, zero, suc, _<_, _*_}
 use native.Mathlib.Nat.{not-suc-le-zero}
 use lib.ListN.{length}
 use Rattle.stripes.specs.System.{Layout, on, consistent}
-use Rattle.stripes.specs.Erased.{erasures}
 use Rattle.stripes.specs.Repair.{allowed, Peels, after, rebuilt, zeroed, allAllowed}
 use Rattle.stripes.specs.declared.Stretch.{Stretch}
 use Rattle.model.specs.Grid.{layoutOf, disks}

@@ -1,22 +1,21 @@
 -- Zeros on the erased disks, stored on one disk after the other.
 -- Assumes nothing.
 use mathlib.Core.Path.{_≡_, refl, sym, _∙_, ap}
-use mathlib.Core.Bool.{Bool, true, false, cond, not, _&&_, and-false}
+use mathlib.Core.Bool.{Bool, true, false, cond, not, _&&_}
 use mathlib.Core.Logic.{⊎-elim}
 use mathlib.Core.List.{List}
 use Prim.Native.Nat.{ℕ, _+_, _*_, _≤_, _<_}
-use native.Mathlib.Nat.{eq-or-lt-of-le}
 use native.Mathlib.Omega.{arith}
-use borrow.Author.Tests.{eq-eqb, ne-eqb, lt-ltb, le-ltb, eqb-true, eqb-false}
-use lib.Dec.{eqb, ltb}
-use lib.ListN.{length, getD}
+use borrow.Author.Tests.{lt-ltb, le-ltb, eqb-true, eqb-false}
+use lib.Dec.{eqb}
+use lib.ListN.{length}
 use Rattle.stripes.specs.Fold.{gate}
 use Rattle.stripes.specs.System.{byte, changed}
 use Rattle.stripes.specs.Erased.{below}
 use Rattle.stripes.specs.Repair.{zeroed}
 use Rattle.stripes.specs.declared.Stretch.{Stretch}
 use Rattle.stripes.proofs.Fold.{lt-or-le, by-cases}
-use Rattle.stripes.proofs.Bytes.{length-changed, byte-changed, changed-is, changed-again, changed-ext, changed-self}
+use Rattle.stripes.proofs.Bytes.{length-changed, byte-changed, changed-again, changed-ext, changed-self}
 use Rattle.xor.specs.Strided.{stored}
 use Rattle.sums.proofs.Blocks.{stored-stretch}
 

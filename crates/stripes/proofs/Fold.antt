@@ -352,6 +352,3 @@ pub list-is : (l : List ℕ) (n : ℕ) (f : ℕ → ℕ) → length l ≡ n → 
 list-is l n f e h =
     ext-getD 0 l (tabulate n f) (e ∙ sym (length-tabulate n f))
     (λ i b. let c : i < n = omega arith in h i c ∙ sym (getD-tabulate n f i c))
-
-pub tabulate-ext : (n : ℕ) {f g : ℕ → ℕ} → ((i : ℕ) → i < n → f i ≡ g i) → tabulate n f ≡ tabulate n g
-tabulate-ext n {f} {g} h = list-is (tabulate n f) n g (length-tabulate n f) (λ i b. getD-tabulate n f i b ∙ h i b)

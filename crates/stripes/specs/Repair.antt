@@ -82,7 +82,8 @@ residualCount L e = count (L .disks) (residual L e)
 unfoldable pub fatal : Layout → (ℕ → Bool) → Bool
 fatal L e = ltb 0 (residualCount L e)
 
--- The number of lost disks (paper 01: lost cards): those that remain when no disk can be repaired.
+-- The number of lost disks (paper 01: lost cards): those that remain when no disk can be repaired. Plan's count is defined by
+-- this name, and fatality by what plan's order leaves.
 unfoldable pub lost : Layout → (ℕ → Bool) → ℕ
 lost L e = residualCount L e
 

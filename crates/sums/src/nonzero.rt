@@ -1,9 +1,8 @@
 // Stripes whose sum is not zero somewhere. Rows come before columns.
 ghost use mathlib.Core.Path.{_≡_};
-ghost use mathlib.Core.Bool.{not};
 ghost use Prim.Native.Nat.{_+_};
 ghost use Rattle.stripes.specs.Fold.{lowest};
-ghost use Rattle.stripes.specs.System.{sumsToZero, consistent};
+ghost use Rattle.stripes.specs.System.{consistent};
 ghost use Rattle.model.specs.Grid.{across, down, layoutOf};
 ghost use Rattle.layout.specs.Stripe.{Numbered};
 ghost use Rattle.sums.specs.Held.{Held, nonzero};

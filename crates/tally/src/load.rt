@@ -6,7 +6,7 @@ ghost use lib.ListN.{length};
 ghost use Rattle.stripes.specs.Fold.{count};
 ghost use Rattle.stripes.specs.Erased.{erasures, below};
 ghost use Rattle.model.specs.Grid.{disks, layoutOf};
-ghost use Rattle.layout.specs.Stripe.{Numbered};
+ghost use Rattle.layout.specs.Stripe.{Numbered, stripeLimit};
 ghost use Rattle.tally.specs.Tally.{Tallied};
 use model::Size;
 
@@ -31,7 +31,7 @@ pub fn tally(size: Size, base: usize, work: &[u8], stripes: &mut [u8], counts: &
     requires { ⌜ disks size ≤ length (now work) ⌝ }
     requires { ⌜ ((d : ℕ) → disks size ≤ d → erasures (now work) d ≡ false) ⌝ }
     requires { ⌜ 2 * length (now work) ≤ length (now stripes) ⌝ }
-    requires { ⌜ 64 ≤ length (now counts) ⌝ }
+    requires { ⌜ stripeLimit ≤ length (now counts) ⌝ }
     ensures number { λ r. ⌜ r ≡ count (disks size) (erasures (now (work .entry))) ⌝ }
     ensures tallied { λ r. ⌜ Tallied (layoutOf size base) (now (work .entry)) (now (stripes .exit)) (now (counts .exit)) ⌝ }
 {

@@ -2,7 +2,6 @@
 -- Assumes nothing.
 use mathlib.Core.Path.{_∙_, sym}
 use borrow.Author.Needs.{needs}
-use borrow.Author.Tests.{not-false}
 use Rattle.stripes.specs.Erased.{erasures}
 use Rattle.restore.proofs.Judged.{on-disks, on-stripes, still-held, all-restored, contradicted}
 use Rattle.restore.proofs.restore.Statement.{statement}
