@@ -23,9 +23,9 @@ use Rattle.model.proofs.Refusal.{refused-first, array-fits, array-passed}
 use Rattle.model.proofs.Chain.{chain-few}
 use Rattle.model.proofs.Follow.{Gives, follow-given, follow-first, follow-order, follow-ten, follow-eleven}
 use Rattle.entries.specs.Listed.{listed}
-use Rattle.sheet.specs.Found.{chainRead}
-use Rattle.sheet.specs.declared.chain.Chain.{Chain}
-use Rattle.sheet.specs.declared.chain.Chain.the-variants.{Records, Broken}
+use Rattle.chain.specs.Read.{chainRead}
+use Rattle.chain.specs.declared.Chain.{Chain}
+use Rattle.chain.specs.declared.Chain.the-variants.{Records, Broken}
 use Rattle.restore.specs.Restored.{fits, restored}
 
 -- What follow promises of its answer and of the array after it.

@@ -1,9 +1,9 @@
 // Follow: the repairs of a sheet from elsewhere made on the array.
 ghost use mathlib.Core.Path.{_≡_};
 ghost use Rattle.model.specs.Follow.{followOutcome, followArray};
+use chain::Chain;
 use model::Outcome;
 use model::Size;
-use sheet::chain::Chain;
 use stripes::Stretch;
 
 // Restores the erased blocks by the repairs that a sheet lists. The sheet is judged as a whole before any block is changed.
@@ -23,7 +23,7 @@ pub fn follow(size: Size, block: usize, array: &mut [u8], map: &[u8], sheet: &[u
         return Outcome::Refused(of_sheet);
     }
     let mut list = [0u32; entries::CAPACITY];
-    let chain = sheet::chain::read(sheet, &mut list);
+    let chain = chain::read(sheet, &mut list);
     let Chain::Records(count) = chain else {
         return Outcome::Refused(10);
     };

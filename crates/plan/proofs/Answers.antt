@@ -19,7 +19,8 @@ use Rattle.model.specs.declared.Outcome.{Outcome}
 use Rattle.model.specs.declared.Outcome.the-variants.{Repairs, Fatal, Refused}
 use Rattle.model.proofs.Refusal.{fails, passes, given-accepted, given-refused}
 use Rattle.entries.specs.Listed.{listed}
-use Rattle.plan.specs.Solved.{Repairable, Lossy, Drafted}
+use Rattle.solve.specs.Solved.{Repairable, Lossy}
+use Rattle.plan.specs.Drafted.{Drafted}
 
 -- What the loss comes to where nothing is refused.
 module _ (L : Layout) (e : ℕ → Bool) where

@@ -4,15 +4,10 @@ ghost use Prim.Native.Nat.{_≤_};
 ghost use lib.ListN.{length};
 ghost use Rattle.model.specs.Plan.{planOutcome, planSheet};
 ghost use Rattle.entries.specs.Listed.{capacity};
-ghost use Rattle.plan.specs.Solved.{Drafted};
-
-mod fatal;
-mod peeled;
-pub mod solve;
-
-use crate::solve::Solved;
+ghost use Rattle.plan.specs.Drafted.{Drafted};
 use model::Outcome;
 use model::Size;
+use solve::Solved;
 
 // Writes the repairs, or for a fatal loss a cycle, into the sheet, and into a list that has room for entries::CAPACITY words.
 // The map is only read.

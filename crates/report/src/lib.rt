@@ -8,7 +8,7 @@ ghost use Rattle.text.specs.Lines.{wordLine};
 ghost use Rattle.text.specs.Written.{Written};
 ghost use Rattle.report.specs.Report.{reported, Printable};
 use model::Size;
-use plan::solve::Solved;
+use solve::Solved;
 
 // The first `count` entries of a list, a line each: the disk and its stripe.
 fn lines(out: &mut [u8], at: usize, list: &[u32], count: usize) -> usize
@@ -59,7 +59,7 @@ pub fn report(out: &mut [u8], size: Size, map: &[u8]) -> usize
         return refused(out, 4);
     }
     let mut list = [0u32; entries::CAPACITY];
-    let answer = plan::solve::solve(size, sheet::BASE, map, &mut list);
+    let answer = solve::solve(size, sheet::BASE, map, &mut list);
     match answer {
         Solved::Repairs(count) => listed(out, b"repair ", &list, count),
         Solved::Cycle { disks, left: _left } => listed(out, b"fatal ", &list, disks),

@@ -16,7 +16,7 @@ use Rattle.stripes.specs.Repair.{zeroed}
 use Rattle.stripes.specs.declared.Stretch.{Stretch}
 use Rattle.stripes.proofs.Fold.{lt-or-le, by-cases}
 use Rattle.stripes.proofs.Bytes.{length-changed, byte-changed, changed-again, changed-ext, changed-self}
-use Rattle.xor.specs.Strided.{stored}
+use Rattle.zeros.specs.Stored.{stored}
 use Rattle.sums.proofs.Blocks.{stored-stretch}
 
 pub length-zeroed : (x : Stretch) (a : List ℕ) (e : ℕ → Bool) → length (zeroed x a e) ≡ length a

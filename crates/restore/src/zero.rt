@@ -20,7 +20,7 @@ pub fn zero_erased(size: Size, stretch: Stretch, array: &mut [u8], map: &[u8])
     let mut d = 0;
     while d < map.len() {
         if map[d] == 1 {
-            xor::wipe::wipe(array, d * block + offset, width);
+            zeros::wipe(array, d * block + offset, width);
         }
         d += 1;
     }

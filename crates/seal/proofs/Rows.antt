@@ -24,7 +24,7 @@ use Rattle.model.proofs.Grid.{disk-below, eqb-disk}
 use Rattle.model.proofs.Seal.{Same, same-row, same-column, encoded-is}
 use Rattle.model.proofs.Refusal.{ArrayFits}
 use Rattle.xor.specs.Strided.{filled, Spaced}
-use Rattle.xor.proofs.Stored.{length-stored}
+use Rattle.zeros.proofs.Stored.{length-stored}
 use Rattle.sums.proofs.Blocks.{others, filled-stretch}
 use Rattle.sums.proofs.Stripes.{rows-reach}
 use Rattle.sums.proofs.Whole.{held}

@@ -1,13 +1,11 @@
-// Sheets: no other code knows how they lie in bytes. Lists are written into them, and sheets from elsewhere are read (`chain`).
+// Sheets, into which lists are written. How they lie in bytes is known here and where sheets from elsewhere are read, in `reader`
+// and `chain`.
 // The entries of a list are counted from 0, the records of a sheet by their numbers from 1.
 ghost use mathlib.Core.Path.{_≡_};
 ghost use Prim.Native.Nat.{ℕ, _≤_, _<_};
 ghost use lib.ListN.{length};
 ghost use Rattle.entries.specs.Listed.{entryStripe, listed};
 ghost use Rattle.model.specs.Sheet.{narrow, sheetBytes, sheetOf, blankSheet};
-
-pub mod chain;
-pub mod reader;
 
 // The kinds of sheets: repairs, and a loop.
 pub const REPAIR_KIND: u8 = 1;
@@ -18,9 +16,9 @@ pub const LOOP_KIND: u8 = 2;
 pub const RECORDS: usize = 32;
 
 // The bytes of a record: its disk, its stripe in one byte and the number of the next record in another.
-const DISK_BYTES: usize = 1;
+pub const DISK_BYTES: usize = 1;
 
-const RECORD_BYTES: usize = DISK_BYTES + 2;
+pub const RECORD_BYTES: usize = DISK_BYTES + 2;
 
 // The stripe that column 0 is in a sheet.
 pub const BASE: usize = 16;

@@ -16,8 +16,9 @@ use Rattle.stripes.specs.System.{byte, changed}
 use Rattle.stripes.specs.declared.Stretch.{Stretch}
 use Rattle.stripes.proofs.Fold.{and-both, lt-or-le, by-cases, xsum-ext}
 use Rattle.stripes.proofs.Bytes.{block-before, covers, changed-is}
-use Rattle.xor.specs.Strided.{strided, stored, filled}
-use Rattle.xor.proofs.Stored.{length-stored, getD-stored, getD-before, getD-after}
+use Rattle.zeros.specs.Stored.{stored}
+use Rattle.xor.specs.Strided.{strided, filled}
+use Rattle.zeros.proofs.Stored.{length-stored, getD-stored, getD-before, getD-after}
 
 -- The sum at place p of `count` disks that stand s apart from disk d on, number `skip` left out.
 unfoldable pub others : Stretch → List ℕ → (s count skip d p : ℕ) → ℕ

@@ -18,8 +18,8 @@ use Rattle.stripes.proofs.Erased.{below-is, below-not, below-all, below-over, b
 use Rattle.stripes.proofs.Degree.{degree}
 use Rattle.tally.specs.Tally.{Passed, Counted, Tallied}
 use Rattle.tally.proofs.Counted.{Crossed, can-raise, can-raise-next, counted-more}
-use Rattle.xor.specs.Strided.{stored}
-use Rattle.xor.proofs.Stored.{length-stored, getD-stored}
+use Rattle.zeros.specs.Stored.{stored}
+use Rattle.zeros.proofs.Stored.{length-stored, getD-stored}
 
 -- The stripes that the table has for disk i.
 abbrev pub pairAt : List ℕ → ℕ → List ℕ

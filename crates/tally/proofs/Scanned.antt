@@ -17,8 +17,8 @@ use Rattle.stripes.specs.Erased.{erasures, below}
 use Rattle.stripes.proofs.Fold.{and-left, and-right, and-both, lt-or-le, every-at, Lowest, lowest-is, lowest-unique}
 use Rattle.stripes.proofs.Erased.{is-present}
 use Rattle.tally.specs.Tally.{nextErased, Passed}
-use Rattle.xor.specs.Strided.{stored}
-use Rattle.xor.proofs.Stored.{getD-before, getD-stored, length-stored}
+use Rattle.zeros.specs.Stored.{stored}
+use Rattle.zeros.proofs.Stored.{getD-before, getD-stored, length-stored}
 
 -- ---- passing over disks that are present
 pub passed-none : (m : List ℕ) (from : ℕ) → from ≤ length m → Passed m from from

@@ -21,7 +21,7 @@ pub fn copy(map: &[u8], k: usize, work: &mut [u8])
         work[i] = map[i];
         i += 1;
     }
-    xor::wipe::wipe(work, k, work.len() - k);
+    zeros::wipe(work, k, work.len() - k);
 }
 
 // Writes the stripes of each erased disk into the table, counts the erased disks on every stripe, and says how many they are.
@@ -35,7 +35,7 @@ pub fn tally(size: Size, base: usize, work: &[u8], stripes: &mut [u8], counts: &
     ensures number { λ r. ⌜ r ≡ count (disks size) (erasures (now (work .entry))) ⌝ }
     ensures tallied { λ r. ⌜ Tallied (layoutOf size base) (now (work .entry)) (now (stripes .exit)) (now (counts .exit)) ⌝ }
 {
-    xor::wipe::wipe(counts, 0, counts.len());
+    zeros::wipe(counts, 0, counts.len());
     let mut number = 0;
     let mut from = 0;
     loop {

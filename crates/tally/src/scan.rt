@@ -14,7 +14,7 @@ fn pass_zeros(map: &[u8], from: usize) -> usize
 {
     let mut d = from;
     while CHUNK <= map.len() - d {
-        if !xor::zeros::all_zero16(map, d) {
+        if !zeros::all_zero16(map, d) {
             return d;
         }
         d += CHUNK;

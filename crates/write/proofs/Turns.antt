@@ -24,7 +24,7 @@ use Rattle.stripes.proofs.Bytes.{byte-whole, covers, changed-at, block-before}
 use Rattle.model.proofs.Grid.{disk-is, disk-below, data-row, data-column, data-below, array-is, block-within, bytes-bound, size-fits, block-fits}
 use Rattle.model.proofs.Write.{WriteFits, touched, writtenByte-is}
 use Rattle.xor.specs.Strided.{added}
-use Rattle.xor.proofs.Stored.{added-ext, length-added}
+use Rattle.xor.proofs.Added.{added-ext, length-added}
 use Rattle.sums.proofs.Blocks.{stored-stretch}
 use Rattle.write.specs.Store.{placesOf, Room, part, parts}
 use Rattle.write.specs.declared.store.Places.{Places}

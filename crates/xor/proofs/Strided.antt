@@ -8,15 +8,17 @@ use Prim.Native.Nat.{ℕ, suc, _+_, _*_, _-_, _≤_, _<_}
 use native.Mathlib.Nat.{mul-zero, mul-suc, mul-le-mul-left, add-assoc, zero-add, sub-zero, le-refl, mul-le-mul-right, suc-mul, eq-or-lt-of-le}
 use native.Mathlib.Numerals.{add-one}
 use native.Mathlib.Omega.{arith}
-use borrow.Author.Tests.{eq-eqb, ne-eqb, eqb-true, eqb-false}
+use borrow.Author.Tests.{eq-eqb, ne-eqb}
 use lib.Dec.{eqb}
-use lib.Bits.{bitXor, bitOr, or-add-and}
+use lib.Bits.{bitXor}
 use lib.ListN.{length, getD, set, replicate, getD-replicate}
 use Rattle.stripes.specs.Fold.{_⊕_, xsum, gate, every}
-use Rattle.stripes.proofs.Xor.{⊕-zero, or-above-left, or-above-right}
+use Rattle.stripes.proofs.Xor.{⊕-zero}
 use Rattle.stripes.proofs.Fold.{xsum-ext, every-add, every-ext, every-all, every-at, every-not, every-fails, lt-or-le}
-use Rattle.xor.specs.Strided.{strided, stored, added, filled, cancelled, Spaced, Within}
-use Rattle.xor.proofs.Stored.{stored-more, stored-ext, stored-none, length-stored, getD-stored, getD-before, getD-after, added-next}
+use Rattle.xor.specs.Strided.{strided, added, filled, cancelled, Spaced, Within}
+use Rattle.zeros.specs.Stored.{stored}
+use Rattle.zeros.proofs.Stored.{stored-more, stored-ext, stored-none, length-stored, getD-stored, getD-before, getD-after}
+use Rattle.xor.proofs.Added.{added-next}
 
 -- ---- one more byte
 module _ (a : List ℕ) (first step skip k : ℕ) where
@@ -171,21 +173,8 @@ spaced-later n s h e p =
     record { within = λ k l. let r = s .within k l in omega arith; apart = omega arith; one = s .one }
 
 -- ---- the test of a stretch
-pub or-zero : (a b : ℕ) → eqb (bitOr a b) 0 ≡ (eqb a 0 && eqb b 0)
-or-zero a b = go (eqb a 0) refl (eqb b 0) refl
-  where
-    go : (s : Bool) → eqb a 0 ≡ s → (t : Bool) → eqb b 0 ≡ t → eqb (bitOr a b) 0 ≡ (s && t)
-    go true e true f = let p = eqb-true a 0 e in let q = eqb-true b 0 f in let h = or-add-and a b in eq-eqb (bitOr a b) 0 (omega arith)
-    go true e false f = ne-eqb (bitOr a b) 0 (λ z. eqb-false b 0 f (let h = or-above-right a b in omega arith))
-    go false e t f = ne-eqb (bitOr a b) 0 (λ z. eqb-false a 0 e (let h = or-above-left a b in omega arith))
-
 abbrev pub zeroAt : List ℕ → ℕ → Bool
 zeroAt v i = eqb (getD v i 0) 0
-
--- One byte more is gathered.
-pub zero-next : (f : ℕ → ℕ) (i any : ℕ) → eqb any 0 ≡ every i (λ j. eqb (f j) 0) → eqb (bitOr any (f i)) 0 ≡ every (i + 1) (λ j. eqb (f j) 0)
-unfolding every
-zero-next f i any e = rw add-one (or-zero any (f i) ∙ ap (λ (t : Bool). t && eqb (f i) 0) e)
 
 module _ (a : List ℕ) (first step count skip : ℕ) where
   pub cancelled-none : (w : ℕ) → cancelled (w * 0) a first step count skip ≡ true

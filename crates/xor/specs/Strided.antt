@@ -1,11 +1,12 @@
--- Sums of bytes that stand evenly spaced in a list, and lists with a stretch stored anew: what the leaf loops compute.
+-- Sums of bytes that stand evenly spaced in a list: what the leaf loops compute.
 -- Assumes nothing.
-use mathlib.Core.Bool.{Bool, cond, not, _&&_}
+use mathlib.Core.Bool.{Bool, not}
 use mathlib.Core.List.{List}
-use Prim.Native.Nat.{ℕ, _+_, _*_, _-_, _≤_, _<_}
-use lib.Dec.{leb, ltb, eqb}
+use Prim.Native.Nat.{ℕ, _+_, _*_, _≤_, _<_}
+use lib.Dec.{eqb}
 use lib.ListN.{length, getD}
-use Rattle.stripes.specs.Fold.{_⊕_, xsum, gate, every, tabulate}
+use Rattle.stripes.specs.Fold.{_⊕_, xsum, gate, every}
+use Rattle.zeros.specs.Stored.{stored}
 
 -- The stretches of w bytes, `count` of them that stand `step` apart from `first` on, lie within the list.
 abbrev pub Within : List ℕ → (first step count w : ℕ) → Type 0
@@ -20,10 +21,6 @@ pub record Spaced (a : List ℕ) (first step count skip w : ℕ) : Type 0 where
 -- The exclusive or of `count` bytes that stand `step` apart from `first` on, number `skip` left out.
 unfoldable pub strided : List ℕ → (first step count skip : ℕ) → ℕ
 strided a first step count skip = xsum count (λ k. gate (not (eqb k skip)) (getD a (first + k * step) 0))
-
--- The list with f 0 .. f (n - 1) at the places from `at` on.
-unfoldable pub stored : List ℕ → (at n : ℕ) → (ℕ → ℕ) → List ℕ
-stored l at n f = tabulate (length l) (λ i. cond (leb at i && ltb i (at + n)) (f (i - at)) (getD l i 0))
 
 -- The list with f 0 .. f (n - 1) added to the bytes from `at` on.
 unfoldable pub added : List ℕ → (at n : ℕ) → (ℕ → ℕ) → List ℕ

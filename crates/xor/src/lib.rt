@@ -6,5 +6,3 @@ pub mod cancel;
 pub mod fill;
 pub mod put;
 mod sum;
-pub mod wipe;
-pub mod zeros;

@@ -3,7 +3,8 @@ ghost use mathlib.Core.Path.{_≡_};
 ghost use Prim.Native.Nat.{ℕ, _+_, _≤_, _<_};
 ghost use lib.ListN.{length, getD};
 ghost use Rattle.stripes.specs.Fold.{_⊕_};
-ghost use Rattle.xor.specs.Strided.{stored, added};
+ghost use Rattle.zeros.specs.Stored.{stored};
+ghost use Rattle.xor.specs.Strided.{added};
 
 // The first w bytes of v stored from `at` on.
 pub fn put(a: &mut [u8], at: usize, v: [u8; 128], w: usize)

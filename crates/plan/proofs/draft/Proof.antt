@@ -13,10 +13,10 @@ use Rattle.model.specs.Grid.{sizeFits, mapFits}
 use Rattle.model.specs.Plan.{sheetLayout}
 use Rattle.model.proofs.Accept.{sheet-fits}
 use Rattle.layout.proofs.Numbers.{numbered}
-use Rattle.plan.specs.Solved.{Solves}
-use Rattle.plan.specs.declared.solve.Solved.{Solved}
-use Rattle.plan.specs.declared.solve.Solved.the-variants.{Repairs, Cycle}
-use Rattle.plan.proofs.Fitting.{repairs-fit, cycle-fits, listed-fits}
+use Rattle.solve.specs.Solved.{Solves}
+use Rattle.solve.specs.declared.Solved.{Solved}
+use Rattle.solve.specs.declared.Solved.the-variants.{Repairs, Cycle}
+use Rattle.solve.proofs.Fitting.{repairs-fit, cycle-fits, listed-fits}
 use Rattle.plan.proofs.Answers.{PlanFits, refused-size, refused-sheet, answers-repairs, answers-fatal}
 use Rattle.plan.proofs.draft.Statement.{statement}
 use Rattle.plan.proofs.draft.Tie as tie

@@ -12,9 +12,9 @@ use Rattle.stripes.specs.Erased.{erasures}
 use Rattle.model.specs.Grid.{sizeFits, mapFits}
 use Rattle.model.specs.Plan.{sheetLayout}
 use Rattle.model.specs.Listing.{repairWord, fatalWord}
-use Rattle.plan.specs.Solved.{Solves}
-use Rattle.plan.specs.declared.solve.Solved.{Solved}
-use Rattle.plan.specs.declared.solve.Solved.the-variants.{Repairs, Cycle}
+use Rattle.solve.specs.Solved.{Solves}
+use Rattle.solve.specs.declared.Solved.{Solved}
+use Rattle.solve.specs.declared.Solved.the-variants.{Repairs, Cycle}
 use Rattle.layout.proofs.Numbers.{numbered}
 use Rattle.text.proofs.Joined.{written-as}
 use Rattle.report.proofs.Answers.{size-refused, map-refused, repairs-printable, cycle-printable, repairs-reported, cycle-reported}

@@ -7,7 +7,8 @@ use borrow.Author.Needs.{needs}
 use lib.Dec.{eqb}
 use lib.ListN.{getD}
 use Rattle.stripes.specs.Fold.{every}
-use Rattle.xor.proofs.Strided.{zeroAt, zero-next}
+use Rattle.zeros.proofs.Gathered.{zero-next}
+use Rattle.xor.proofs.Strided.{zeroAt}
 use Rattle.xor.proofs.cancel.is_zero.Statement.{statement}
 use Rattle.xor.proofs.cancel.is_zero.Tie as tie
 

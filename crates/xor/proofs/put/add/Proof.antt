@@ -7,7 +7,7 @@ use borrow.Author.Needs.{needs}
 use lib.ListN.{length, length-set, getD}
 use Rattle.stripes.specs.Fold.{_⊕_}
 use Rattle.xor.specs.Strided.{added}
-use Rattle.xor.proofs.Stored.{added-none, added-next}
+use Rattle.xor.proofs.Added.{added-none, added-next}
 use Rattle.xor.proofs.put.add.Statement.{statement}
 use Rattle.xor.proofs.put.add.Tie as tie
 

@@ -8,8 +8,8 @@ use native.Mathlib.Omega.{arith}
 use borrow.Author.Needs.{needs}
 use lib.ListN.{set}
 use Rattle.stripes.specs.Fold.{_⊕_}
-use Rattle.xor.specs.Strided.{stored}
-use Rattle.xor.proofs.Stored.{stored-none, stored-next}
+use Rattle.zeros.specs.Stored.{stored}
+use Rattle.zeros.proofs.Stored.{stored-none, stored-next}
 use Rattle.xor.proofs.Strided.{differ, stored-at}
 use Rattle.xor.proofs.put.difference.Statement.{statement}
 use Rattle.xor.proofs.put.difference.Tie as tie

@@ -6,8 +6,8 @@ use Prim.Native.Nat.{ℕ, _≤_, _-_, _+_}
 use native.Mathlib.Omega.{arith}
 use borrow.Author.Needs.{needs}
 use lib.ListN.{length, length-set, getD, set}
-use Rattle.xor.specs.Strided.{stored}
-use Rattle.xor.proofs.Stored.{stored-none, stored-next}
+use Rattle.zeros.specs.Stored.{stored}
+use Rattle.zeros.proofs.Stored.{stored-none, stored-next}
 use Rattle.xor.proofs.put.put.Statement.{statement}
 use Rattle.xor.proofs.put.put.Tie as tie
 

@@ -1,0 +1,35 @@
+-- What a loss comes to, by what plan's order leaves.
+-- Assumes nothing.
+use mathlib.Core.Path.{_≡_, sym, _∙_, ap}
+use mathlib.Core.Bool.{Bool, true, false}
+use mathlib.Core.List.{List}
+use Prim.Native.Nat.{ℕ}
+use native.Mathlib.Nat.{pos-of-ne-zero}
+use borrow.Author.Tests.{lt-ltb}
+use lib.Dec.{ltb}
+use lib.ListN.{length}
+use Rattle.stripes.specs.System.{Layout}
+use Rattle.stripes.specs.Repair.{fatal}
+use Rattle.stripes.specs.Cycle.{shownCycle}
+use Rattle.entries.specs.Listed.{listed}
+use Rattle.solve.specs.Memory.{Peeled}
+use Rattle.solve.specs.Solved.{Repairable, Lossy}
+
+module _ {L : Layout} {e : ℕ → Bool} {made left : ℕ} {work stripes list : List ℕ} (p : Peeled L e made left work stripes list) where
+  -- Nothing is left: the repairs.
+  pub is-fine : left ≡ 0 → fatal L e ≡ false
+  unfolding fatal
+  is-fine none = ap (λ (n : ℕ). ltb 0 n) (sym (p .rest) ∙ none)
+
+  pub solves-repairs : left ≡ 0 → Repairable L e made list
+  solves-repairs none = record { fine = is-fine none; number = p .number; entries = p .listed }
+
+  -- Disks are left: their number, and a cycle.
+  module _ (some : left ≡ 0 → ⊥) where
+    pub is-lossy : fatal L e ≡ true
+    unfolding fatal
+    is-lossy = ap (λ (n : ℕ). ltb 0 n) (sym (p .rest)) ∙ lt-ltb 0 left (pos-of-ne-zero some)
+
+    pub solves-cycle : {disks : ℕ} (after : List ℕ) → disks ≡ length (shownCycle L e) → listed after disks ≡ shownCycle L e
+        → Lossy L e disks left after
+    solves-cycle after number entries = record { lossy = is-lossy; number = number; rest = p .rest; entries = entries }

@@ -1,0 +1,71 @@
+-- `solve::peeled::peel_below` meets its contract: the erased disks below k are loaded, then peeled.
+-- Assumes nothing.
+use native.Mathlib.Omega.{arith}
+use borrow.Author.Needs.{needs}
+use Rattle.model.proofs.Grid.{layout-disks}
+use Rattle.solve.proofs.Memory.{map-disks, loaded-inside, made-some, peeled}
+use Rattle.solve.proofs.peeled.peel_below.Statement.{statement}
+use Rattle.solve.proofs.peeled.peel_below.Tie as tie
+
+copy-requires : tie.Need-copy-requires
+copy-requires c κs =
+    let s = c .before .before .before .before .before .before in
+    let long = map-disks _ (s .args .base) _ (s .pre .1 .0) in
+    let room = s .pre .1 .1 .1 .disksFit in
+    (s .pre .1 .1 .0, omega arith)
+
+tally-requires : tie.Need-tally-requires
+tally-requires c κs =
+    let l = c .before .before .before .before .before in
+    let s = l .before .before .before .before .before .before .before in
+    let room = s .pre .1 .1 .1 in
+    let same = l .copy .kept .1 .1 .0 in
+    let few = layout-disks (s .args .size) (s .args .base) in
+    let a = room .disksFit in
+    let b = room .tableFits in
+    (s .pre .0, (omega arith, (loaded-inside _ (s .args .base) _ (s .pre .1 .0) _ (s .pre .1 .1 .0) _ (l .copy .ensures), (omega arith, room .stripesFit))))
+
+peel-requires : tie.Need-peel-requires
+peel-requires c κs =
+    let t = c .before .before .before .before .before .before .before .before in
+    let p = t .before .before .before .before .before .before .before .before .before .before .before .before .before .pre in
+    let (number, tallied) = t .tally .ensures in
+    (p .0, (number, (tallied, p .1 .1 .1 .listFits)))
+
+sub-t28 : tie.Need-sub-t28
+sub-t28 c =
+    let p = c .before .before .before .before .before .before in
+    made-some _ _ _ (p .before .before .before .before .before .before .before .before .before .tally .ensures .0) (p .peel .ensures .0)
+
+same-length : tie.Need-same-length
+same-length c = search needs
+
+same-length-2 : tie.Need-same-length-2
+same-length-2 c = search needs
+
+same-length-3 : tie.Need-same-length-3
+same-length-3 c = search needs
+
+same-length-4 : tie.Need-same-length-4
+same-length-4 c = search needs
+
+returns : tie.Need-returns
+returns c =
+    let p = c .before .before .before .before .before .before in
+    let t = p .before .before .before .before .before .before .before .before .before in
+    let (number, (rest, (entries, table))) = p .peel .ensures in
+    peeled _ _ _ (t .tally .ensures .0) number (t .before .before .before .before .before .before .copy .ensures) entries rest table
+
+pub peel-below-spec : {M : Type 1} → statement M
+peel-below-spec =
+    tie.close
+    (tie.spec
+    copy-requires
+    tally-requires
+    peel-requires
+    sub-t28
+    same-length
+    same-length-2
+    same-length-3
+    same-length-4
+    returns)
