@@ -1,8 +1,8 @@
 // Case 10: the largest array, 15 data rows and columns with blocks of 4,096 bytes.
 ghost use mathlib.Core.Path.{_≡_};
 ghost use lib.ListN.{length};
-use crate::say;
 use model::Size;
+use trial::say;
 
 // The bytes of the largest array. The contract says how many they are, so that no proof counts them.
 fn blank() -> [u8; 1048576]

@@ -2,6 +2,8 @@
 ghost use Prim.Native.Nat.{_≤_, _<_};
 ghost use lib.ListN.{length};
 
+pub mod say;
+
 // Stores a value at place `from` and every `step` places on, below `to`.
 pub fn put_every(bytes: &mut [u8], from: usize, to: usize, step: usize, value: u8)
     requires { ⌜ to ≤ length (now bytes) ⌝ }

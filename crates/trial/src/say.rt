@@ -1,4 +1,4 @@
-// The lines that the program prints, and the numbers of the papers for what the calls answer.
+// The lines that the programs print, and the numbers of the papers for what the calls answer.
 use libc::STDOUT_FILENO;
 use model::Checked;
 use model::Outcome;

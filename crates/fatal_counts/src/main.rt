@@ -1,8 +1,8 @@
 // Case 12: the fatal losses of three and of four disks, counted for 2 to 4 data rows and columns.
 ghost use Prim.Native.Nat.{_≤_};
-use crate::say;
 use model::Outcome;
 use model::Size;
+use trial::say;
 
 // Four disks.
 struct Four {
@@ -126,7 +126,7 @@ fn rectangles() {
     counted(4, 3, &mut twenty);
 }
 
-pub fn run() {
+fn main() {
     squares();
     rectangles();
 }

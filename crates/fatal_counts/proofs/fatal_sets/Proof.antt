@@ -1,11 +1,11 @@
--- `cases::counts::fatal_sets` meets its contract: no more are found than tried.
+-- `fatal_counts::fatal_sets` meets its contract: no more are found than tried.
 -- Assumes nothing.
 use mathlib.Core.Path.{_≡_}
 use Prim.Native.Nat.{_-_, _≤_}
 use borrow.Author.Needs.{needs}
 use lib.ListN.{length}
-use Rattle.cases.proofs.counts.fatal_sets.Statement.{statement}
-use Rattle.cases.proofs.counts.fatal_sets.Tie as tie
+use Rattle.fatal_counts.proofs.fatal_sets.Statement.{statement}
+use Rattle.fatal_counts.proofs.fatal_sets.Tie as tie
 
 abbrev Inv-loop : tie.InvT-loop
 Inv-loop size map₀ number found₀ k₀ map found k = (found ≤ k) × (k ≤ 1048576) × (length map ≡ length map₀)
