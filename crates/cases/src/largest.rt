@@ -1,8 +1,21 @@
 // Case 10: the largest array, 15 data rows and columns with blocks of 4,096 bytes.
 ghost use mathlib.Core.Path.{_≡_};
+ghost use Prim.Native.Nat.{_≤_, _<_};
 ghost use lib.ListN.{length};
 use model::Size;
-use trial::say;
+
+// Stores a value at place `from` and every `step` places on, below `to`.
+fn put_every(bytes: &mut [u8], from: usize, to: usize, step: usize, value: u8)
+    requires { ⌜ to ≤ length (now bytes) ⌝ }
+    requires { ⌜ 0 < step ⌝ }
+    requires { ⌜ step < 65536 ⌝ }
+{
+    let mut at = from;
+    while at < to {
+        bytes[at] = value;
+        at += step;
+    }
+}
 
 // The bytes of the largest array. The contract says how many they are, so that no proof counts them.
 fn blank() -> [u8; 1048576]
@@ -20,7 +33,7 @@ fn spoil(array: &mut [u8], map: &[u8])
     while d < 256 {
         if map[d] == 1 {
             let at = d * 4096;
-            trial::put_every(array, at, at + 4096, 1, 165);
+            put_every(array, at, at + 4096, 1, 165);
         }
         d += 1;
     }
@@ -34,9 +47,9 @@ pub fn run() {
         columns: 15,
     };
     let mut array = blank();
-    trial::put_every(&mut array, 0, 1048576, 3, 7);
-    trial::put_every(&mut array, 1, 1048576, 5, 90);
-    trial::put_every(&mut array, 2, 1048576, 4099, 203);
+    put_every(&mut array, 0, 1048576, 3, 7);
+    put_every(&mut array, 1, 1048576, 5, 90);
+    put_every(&mut array, 2, 1048576, 4099, 203);
     say::status(
         b"seal the largest array",
         seal::seal(size, 4096, &mut array),
@@ -44,8 +57,8 @@ pub fn run() {
     say::checked(b"check it", scrub::check(size, 4096, &array));
     let sealed = array;
     let mut map = [0u8; 256];
-    trial::put_every(&mut map, 0, 16, 1, 1);
-    trial::put_every(&mut map, 0, 256, 16, 1);
+    put_every(&mut map, 0, 16, 1, 1);
+    put_every(&mut map, 0, 256, 16, 1);
     spoil(&mut array, &map);
     let mut sheet = [0u8; 98];
     say::outcome(

@@ -1,7 +1,6 @@
 // Cases 10 and 11: sizes, blocks, a map byte and disks that are refused, and the disks beside them that are not.
 use libc::STDOUT_FILENO;
 use model::Size;
-use trial::say;
 
 // A heading for the lines that follow.
 fn heading(rows: usize, columns: usize, block: usize) {

@@ -2,7 +2,6 @@
 ghost use Prim.Native.Nat.{_≤_};
 use model::Outcome;
 use model::Size;
-use trial::say;
 
 // Four disks.
 struct Four {

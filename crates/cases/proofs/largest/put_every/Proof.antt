@@ -1,11 +1,11 @@
--- `trial::put_every` meets its contract: a place below the end stays within the bytes, and rises by the step.
+-- `cases::largest::put_every` meets its contract: a place below the end stays within the bytes, and rises by the step.
 -- Assumes nothing.
 use mathlib.Core.Path.{_≡_, refl, _∙_}
 use Prim.Native.Nat.{_-_, _≤_, _<_}
 use native.Mathlib.Omega.{arith}
 use lib.ListN.{length, length-set}
-use Rattle.trial.proofs.put_every.Statement.{statement}
-use Rattle.trial.proofs.put_every.Tie as tie
+use Rattle.cases.proofs.largest.put_every.Statement.{statement}
+use Rattle.cases.proofs.largest.put_every.Tie as tie
 
 abbrev Inv-loop : tie.InvT-loop
 Inv-loop bytes₀ from to step value at₀ bytes at = (to ≤ length bytes₀) × (0 < step) × (step < 65536) × (length bytes ≡ length bytes₀)
