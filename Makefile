@@ -1,6 +1,6 @@
-# The library, the example host and the tests.
+# The library, the listing program, the example host and the tests.
 #
-#   make            the library: build/libraid2d.a
+#   make            the library, the listing program and the manual pages
 #   make example    the library and the example host, which is run
 #   make check      the gate: all proofs, and the tests that take minutes
 #   make check-long the long tests, which take longer
@@ -10,21 +10,21 @@
 #   make test-fuzz  a bounded run of the fuzzer, and that it finds faults
 #   make fuzz       a longer run, of FUZZ_TIME seconds
 #   make bench      the benchmark
-#   make install    installs the library and the listing program; PREFIX, DESTDIR
+#   make install    installs what `make` has built; PREFIX, DESTDIR
 #   make uninstall  removes what install has put there; the same PREFIX, DESTDIR
-#   make clean      removes build/
+#   make clean      removes all that was made: build/ and target/
 #
-# All that is made here goes to build/. `rt ci` removes target/, so the
-# archive is copied from there.
+# All that is made here goes to build/. The prover keeps its own in target/,
+# which `rt ci` removes, so the archive is copied from there.
 
 CC = cc
 CXX = c++
 CFLAGS = -std=c99 -O2 -Wall -Wextra -Wpedantic
 BUILD = build
 
-# The header and the manual pages say the same (tests/manual), and so does
-# raid2d.pc (tests/install).
-VERSION = 0.5.0
+# The version is the header's, and its date that of its entry in CHANGES.md.
+VERSION := $(shell sed -n 's/^.define RAID2D_VERSION_STRING *"\(.*\)"/\1/p' include/raid2d.h)
+DATE := $(shell sed -n 's/^.. $(VERSION), //p' CHANGES.md)
 
 # The archive that C programs are linked with. `make test-c LIB=other.a` tests
 # another one.
@@ -37,17 +37,36 @@ STRICT = -Wall -Wextra -Wpedantic -Werror -Iinclude -fsyntax-only
 # How long the fuzzer runs in `make fuzz` and `make check-long`, in seconds.
 FUZZ_TIME = 600
 
-.PHONY: all lib example check check-long test-c test-rust test-fuzz fuzz bench \
-    install uninstall clean
+# The listing program and the manual pages, which are made from the header.
+LISTING = $(BUILD)/list_repairs
+MANUAL = $(BUILD)/man/raid2d.3
+open := (
+FUNCTIONS := $(shell sed -n 's/^[a-z].*[ *]\(raid2d_[a-z0-9_]*\)$(open).*/\1/p' $(HEADER))
 
-all: lib
+.PHONY: all lib manual example check check-long test-c test-rust test-fuzz fuzz \
+    bench install uninstall clean
+
+all: lib $(LISTING) manual
 
 lib: $(BUILD)/libraid2d.a
+
+manual: $(MANUAL)
 
 $(BUILD)/libraid2d.a: $(PROVED_SOURCES)
 	rt staticlib raid2d
 	mkdir -p $(BUILD)
 	cp target/staticlib/libraid2d.a $@
+
+$(BUILD)/list_repairs: $(PROVED_SOURCES)
+	rt check list_repairs
+	mkdir -p $(BUILD)
+	cp target/bin/list_repairs $@
+
+$(MANUAL): man/pages.awk man/list_repairs.1 README.md CHANGES.md $(HEADER)
+	rm -rf $(BUILD)/man
+	mkdir -p $(BUILD)/man
+	sed -e 's/@VERSION@/$(VERSION)/' -e 's/@DATE@/$(DATE)/' man/list_repairs.1 >$(BUILD)/man/list_repairs.1
+	awk -v out=$(BUILD)/man -v version=$(VERSION) -v date=$(DATE) -f man/pages.awk README.md $(HEADER)
 
 $(BUILD)/host: examples/host.c $(HEADER) $(LIB)
 	mkdir -p $(BUILD)
@@ -85,15 +104,6 @@ fuzz: $(LIB)
 bench: $(LIB)
 	$(MAKE) -C bench LIB=$(abspath $(LIB)) BUILD=$(abspath $(BUILD)/bench)
 
-# The listing program is installed too. `make install LIB=other.a` installs
-# another archive, and likewise with LISTING.
-LISTING = $(BUILD)/list_repairs
-
-$(BUILD)/list_repairs: $(PROVED_SOURCES)
-	rt check list_repairs
-	mkdir -p $(BUILD)
-	cp target/bin/list_repairs $@
-
 PREFIX = /usr/local
 prefix = $(PREFIX)
 exec_prefix = $(prefix)
@@ -102,50 +112,39 @@ includedir = $(prefix)/include
 libdir = $(exec_prefix)/lib
 datarootdir = $(prefix)/share
 mandir = $(datarootdir)/man
+docdir = $(datarootdir)/doc/raid2d
 pkgconfigdir = $(libdir)/pkgconfig
 INSTALL = install
 INSTALL_PROGRAM = $(INSTALL)
 INSTALL_DATA = $(INSTALL) -m 644
 
-# How raid2d.pc names a folder: by its prefix, and the prefix by the file's own
-# folder. What lies outside the prefix it names as it is.
-in_prefix = $(patsubst $(prefix)/%,$${prefix}/%,$(1))
-up = $(shell echo $(patsubst $(prefix)/%,%,$(pkgconfigdir)) | sed 's|[^/][^/]*|..|g')
-pc_prefix = $(if $(filter $(prefix)/%,$(pkgconfigdir)),$${pcfiledir}/$(up),$(prefix))
-
-# The functions that raid2d(3) names, each with a page that leads there.
-FUNCTIONS = $(shell sed -n '/^\.SH NAME/,/^\\-/p' man/raid2d.3 | grep -o 'raid2d_[a-z_]*')
-
-# Folders that install makes are noted in build/folders, and uninstall removes
-# those of them that are then empty.
-install: $(LIB) $(LISTING)
+# `make install LIB=other.a` installs another archive, and likewise with
+# LISTING. Folders that install makes are noted in build/folders, and uninstall
+# removes those of them that are then empty.
+install: $(LIB) $(LISTING) $(MANUAL)
 	@mkdir -p $(BUILD)
 	@made() { [ -d "$$1" ] || { made "$$(dirname "$$1")" && mkdir "$$1" && \
 	    echo "$$1" >>$(BUILD)/folders; }; }; \
 	for folder in "$(bindir)" "$(includedir)" "$(libdir)" "$(pkgconfigdir)" \
-	    "$(mandir)/man1" "$(mandir)/man3"; do made "$(DESTDIR)$$folder" || exit; done
-	sed -e 's|@prefix@|$(pc_prefix)|' -e 's|@VERSION@|$(VERSION)|' \
-	    -e 's|@libdir@|$(call in_prefix,$(libdir))|' \
-	    -e 's|@includedir@|$(call in_prefix,$(includedir))|' raid2d.pc.in >$(BUILD)/raid2d.pc
+	    "$(mandir)/man1" "$(mandir)/man3" "$(docdir)"; do made "$(DESTDIR)$$folder" || exit; done
+	sh raid2d.pc.sh "$(VERSION)" "$(prefix)" "$(libdir)" "$(includedir)" "$(pkgconfigdir)" >$(BUILD)/raid2d.pc
 	$(INSTALL_DATA) $(LIB) "$(DESTDIR)$(libdir)/libraid2d.a"
 	$(INSTALL_DATA) $(HEADER) "$(DESTDIR)$(includedir)/raid2d.h"
 	$(INSTALL_DATA) $(BUILD)/raid2d.pc "$(DESTDIR)$(pkgconfigdir)/raid2d.pc"
 	$(INSTALL_PROGRAM) $(LISTING) "$(DESTDIR)$(bindir)/list_repairs"
-	$(INSTALL_DATA) man/list_repairs.1 "$(DESTDIR)$(mandir)/man1/list_repairs.1"
-	$(INSTALL_DATA) man/raid2d.3 "$(DESTDIR)$(mandir)/man3/raid2d.3"
-	echo '.so man3/raid2d.3' >$(BUILD)/function.3
-	for name in $(FUNCTIONS); do \
-	    $(INSTALL_DATA) $(BUILD)/function.3 "$(DESTDIR)$(mandir)/man3/$$name.3" || exit; \
-	done
+	$(INSTALL_DATA) $(BUILD)/man/*.1 "$(DESTDIR)$(mandir)/man1"
+	$(INSTALL_DATA) $(BUILD)/man/*.3 "$(DESTDIR)$(mandir)/man3"
+	$(INSTALL_DATA) docs/SPECIFICATION.md CHANGES.md "$(DESTDIR)$(docdir)"
 
 uninstall:
 	rm -f "$(DESTDIR)$(libdir)/libraid2d.a" "$(DESTDIR)$(includedir)/raid2d.h" \
 	    "$(DESTDIR)$(pkgconfigdir)/raid2d.pc" "$(DESTDIR)$(bindir)/list_repairs" \
 	    "$(DESTDIR)$(mandir)/man1/list_repairs.1" "$(DESTDIR)$(mandir)/man3/raid2d.3" \
-	    $(FUNCTIONS:%="$(DESTDIR)$(mandir)/man3/%.3")
+	    "$(DESTDIR)$(docdir)/SPECIFICATION.md" "$(DESTDIR)$(docdir)/CHANGES.md"
+	for name in $(FUNCTIONS); do rm -f "$(DESTDIR)$(mandir)/man3/$$name.3"; done
 	@[ ! -f $(BUILD)/folders ] || sort -ru $(BUILD)/folders | \
 	    while IFS= read -r folder; do rmdir "$$folder" 2>/dev/null || :; done
 	@rm -f $(BUILD)/folders
 
 clean:
-	rm -rf $(BUILD)
+	rm -rf $(BUILD) target

@@ -1,10 +1,11 @@
 /*
  * An example host for raid2d: the rooms of a building, one name to a disk.
  *
- * It fills an array while the superparity is not there yet, writes a block,
- * loses disks and gets them back, follows a list of repairs that came from
- * elsewhere, meets a survivor that was changed behind its back, and in the end
- * a loss that nothing brings back. `make example` builds and runs it, and
+ * It draws the numbers of disks and stripes, fills an array while the
+ * superparity is not there yet, writes a block, loses disks and gets them
+ * back, follows a list of repairs that came from elsewhere, meets a survivor
+ * that was changed behind its back, and in the end a loss that nothing brings
+ * back. `make example` builds and runs it, and
  * examples/host.expected has what it prints.
  *
  * It is C99 and C++. Whatever it gets back is compared with what was stored:
@@ -77,6 +78,41 @@ static void print_array(void)
         if (disk % ACROSS == COLUMNS)
             printf("\n");
     }
+}
+
+/* What a disk holds: data, the parity of its row or its column, or the
+   superparity. */
+static char letter(size_t row, size_t column)
+{
+    if (row < ROWS)
+        return column < COLUMNS ? ' ' : 'P';
+    return column < COLUMNS ? 'Q' : 'S';
+}
+
+/* A row of the grid, with the number of its stripe and those of its disks. */
+static void draw_numbers(size_t row)
+{
+    size_t column;
+
+    printf("stripe %-3zu", row);
+    for (column = 0; column < ACROSS; column++)
+        printf(column < COLUMNS ? "    %2zu %c  " : " |    %2zu %c\n",
+               row * ACROSS + column, letter(row, column));
+}
+
+static void draw_grid(void)
+{
+    static const char line[] = "----------------------------------------";
+    size_t row, column;
+
+    printf("%10s", "");
+    for (column = 0; column < ACROSS; column++)
+        printf(column < COLUMNS ? " stripe %2zu" : " | stripe %2zu\n",
+               RAID2D_COLUMN_STRIPE + column);
+    for (row = 0; row < ROWS; row++)
+        draw_numbers(row);
+    printf("%10s%.*s-+%.10s\n", "", 10 * COLUMNS, line, line);
+    draw_numbers(ROWS);
 }
 
 /* Whether every room is on its disk and the array is sealed: the parities
@@ -222,7 +258,7 @@ static void fill(void)
     static const size_t missing[] = { SUPERPARITY };
     size_t row, column;
 
-    printf("1. The array is filled. The superparity, disk 19, is not there"
+    printf("\n1. The array is filled. The superparity, disk 19, is not there"
            " yet.\n");
     for (row = 0; row < ROWS; row++)
         for (column = 0; column < COLUMNS; column++)
@@ -461,6 +497,7 @@ static void meet_a_fatal_loss(void)
 
 int main(void)
 {
+    draw_grid();
     fill();
     rename_a_room();
     add_superparity();

@@ -1,30 +1,25 @@
 /*
- * raid2d.h: a two-dimensional RAID array with superparity.
+ * raid2d.h: parities and repair of a two-dimensional RAID array.
  *
  * The library keeps the parities of a grid of disks and restores lost disks,
  * in memory that the caller lends. Each call is proved, in the Rattle sources
  * it is made from, against a definition of its result and of every byte it
- * leaves, for every argument. This header puts those definitions into words.
- * It is C99 and C++.
- *
+ * leaves, for every argument. The header puts those definitions into words,
+ * and the manual pages are made from it.
  *
  * THE ARRAY
  *
  * An array has rows times columns data disks. One more column beside them and
  * one more row below them hold parities, so the grid has rows + 1 rows and
  * columns + 1 columns, each numbered from 0. The disk in row r and column c
- * has number r * (columns + 1) + c: disk d stands in row d / (columns + 1) and
- * column d % (columns + 1). For rows = 2 and columns = 3:
+ * has number r * (columns + 1) + c. For rows = 2 and columns = 3:
  *
- *              column 0        column 1        column 2        column 3
- *     row 0    0 data          1 data          2 data          3 row parity
- *     row 1    4 data          5 data          6 data          7 row parity
- *     row 2    8 col. parity   9 col. parity  10 col. parity  11 superparity
+ *              column 0       column 1       column 2       column 3
+ *     row 0    0 data         1 data         2 data         3 row parity
+ *     row 1    4 data         5 data         6 data         7 row parity
+ *     row 2    8 col. parity  9 col. parity 10 col. parity 11 superparity
  *
- *
- * GLOSSARY
- *
- * The words of this header.
+ * WORDS
  *
  *   sum            Exclusive or of blocks, at each byte place by itself.
  *   block          The bytes of one disk: as many for every disk.
@@ -48,7 +43,8 @@
  *   map            One byte for each disk, in the same order: 0 present,
  *                  1 erased.
  *   erased         Said of a disk whose block counts for nothing. Calls
- *                  without a map take every disk as present.
+ *                  without a map take every disk as present. While an array
+ *                  is filled before it has a superparity, that is erased.
  *   loss           All disks that a map says are erased.
  *   survivors      The blocks of all other disks. They belong to a sealed
  *                  array if one with the same rows, columns and block has the
@@ -60,73 +56,68 @@
  *   plan's order   At each step the lowest-numbered disk that can be repaired,
  *                  by its row if that is allowed, else by its column.
  *   residual       The disks that are still erased when no repair is allowed
- *                  any more.
+ *                  any more. The order of the repairs does not matter.
  *   fatal          Said of a loss with a residual. Then two different sealed
  *                  arrays have the same survivors, and nobody can tell which
- *                  of them was lost. No loss of up to three disks is fatal.
- *   cycle          Different erased disks, at least four: the first and the
- *                  second share a row, the second and the third a column, and
- *                  so on in turn, the last and the first a column; each stripe
- *                  touched holds exactly two of them. It begins with its
- *                  lowest-numbered disk. Each fatal loss has a cycle, and no
- *                  other loss has one.
- *   sheet          A list of repairs or a cycle, in 98 bytes: see below.
- *   chain          The records of a sheet from the first on, each with the
- *                  number of the next.
- *   status         What a call returns.
+ *                  of them was lost. No loss of up to three disks is fatal;
+ *                  every loss of more than rows + columns + 1 is.
+ *   cycle          A loop of different erased disks, at least four: the first
+ *                  and the second share a row, the second and the third a
+ *                  column, and so on in turn, the last and the first a column;
+ *                  each stripe touched holds exactly two of them. It begins
+ *                  with its lowest-numbered disk. Each fatal loss has a cycle,
+ *                  and no other loss has one.
+ *   sheet          A list of repairs or a cycle, in RAID2D_SHEET_BYTES bytes.
+ *                  A chain of records leads through it, each with a disk, a
+ *                  stripe and the number of the next. raid2d_sheet_first and
+ *                  its like read them; SPECIFICATION.md has the bytes.
  *
+ * PARAMETERS
  *
- * THE SHEET
+ * These mean the same in every call.
  *
- *   byte 0      the kind: 1 repairs, 2 a cycle
- *   byte 1      the number of the first record, 0 for none
- *   bytes 2..   records 1 to 32, of 3 bytes each: a disk, a stripe, and the
- *               number of the next record, 0 for none
- *
- * In a list of repairs the stripe is the one that is summed. In a cycle it is
- * the one that the disk shares with the next disk, the last with the first.
- * The library writes records 1, 2, 3 and so on in this order, and zeros
- * elsewhere. Two sheets for rows = 2 and columns = 3:
- *
- *     disks 0, 3, 8 erased       1 1  3 19 2  0 0 3  8 2 0  0 0 0 ..
- *     disks 0, 3, 8, 11 erased   2 1  0 0 2  3 19 3  11 2 4  8 16 0  0 0 0 ..
- *
- * The first says: disk 3 by stripe 19 (column 3), disk 0 by row 0, disk 8 by
- * row 2. The second is a cycle from disk 0 along row 0 to disk 3, along column
- * 3 to disk 11, along row 2 to disk 8, and along column 0 back to disk 0.
- *
- * raid2d_follow also takes lists of repairs from elsewhere. Their chain may
- * visit the records in any order, and bytes off the chain are ignored. The
- * first list once more, by records 3, 4 and 1, with record 2 off the chain:
- *
- *     disks 0, 3, 8 erased       1 3  8 2 0  9 9 9  3 19 4  0 0 1  0 0 0 ..
- *
+ *   rows       data rows, RAID2D_SIDE_MIN to RAID2D_SIDE_MAX
+ *   columns    data columns, likewise
+ *   block      bytes in a block, RAID2D_BLOCK_MIN to RAID2D_BLOCK_MAX
+ *   array      the blocks of all disks
+ *   array_len  its length, RAID2D_ARRAY_BYTES(rows, columns, block)
+ *   map        which disks are erased: every byte 0 or 1
+ *   map_len    its length, RAID2D_DISKS(rows, columns)
+ *   sheet_len  the length of the sheet, RAID2D_SHEET_BYTES
  *
  * CONVENTIONS
  *
- * Numbers. rows, columns, block and disk may have any value of size_t: each is
- * tested as it is given and never shortened before its test. A number or a
- * length that is out of range is refused and does no harm. But 2 rows and 3
- * columns are another array than 3 rows and 2 columns, of the same length: no
- * call can see that the two were swapped, and what it writes is then wrong.
+ * Numbers. rows, columns, block, disk and record may have any value of size_t:
+ * each is tested as it is given and never shortened before its test. A number
+ * or a length that is out of range is refused and does no harm. But 2 rows and
+ * 3 columns are another array than 3 rows and 2 columns, of the same length:
+ * no call can see that the two were swapped, and what it writes is then wrong.
  *
- * Buffers. Each pointer to bytes is followed by its length. The caller sees
- * to three things, which no call can test:
+ * Buffers. Each pointer to bytes is followed by its length, but for a sheet
+ * that is only read record by record. The caller sees to three things, which
+ * no call can test:
+ *
  *   - a pointer is valid for its length; it may be NULL where that is 0;
  *   - an out-parameter points to a size_t, also where the call refuses;
  *   - nothing that is lent to one call overlaps anything else lent to it.
+ *
  * Bytes may stand at any address. A buffer that is const is only read. No
  * pointer is kept after the call.
  *
- * Statuses. 0 is success. Where several statuses apply, the first in the
- * call's list below is returned. A call that refuses leaves every buffer and
- * every out-parameter as it was, but for what the lists of raid2d_plan,
- * raid2d_rebuild and raid2d_follow say of RAID2D_FATAL and
- * RAID2D_ERR_SURVIVORS. A status keeps its number for good.
+ * Statuses. Where several apply, the first in the call's list is returned. A
+ * call that refuses leaves every buffer and every out-parameter as it was, but
+ * for what the lists of raid2d_plan, raid2d_rebuild and raid2d_follow say of
+ * RAID2D_FATAL and RAID2D_ERR_SURVIVORS. A status keeps its number for good.
  *
- * State. There is none: no memory is allocated, nothing is read or written
- * but what is lent. Calls may run at the same time unless one writes what
- * another is lent.
+ * State. There is none: no memory is allocated, nothing is read or written but
+ * what is lent and less than 2 KB of stack. Of the C library the archive needs
+ * memcpy and memset. Calls may run at the same time, also from a signal
+ * handler, unless one writes what another is lent.
+ *
+ * Pointers that are not valid. The archive has no unwind tables and no line
+ * numbers. A debugger that stops in it on a bad pointer names a function of
+ * the sources, such as xor::fill::fill, and cannot say who called it. With a
+ * breakpoint on the call itself, such as raid2d_seal, it shows the caller.
  */
 
 #ifndef RAID2D_H
@@ -142,16 +133,9 @@ extern "C" {
 /* The version of this header, as three numbers, as one, and as a string. */
 #define RAID2D_VERSION_MAJOR   0
 #define RAID2D_VERSION_MINOR   5
-#define RAID2D_VERSION_PATCH   0
-#define RAID2D_VERSION_NUMBER  500
-#define RAID2D_VERSION_STRING  "0.5.0"
-
-/*
- * The version of the archive, as one number: 10000 times the major version,
- * 100 times the minor version and the patch. A host that was built with this
- * header and linked with that archive finds RAID2D_VERSION_NUMBER here.
- */
-uint32_t raid2d_version_number(void);
+#define RAID2D_VERSION_PATCH   1
+#define RAID2D_VERSION_NUMBER  501
+#define RAID2D_VERSION_STRING  "0.5.1"
 
 /* The range of a side: of data rows, and of data columns. */
 #define RAID2D_SIDE_MIN  2
@@ -162,9 +146,10 @@ uint32_t raid2d_version_number(void);
 #define RAID2D_BLOCK_MAX  4096
 
 /*
- * Disks of an array, parity disks included: a map has as many bytes. And bytes
- * of an array. With constants both can size a static array. They are not
- * tested: with numbers out of range they may wrap.
+ * The length of a map, one byte for each disk, parity disks included, and that
+ * of an array. With constants both can size a static array. They test nothing:
+ * with numbers out of range they may wrap. raid2d_disks and raid2d_array_bytes
+ * give the same and test.
  */
 #ifdef __cplusplus
 #define RAID2D_DISKS(rows, columns) \
@@ -187,7 +172,7 @@ uint32_t raid2d_version_number(void);
 #define RAID2D_SHEET_REPAIRS  1
 #define RAID2D_SHEET_CYCLE    2
 
-/* The statuses. Their numbers never change. */
+/* The statuses. Their numbers never change. raid2d_strerror has the words. */
 enum raid2d_status {
     RAID2D_OK = 0,
     RAID2D_ERR_SIDE = 1,
@@ -204,7 +189,13 @@ enum raid2d_status {
     RAID2D_NOT_SEALED = 64
 };
 
-/* A status in words: a constant string, never NULL. */
+/*
+ * raid2d_strerror: a status in words.
+ *
+ * Returns a constant string, never NULL: "unknown status" for a number that is
+ * none. This function stands in the header only, since the prover's compiler
+ * makes no function that returns a pointer: another language needs its own.
+ */
 static inline const char *raid2d_strerror(uint32_t status)
 {
     switch (status) {
@@ -240,47 +231,52 @@ static inline const char *raid2d_strerror(uint32_t status)
 }
 
 /*
- * Readers of a sheet. Records are numbered from 1 to RAID2D_SHEET_RECORDS, and
- * 0 stands for none, so a sheet that the library has written is read by
+ * raid2d_version_number: the version of the archive, as one number.
+ *
+ * Returns 10000 times the major version, plus 100 times the minor version,
+ * plus the patch. A host that was built with this header and linked with that
+ * archive finds RAID2D_VERSION_NUMBER here.
+ */
+uint32_t raid2d_version_number(void);
+
+/*
+ * raid2d_disks, raid2d_array_bytes: the lengths of a map and of an array.
+ *
+ * Return how many disks an array has, parity disks included, and how many
+ * bytes; 0 if rows, columns or block is out of range.
+ */
+size_t raid2d_disks(size_t rows, size_t columns);
+size_t raid2d_array_bytes(size_t rows, size_t columns, size_t block);
+
+/*
+ * raid2d_sheet_kind, raid2d_sheet_first, raid2d_sheet_disk,
+ * raid2d_sheet_stripe, raid2d_sheet_next: read a sheet.
+ *
+ * Records are numbered from 1 to RAID2D_SHEET_RECORDS, and 0 stands for none,
+ * so a sheet that the library has written is read by
  *
  *     for (k = raid2d_sheet_first(sheet); k != 0;
  *          k = raid2d_sheet_next(sheet, k))
  *         use(raid2d_sheet_disk(sheet, k), raid2d_sheet_stripe(sheet, k));
  *
- * They test nothing: the sheet has RAID2D_SHEET_BYTES bytes and the record a
- * number from 1 to RAID2D_SHEET_RECORDS. The chain of a sheet from elsewhere
- * may lead outside or never end; raid2d_follow takes no such sheet.
+ * In a list of repairs the stripe is the one that is summed. In a cycle it is
+ * the one that the disk shares with the next disk, the last with the first.
+ *
+ *   sheet      the sheet, RAID2D_SHEET_BYTES bytes
+ *   record     the number of a record
+ *
+ * Return the kind, RAID2D_SHEET_REPAIRS or RAID2D_SHEET_CYCLE in a sheet that
+ * the library has written; the number of the first record, 0 for none; and of
+ * a record its disk, its stripe, and the number of the next record, 0 for
+ * none. If no record has that number, the last three return 0. A chain from
+ * elsewhere may come back to a record and so never end; raid2d_follow takes no
+ * such sheet.
  */
-
-/* The kind: RAID2D_SHEET_REPAIRS or RAID2D_SHEET_CYCLE. */
-static inline size_t raid2d_sheet_kind(const uint8_t *sheet)
-{
-    return sheet[0];
-}
-
-/* The number of the first record, 0 for none. */
-static inline size_t raid2d_sheet_first(const uint8_t *sheet)
-{
-    return sheet[1];
-}
-
-/* The disk of a record. */
-static inline size_t raid2d_sheet_disk(const uint8_t *sheet, size_t record)
-{
-    return sheet[2 + 3 * (record - 1)];
-}
-
-/* The stripe of a record. */
-static inline size_t raid2d_sheet_stripe(const uint8_t *sheet, size_t record)
-{
-    return sheet[3 + 3 * (record - 1)];
-}
-
-/* The number of the record after this one, 0 for none. */
-static inline size_t raid2d_sheet_next(const uint8_t *sheet, size_t record)
-{
-    return sheet[4 + 3 * (record - 1)];
-}
+size_t raid2d_sheet_kind(const uint8_t *sheet);
+size_t raid2d_sheet_first(const uint8_t *sheet);
+size_t raid2d_sheet_disk(const uint8_t *sheet, size_t record);
+size_t raid2d_sheet_stripe(const uint8_t *sheet, size_t record);
+size_t raid2d_sheet_next(const uint8_t *sheet, size_t record);
 
 /*
  * raid2d_seal: fill the parities of an array.
@@ -289,23 +285,17 @@ static inline size_t raid2d_sheet_next(const uint8_t *sheet, size_t record)
  * the sum of its column's data, and the superparity to the sum of all row
  * parities. The array is then sealed.
  *
- *   rows       data rows, RAID2D_SIDE_MIN to RAID2D_SIDE_MAX
- *   columns    data columns, likewise
- *   block      bytes in a block, RAID2D_BLOCK_MIN to RAID2D_BLOCK_MAX
- *   array      the blocks of all disks
- *   array_len  its length, RAID2D_ARRAY_BYTES(rows, columns, block)
- *
- * Reads       the blocks of the data disks.
- * Writes      the blocks of all parity disks and of the superparity, whatever
- *             they held.
- * Unchanged   the blocks of the data disks.
+ *   Reads      the blocks of the data disks
+ *   Writes     the blocks of all parity disks and of the superparity, whatever
+ *              they held
+ *   Unchanged  the blocks of the data disks
  *
  * Returns the first of these that applies:
  *
- *   RAID2D_ERR_SIDE          rows or columns is not 2 to 15; array unchanged
- *   RAID2D_ERR_BLOCK         block is not 1 to 4096; array unchanged
- *   RAID2D_ERR_ARRAY_LENGTH  array_len is wrong; array unchanged
- *   RAID2D_OK                array sealed, its data unchanged
+ *   RAID2D_ERR_SIDE
+ *   RAID2D_ERR_BLOCK
+ *   RAID2D_ERR_ARRAY_LENGTH
+ *   RAID2D_OK                the array is sealed, its data unchanged
  */
 uint32_t raid2d_seal(size_t rows, size_t columns, size_t block,
                      uint8_t *array, size_t array_len);
@@ -313,17 +303,12 @@ uint32_t raid2d_seal(size_t rows, size_t columns, size_t block,
 /*
  * raid2d_check: say whether an array is sealed.
  *
- *   rows       data rows, RAID2D_SIDE_MIN to RAID2D_SIDE_MAX
- *   columns    data columns, likewise
- *   block      bytes in a block, RAID2D_BLOCK_MIN to RAID2D_BLOCK_MAX
- *   array      the blocks of all disks
- *   array_len  its length, RAID2D_ARRAY_BYTES(rows, columns, block)
  *   stripe     receives the lowest stripe whose sum is not zero: r for row r,
  *              16 + c for column c, so rows come before columns
  *
- * Reads       the whole array.
- * Writes      *stripe with RAID2D_NOT_SEALED, else nothing.
- * Unchanged   the array, always.
+ *   Reads      the whole array
+ *   Writes     *stripe with RAID2D_NOT_SEALED, else nothing
+ *   Unchanged  the array, always
  *
  * One damaged byte is on two stripes and shows as its row. Two equal changes
  * at the same place of two disks of a row cancel in the row and show as the
@@ -331,13 +316,12 @@ uint32_t raid2d_seal(size_t rows, size_t columns, size_t block,
  *
  * Returns the first of these that applies:
  *
- *   RAID2D_ERR_SIDE          rows or columns is not 2 to 15; *stripe
- *                            unchanged
- *   RAID2D_ERR_BLOCK         block is not 1 to 4096; *stripe unchanged
- *   RAID2D_ERR_ARRAY_LENGTH  array_len is wrong; *stripe unchanged
+ *   RAID2D_ERR_SIDE
+ *   RAID2D_ERR_BLOCK
+ *   RAID2D_ERR_ARRAY_LENGTH
  *   RAID2D_NOT_SEALED        some stripe's sum is not zero at some byte
  *                            place; *stripe is the lowest such stripe
- *   RAID2D_OK                the array is sealed; *stripe unchanged
+ *   RAID2D_OK                the array is sealed
  */
 uint32_t raid2d_check(size_t rows, size_t columns, size_t block,
                       const uint8_t *array, size_t array_len,
@@ -353,37 +337,33 @@ uint32_t raid2d_check(size_t rows, size_t columns, size_t block,
  * a damaged block moves its damage into the three parities. data must not be
  * a part of array.
  *
- * Do not write to an erased disk: what stands in its block is taken for its
- * old contents, and what a later raid2d_rebuild gives need be neither the old
- * block nor the new one. Rebuild first. Other disks may be erased, the
- * parities too: the write is right, and what changes in their blocks counts
- * for nothing.
+ * Do not write to an erased disk, but rebuild it first. Write takes what it
+ * finds in the block for the old contents, so that what a later raid2d_rebuild
+ * gives is the sum of the block that was lost, of what was found and of the
+ * new block: the new block only where the lost one still stood there. Other
+ * disks may be erased, the parities too: the write is right, and what changes
+ * in their blocks counts for nothing.
  *
- *   rows       data rows, RAID2D_SIDE_MIN to RAID2D_SIDE_MAX
- *   columns    data columns, likewise
- *   block      bytes in a block, RAID2D_BLOCK_MIN to RAID2D_BLOCK_MAX
- *   array      the blocks of all disks
- *   array_len  its length, RAID2D_ARRAY_BYTES(rows, columns, block)
  *   disk       the number of a data disk: r * (columns + 1) + c with r < rows
  *              and c < columns
  *   data       the new block
  *   data_len   its length, equal to block
  *
- * Reads       data, and the blocks of the four disks that it writes.
- * Writes      the blocks of the disk, of its row parity, of its column parity
- *             and of the superparity.
- * Unchanged   the blocks of all other disks; data, always.
+ *   Reads      data, and the blocks of the four disks that it writes
+ *   Writes     the blocks of the disk, of its row parity, of its column parity
+ *              and of the superparity
+ *   Unchanged  the blocks of all other disks; data, always
  *
  * Returns the first of these that applies:
  *
- *   RAID2D_ERR_SIDE          rows or columns is not 2 to 15; array unchanged
- *   RAID2D_ERR_BLOCK         block is not 1 to 4096; array unchanged
- *   RAID2D_ERR_ARRAY_LENGTH  array_len is wrong; array unchanged
+ *   RAID2D_ERR_SIDE
+ *   RAID2D_ERR_BLOCK
+ *   RAID2D_ERR_ARRAY_LENGTH
  *   RAID2D_ERR_DISK          disk is a parity disk, the superparity or no
- *                            disk of the grid; array unchanged
- *   RAID2D_ERR_DATA_LENGTH   data_len is not block; array unchanged
- *   RAID2D_OK                the block is stored and its three parities
- *                            changed, the other blocks unchanged
+ *                            disk of the grid
+ *   RAID2D_ERR_DATA_LENGTH   data_len is not block
+ *   RAID2D_OK                the block is stored and its three parities are
+ *                            changed
  */
 uint32_t raid2d_write(size_t rows, size_t columns, size_t block,
                       uint8_t *array, size_t array_len,
@@ -396,26 +376,19 @@ uint32_t raid2d_write(size_t rows, size_t columns, size_t block,
  * The block is that very part of the array: block bytes from array + *offset.
  * Any disk of the grid can be looked at, parities too.
  *
- *   rows       data rows, RAID2D_SIDE_MIN to RAID2D_SIDE_MAX
- *   columns    data columns, likewise
- *   block      bytes in a block, RAID2D_BLOCK_MIN to RAID2D_BLOCK_MAX
- *   array      the blocks of all disks
- *   array_len  its length, RAID2D_ARRAY_BYTES(rows, columns, block)
- *   map        which disks are erased: every byte 0 or 1
- *   map_len    its length, RAID2D_DISKS(rows, columns)
  *   disk       the number of a disk, less than RAID2D_DISKS(rows, columns)
  *   offset     receives where the block begins in the array: disk * block
  *
- * Reads       the map.
- * Writes      *offset with a result above 0, else nothing.
- * Unchanged   the array and the map, always.
+ *   Reads      the map
+ *   Writes     *offset with a result above 0, else nothing
+ *   Unchanged  the array and the map, always
  *
  * Returns a length and no status:
  *
- *   0      rows, columns, block, array_len, map_len or disk is wrong, or a
- *          byte of the map, wherever it stands, is neither 0 nor 1, or the
- *          disk is erased; *offset unchanged
- *   block  otherwise; *offset is disk * block
+ *   0          rows, columns, block, array_len, map_len or disk is wrong, or a
+ *              byte of the map, wherever it stands, is neither 0 nor 1, or the
+ *              disk is erased
+ *   block      otherwise; *offset is disk * block
  */
 size_t raid2d_look(size_t rows, size_t columns, size_t block,
                    const uint8_t *array, size_t array_len,
@@ -428,33 +401,25 @@ size_t raid2d_look(size_t rows, size_t columns, size_t block,
  *
  * The answer follows from the map alone and holds for every block length. The
  * sheet then lists the repairs in plan's order, each erased disk once, or for
- * a fatal loss a cycle. Where a loss has several cycles, which of them is
- * listed is left open; raid2d_rebuild lists the same one.
+ * a fatal loss a cycle. The residual can have more disks than the cycle, up to
+ * all of the grid. Where a loss has several cycles, which of them is listed is
+ * left open; raid2d_rebuild lists the same one.
  *
- *   rows       data rows, RAID2D_SIDE_MIN to RAID2D_SIDE_MAX
- *   columns    data columns, likewise
- *   map        which disks are erased: every byte 0 or 1
- *   map_len    its length, RAID2D_DISKS(rows, columns)
  *   sheet      receives the repairs or the cycle
- *   sheet_len  its length, RAID2D_SHEET_BYTES
  *   count      receives the number of repairs, which is that of the erased
  *              disks and at most rows + columns + 1, or the number of disks in
  *              the residual
  *
- * Reads       the map.
- * Writes      the whole sheet and *count with RAID2D_OK and RAID2D_FATAL, else
- *             nothing.
- * Unchanged   the map, always.
- *
- * The residual can have more disks than the cycle, up to all of the grid.
+ *   Reads      the map
+ *   Writes     the whole sheet and *count with RAID2D_OK and RAID2D_FATAL,
+ *              else nothing
+ *   Unchanged  the map, always
  *
  * Returns the first of these that applies:
  *
- *   RAID2D_ERR_SIDE          rows or columns is not 2 to 15; sheet and *count
- *                            unchanged
- *   RAID2D_ERR_MAP           map_len is wrong, or a byte of the map is neither
- *                            0 nor 1; sheet and *count unchanged
- *   RAID2D_ERR_SHEET_LENGTH  sheet_len is not 98; sheet and *count unchanged
+ *   RAID2D_ERR_SIDE
+ *   RAID2D_ERR_MAP
+ *   RAID2D_ERR_SHEET_LENGTH
  *   RAID2D_FATAL             the loss is fatal; the sheet lists a cycle,
  *                            *count is the number of disks in the residual
  *   RAID2D_OK                the sheet lists the repairs, *count is their
@@ -473,36 +438,25 @@ uint32_t raid2d_plan(size_t rows, size_t columns,
  * sealed array with these survivors. A survivor that was damaged shows only
  * where the other survivors contradict it; with rows + columns + 1 disks
  * erased none can. The map is not cleared; the host does so when it takes the
- * disks as present again. While an array is filled without superparity, its
- * superparity disk is simply erased in the map.
+ * disks as present again.
  *
- *   rows       data rows, RAID2D_SIDE_MIN to RAID2D_SIDE_MAX
- *   columns    data columns, likewise
- *   block      bytes in a block, RAID2D_BLOCK_MIN to RAID2D_BLOCK_MAX
- *   array      the blocks of all disks
- *   array_len  its length, RAID2D_ARRAY_BYTES(rows, columns, block)
- *   map        which disks are erased: every byte 0 or 1
- *   map_len    its length, RAID2D_DISKS(rows, columns)
  *   sheet      receives the repairs or the cycle
- *   sheet_len  its length, RAID2D_SHEET_BYTES
- *   count      receives the number of repairs, which is that of the erased
- *              disks and at most rows + columns + 1, or the number of disks in
- *              the residual
+ *   count      receives the number of repairs or of disks in the residual, as
+ *              from raid2d_plan
  *
- * Reads       the map, and the blocks of the disks that are not erased.
- * Writes      the blocks of the erased disks with RAID2D_OK and
- *             RAID2D_ERR_SURVIVORS; the whole sheet with these and with
- *             RAID2D_FATAL; *count with RAID2D_OK and RAID2D_FATAL.
- * Unchanged   the blocks of all other disks and the map, always.
+ *   Reads      the map, and the blocks of the disks that are not erased
+ *   Writes     the blocks of the erased disks with RAID2D_OK and
+ *              RAID2D_ERR_SURVIVORS; the whole sheet with these and with
+ *              RAID2D_FATAL; *count with RAID2D_OK and RAID2D_FATAL
+ *   Unchanged  the blocks of all other disks and the map, always
  *
  * Returns the first of these that applies:
  *
- *   RAID2D_ERR_SIDE          rows or columns is not 2 to 15; all unchanged
- *   RAID2D_ERR_BLOCK         block is not 1 to 4096; all unchanged
- *   RAID2D_ERR_ARRAY_LENGTH  array_len is wrong; all unchanged
- *   RAID2D_ERR_MAP           map_len is wrong, or a byte of the map is neither
- *                            0 nor 1; all unchanged
- *   RAID2D_ERR_SHEET_LENGTH  sheet_len is not 98; all unchanged
+ *   RAID2D_ERR_SIDE
+ *   RAID2D_ERR_BLOCK
+ *   RAID2D_ERR_ARRAY_LENGTH
+ *   RAID2D_ERR_MAP
+ *   RAID2D_ERR_SHEET_LENGTH
  *   RAID2D_FATAL             the loss is fatal, whatever the survivors hold;
  *                            sheet and *count are those of raid2d_plan, the
  *                            array is unchanged
@@ -525,45 +479,35 @@ uint32_t raid2d_rebuild(size_t rows, size_t columns, size_t block,
  * Makes the repairs of a sheet in the order of its chain, whatever the erased
  * blocks hold, and then checks all stripes. Any list will do in which each
  * repair is allowed at its turn and after which no disk is erased: it need
- * not be that of raid2d_plan, and its records may stand anywhere. The array
- * is then what raid2d_rebuild makes of it. A fatal loss has no such list.
- * The sheet is judged as a whole before any block is changed. The map is not
- * cleared.
+ * not be that of raid2d_plan, its chain may visit the records in any order,
+ * and bytes off the chain are ignored. The array is then what raid2d_rebuild
+ * makes of it. A fatal loss has no such list. The sheet is judged as a whole
+ * before any block is changed. The map is not cleared.
  *
- *   rows       data rows, RAID2D_SIDE_MIN to RAID2D_SIDE_MAX
- *   columns    data columns, likewise
- *   block      bytes in a block, RAID2D_BLOCK_MIN to RAID2D_BLOCK_MAX
- *   array      the blocks of all disks
- *   array_len  its length, RAID2D_ARRAY_BYTES(rows, columns, block)
- *   map        which disks are erased: every byte 0 or 1
- *   map_len    its length, RAID2D_DISKS(rows, columns)
  *   sheet      the repairs, each erased disk once
- *   sheet_len  its length, RAID2D_SHEET_BYTES
- *   count      receives the number of repairs, which is that of the erased
- *              disks and at most rows + columns + 1
+ *   count      receives the number of repairs
  *
- * Reads       the map, the sheet, and the blocks of the disks that are not
- *             erased.
- * Writes      the blocks of the erased disks with RAID2D_OK and
- *             RAID2D_ERR_SURVIVORS; *count with RAID2D_OK.
- * Unchanged   the blocks of all other disks, the map and the sheet, always.
+ *   Reads      the map, the sheet, and the blocks of the disks that are not
+ *              erased
+ *   Writes     the blocks of the erased disks with RAID2D_OK and
+ *              RAID2D_ERR_SURVIVORS; *count with RAID2D_OK
+ *   Unchanged  the blocks of all other disks, the map and the sheet, always
  *
  * Returns the first of these that applies:
  *
- *   RAID2D_ERR_SIDE          rows or columns is not 2 to 15; all unchanged
- *   RAID2D_ERR_BLOCK         block is not 1 to 4096; all unchanged
- *   RAID2D_ERR_ARRAY_LENGTH  array_len is wrong; all unchanged
- *   RAID2D_ERR_MAP           map_len is wrong, or a byte of the map is neither
- *                            0 nor 1; all unchanged
- *   RAID2D_ERR_SHEET_LENGTH  sheet_len is not 98; all unchanged
+ *   RAID2D_ERR_SIDE
+ *   RAID2D_ERR_BLOCK
+ *   RAID2D_ERR_ARRAY_LENGTH
+ *   RAID2D_ERR_MAP
+ *   RAID2D_ERR_SHEET_LENGTH
  *   RAID2D_ERR_CHAIN         the kind is not 1, the number of the first or of
  *                            a next record is above 32, or a record is reached
- *                            twice; all unchanged
+ *                            twice
  *   RAID2D_ERR_REPAIRS       a repair is not allowed at its turn: its disk is
  *                            not in the grid, is not erased or was repaired
  *                            before, its stripe does not go through the disk,
  *                            or another disk of the stripe is still erased; or
- *                            a disk is still erased at the end; all unchanged
+ *                            a disk is still erased at the end
  *   RAID2D_ERR_SURVIVORS     the survivors belong to no sealed array, also
  *                            where no disk is erased; the blocks of the
  *                            erased disks are zero, *count unchanged

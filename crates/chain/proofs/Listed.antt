@@ -26,22 +26,7 @@ use Rattle.reader.specs.declared.Found.the-variants.{Record, End, Outside}
 use Rattle.chain.specs.declared.Chain.{Chain}
 use Rattle.chain.specs.declared.Chain.the-variants.{Records, Broken}
 use Rattle.reader.proofs.Found as found
-
--- What an answer says of a number.
-abbrev Says : List ℕ → ℕ → Found → Type 0
-Says s n (Record d t m) = (0 < n) × (n ≤ 32) × (entryAt narrow s n ≡ record { disk = d; stripe = t }) × (nextNumber narrow s n ≡ m)
-Says s n End = n ≡ 0
-Says s n Outside = 32 < n
-
-found-says : (s : List ℕ) (n : ℕ) (f : Found) → length s ≡ 98 → f ≡ foundAt s n → Says s n f
-unfolding foundAt
-found-says s n f long e =
-    let there : Found = Record (entryAt narrow s n .disk) (entryAt narrow s n .stripe) (nextNumber narrow s n) in
-    rw (e, eq-eqb (length s) 98 long)
-    (by-cases (λ (b : Bool). Says s n (cond b End (cond (leb n 32 && true) there Outside))) (eqb n 0) (eqb-true n 0)
-    (λ z.
-    by-cases (λ (b : Bool). Says s n (cond (b && true) there Outside)) (leb n 32)
-    (λ q. (pos-of-ne-zero (eqb-false n 0 z), leb-true n 32 q, refl, refl)) (leb-false n 32)))
+use Rattle.reader.proofs.Says.{Says, found-says}
 
 -- What the answer to a whole sheet promises.
 abbrev pub Promised : List ℕ → Chain → List ℕ → Type 0

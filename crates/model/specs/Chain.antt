@@ -16,6 +16,10 @@ entryAt f s k = record { disk = numberAt (f .diskBytes) s (recordAt f k); stripe
 unfoldable pub nextNumber : Format → List ℕ → ℕ → ℕ
 nextNumber f s k = getD s (recordAt f k + f .diskBytes + 1) 0
 
+-- A field of record k as C reads it: 0 where no record has that number.
+unfoldable pub ofRecord : Format → (k field : ℕ) → ℕ
+ofRecord f k field = cond (leb 1 k && leb k (f .records)) field 0
+
 -- The numbers of the records that a chain visits from number k on, at most `steps` of them; 0 ends the chain.
 unfoldable pub visited : Format → List ℕ → (steps k : ℕ) → List ℕ
 visited f s zero k = []

@@ -1,6 +1,6 @@
 -- The grid of paper 01 as a stripe system, and the sizes of an array.
 -- Assumes nothing.
-use mathlib.Core.Bool.{Bool, _&&_}
+use mathlib.Core.Bool.{Bool, cond, _&&_}
 use mathlib.Core.List.{List, [], _∷_}
 use Prim.Native.Nat.{ℕ, _+_, _*_, _/_, _%_}
 use lib.Dec.{leb, ltb, eqb}
@@ -75,6 +75,13 @@ sizeFits z = sideFits (rows z) && sideFits (columns z)
 -- What refusal 2 tests: a block of 1 to 4,096 bytes.
 unfoldable pub blockFits : ℕ → Bool
 blockFits B = leb 1 B && leb B 4096
+
+-- The lengths of a map and of an array as C asks for them: 0 where a number is out of range.
+unfoldable pub mapLength : Size → ℕ
+mapLength z = cond (sizeFits z) (disks z) 0
+
+unfoldable pub arrayLength : Size → ℕ → ℕ
+arrayLength z B = cond (blockFits B && sizeFits z) (arrayBytes z B) 0
 
 -- What refusal 4 tests: a map has a byte for each disk, 0 present, 1 erased (paper 01: marked).
 unfoldable pub mapFits : Size → List ℕ → Bool

@@ -2,7 +2,10 @@
 // them. What is lent without `mut` keeps its bytes: the language lets no call write there. The demands on these calls are stated
 // in crates/demands, of the same definitions.
 ghost use mathlib.Core.Path.{_≡_};
-ghost use Rattle.model.specs.Grid.{rectangle};
+ghost use lib.ListN.{getD};
+ghost use Rattle.model.specs.Grid.{rectangle, mapLength, arrayLength};
+ghost use Rattle.model.specs.Sheet.{narrow};
+ghost use Rattle.model.specs.Chain.{entryAt, nextNumber, ofRecord};
 ghost use Rattle.model.specs.Array.{sealStatus, sealArray, checked, checkStatus, checkStripe, writeStatus, writeArray, lookLength, lookOffset};
 ghost use Rattle.model.specs.Plan.{planOutcome, planSheet, outcomeStatus, outcomeCount};
 ghost use Rattle.model.specs.Rebuild.{rebuildOutcome, rebuildArray, rebuildSheet};
@@ -14,9 +17,59 @@ use model::Size;
 // The version of the library: 10000 times the major number, 100 times the minor number, and the patch.
 #[no_mangle]
 pub extern "C" fn raid2d_version_number() -> u32
-    ensures { λ r. ⌜ r ≡ 500 ⌝ }
+    ensures { λ r. ⌜ r ≡ 501 ⌝ }
 {
-    500
+    501
+}
+
+// How many disks an array has, which is the length of a map.
+#[no_mangle]
+pub extern "C" fn raid2d_disks(rows: usize, columns: usize) -> usize
+    ensures { λ r. ⌜ r ≡ mapLength (rectangle rows columns) ⌝ }
+{
+    lengths::map_length(Size { rows, columns })
+}
+
+#[no_mangle]
+pub extern "C" fn raid2d_array_bytes(rows: usize, columns: usize, block: usize) -> usize
+    ensures { λ r. ⌜ r ≡ arrayLength (rectangle rows columns) block ⌝ }
+{
+    lengths::array_length(Size { rows, columns }, block)
+}
+
+#[no_mangle]
+pub extern "C" fn raid2d_sheet_kind(sheet: &[u8; 98]) -> usize
+    ensures { λ r. ⌜ r ≡ getD (now (sheet .entry)) 0 0 ⌝ }
+{
+    fields::kind(sheet)
+}
+
+#[no_mangle]
+pub extern "C" fn raid2d_sheet_first(sheet: &[u8; 98]) -> usize
+    ensures { λ r. ⌜ r ≡ getD (now (sheet .entry)) 1 0 ⌝ }
+{
+    fields::first(sheet)
+}
+
+#[no_mangle]
+pub extern "C" fn raid2d_sheet_disk(sheet: &[u8; 98], number: usize) -> usize
+    ensures { λ r. ⌜ r ≡ ofRecord narrow number (entryAt narrow (now (sheet .entry)) number .disk) ⌝ }
+{
+    fields::disk(sheet, number)
+}
+
+#[no_mangle]
+pub extern "C" fn raid2d_sheet_stripe(sheet: &[u8; 98], number: usize) -> usize
+    ensures { λ r. ⌜ r ≡ ofRecord narrow number (entryAt narrow (now (sheet .entry)) number .stripe) ⌝ }
+{
+    fields::stripe(sheet, number)
+}
+
+#[no_mangle]
+pub extern "C" fn raid2d_sheet_next(sheet: &[u8; 98], number: usize) -> usize
+    ensures { λ r. ⌜ r ≡ ofRecord narrow number (nextNumber narrow (now (sheet .entry)) number) ⌝ }
+{
+    fields::next(sheet, number)
 }
 
 #[no_mangle]

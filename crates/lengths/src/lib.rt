@@ -1,0 +1,27 @@
+// How long the map and the array of a size are, 0 for numbers that the calls refuse.
+ghost use mathlib.Core.Path.{_≡_};
+ghost use Rattle.model.specs.Grid.{mapLength, arrayLength};
+use model::Size;
+
+// Bytes of a map.
+pub fn map_length(size: Size) -> usize
+    ensures { λ r. ⌜ r ≡ mapLength size ⌝ }
+{
+    if refusal::size_fits(size) {
+        return layout::disks(size);
+    }
+    0
+}
+
+// Bytes of an array with blocks of this length.
+pub fn array_length(size: Size, block: usize) -> usize
+    ensures { λ r. ⌜ r ≡ arrayLength size block ⌝ }
+{
+    if !refusal::block_fits(block) {
+        return 0;
+    }
+    if !refusal::size_fits(size) {
+        return 0;
+    }
+    layout::array_bytes(size, block)
+}

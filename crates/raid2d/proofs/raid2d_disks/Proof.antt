@@ -1,0 +1,16 @@
+-- `raid2d::raid2d_disks` meets its contract: it is that of the call.
+-- Assumes nothing.
+use borrow.Author.Needs.{needs}
+use Rattle.model.specs.Grid.{rectangle}
+use Rattle.raid2d.proofs.raid2d_disks.Statement.{statement}
+use Rattle.raid2d.proofs.raid2d_disks.Tie as tie
+
+map-length-requires : tie.Need-map-length-requires
+map-length-requires c κs = search needs
+
+returns : tie.Need-returns
+unfolding rectangle
+returns c = c .map-length .ensures
+
+pub raid2d-disks-spec : {M : Type 1} → statement M
+raid2d-disks-spec = tie.close (tie.spec map-length-requires returns)
