@@ -3,13 +3,13 @@
  * docs/SPECIFICATION.md has them, without their indent and with an empty line
  * behind each:
  *
- *     CALL     rows N, columns N, block N, disk N
+ *     CALL     rows N, columns N, block N, disk N, record N
  *     array    bytes that are lent; likewise map, data and sheet
  *     returns  N, count N
  *     array    bytes afterwards; what is not named here keeps its bytes
  *
- * Every call has rows and columns; of block and disk those that it does not
- * take are left out. The out-parameter is called count, stripe or offset, and
+ * Of the numbers those that the call does not take are left out. The
+ * out-parameter is called count, stripe or offset, and
  * keeps its value where it is not named. `..` repeats the byte before it up to
  * the buffer's right length. A sheet that is not given is lent with arbitrary
  * bytes. The last line counts the examples.
@@ -25,9 +25,6 @@ enum { LINE_MAX_BYTES = 4096, BYTES_MAX = 1024, ARBITRARY = 0xaa };
 /* What an out-parameter holds before each call. */
 #define OUT_BEFORE 123456789u
 
-/* Stands for a number that a line does not have. */
-#define MISSING SIZE_MAX
-
 enum { ARRAY, MAP, DATA, SHEET, BUFFERS };
 
 static const char *const buffer_names[BUFFERS] = {
@@ -41,7 +38,7 @@ struct buffer {
 
 struct example {
     char call[16];
-    size_t rows, columns, block, disk;
+    size_t rows, columns, block, disk, record;
     struct buffer buffers[BUFFERS];
     int returned; /* whether the line `returns` has been read */
     size_t result, out;
@@ -123,12 +120,11 @@ static void read_line(struct example *e, const char *line)
 
     if (e->call[0] == '\0') {
         sscanf(line, "%15s", e->call);
-        e->rows = number(line, "rows", MISSING);
-        e->columns = number(line, "columns", MISSING);
-        if (e->rows == MISSING || e->columns == MISSING)
-            stop("without rows or columns", line);
+        e->rows = number(line, "rows", 0);
+        e->columns = number(line, "columns", 0);
         e->block = number(line, "block", 0);
         e->disk = number(line, "disk", 0);
+        e->record = number(line, "record", 0);
         e->buffers[SHEET].len = RAID2D_SHEET_BYTES;
         memset(e->buffers[SHEET].bytes, ARBITRARY, RAID2D_SHEET_BYTES);
         memset(e->buffers[SHEET].expected, ARBITRARY, RAID2D_SHEET_BYTES);
@@ -150,6 +146,29 @@ static void read_line(struct example *e, const char *line)
         }
     }
     stop("not a line of an example", line);
+}
+
+/* The calls that have no buffer but a sheet to read, or none. */
+static size_t run_small(const struct example *e)
+{
+    const uint8_t *sheet = e->buffers[SHEET].bytes;
+
+    if (strcmp(e->call, "disks") == 0)
+        return raid2d_disks(e->rows, e->columns);
+    if (strcmp(e->call, "array_bytes") == 0)
+        return raid2d_array_bytes(e->rows, e->columns, e->block);
+    if (strcmp(e->call, "sheet_kind") == 0)
+        return raid2d_sheet_kind(sheet);
+    if (strcmp(e->call, "sheet_first") == 0)
+        return raid2d_sheet_first(sheet);
+    if (strcmp(e->call, "sheet_disk") == 0)
+        return raid2d_sheet_disk(sheet, e->record);
+    if (strcmp(e->call, "sheet_stripe") == 0)
+        return raid2d_sheet_stripe(sheet, e->record);
+    if (strcmp(e->call, "sheet_next") == 0)
+        return raid2d_sheet_next(sheet, e->record);
+    stop("not a call", e->call);
+    return 0;
 }
 
 static size_t run(struct example *e, size_t *out)
@@ -178,8 +197,7 @@ static size_t run(struct example *e, size_t *out)
     if (strcmp(e->call, "follow") == 0)
         return raid2d_follow(rows, columns, block, array, array_len,
                              map, map_len, sheet, sheet_len, out);
-    stop("not a call", e->call);
-    return 0;
+    return run_small(e);
 }
 
 /* Whether the call answers and leaves what the example says. */

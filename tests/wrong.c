@@ -11,6 +11,9 @@
 
 #include "raid2d.h"
 
+size_t right_disks(size_t rows, size_t columns);
+size_t right_array_bytes(size_t rows, size_t columns, size_t block);
+size_t right_sheet_next(const uint8_t *sheet, size_t record);
 uint32_t right_seal(size_t rows, size_t columns, size_t block,
                     uint8_t *array, size_t array_len);
 uint32_t right_check(size_t rows, size_t columns, size_t block,
@@ -106,6 +109,29 @@ static struct size passed_on(const char *call, size_t rows, size_t columns)
     if (wrong_in(call, " tests only the columns") && !fits(rows))
         return by_columns;
     return same;
+}
+
+size_t raid2d_disks(size_t rows, size_t columns)
+{
+    struct size size = passed_on("disks", rows, columns);
+
+    return right_disks(size.rows, size.columns);
+}
+
+size_t raid2d_array_bytes(size_t rows, size_t columns, size_t block)
+{
+    struct size size = passed_on("array_bytes", rows, columns);
+
+    return right_array_bytes(size.rows, size.columns, block);
+}
+
+size_t raid2d_sheet_next(const uint8_t *sheet, size_t record)
+{
+    if (wrong("sheet_next takes 0 for the first record") && record == 0)
+        return right_sheet_next(sheet, 1);
+    if (wrong("sheet_next reads record 33") && record == 33)
+        read_at(sheet + RAID2D_SHEET_BYTES + 2);
+    return right_sheet_next(sheet, record);
 }
 
 /* A call makes no more repairs than a square has that is as high or as wide. */

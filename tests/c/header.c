@@ -1,7 +1,6 @@
 /*
- * What the header itself gives: limits, sizes, statuses and their words, and
- * the readers of a sheet. The file is C and C++, so that the header can be
- * compiled as both.
+ * What the header itself gives: limits, sizes, statuses and their words. The
+ * file is C and C++, so that the header can be compiled as both.
  */
 #include <string.h>
 
@@ -83,29 +82,10 @@ static void words_of_statuses(void)
                "words of unknown status %u", others[i]);
 }
 
-/* A sheet with a different byte at each place: records 1 and 32. */
-static void readers_of_places(void)
-{
-    uint8_t sheet[RAID2D_SHEET_BYTES];
-    size_t i;
-
-    for (i = 0; i < RAID2D_SHEET_BYTES; i++)
-        sheet[i] = (uint8_t)(100 + i);
-    expect(raid2d_sheet_kind(sheet) == 100, "place of the kind");
-    expect(raid2d_sheet_first(sheet) == 101, "place of the first number");
-    expect(raid2d_sheet_disk(sheet, 1) == 102, "disk of record 1");
-    expect(raid2d_sheet_stripe(sheet, 1) == 103, "stripe of record 1");
-    expect(raid2d_sheet_next(sheet, 1) == 104, "next of record 1");
-    expect(raid2d_sheet_disk(sheet, 32) == 195, "disk of record 32");
-    expect(raid2d_sheet_stripe(sheet, 32) == 196, "stripe of record 32");
-    expect(raid2d_sheet_next(sheet, 32) == 197, "next of record 32");
-}
-
 void test_header(void)
 {
     limits_and_sizes();
     version();
     numbers_of_statuses();
     words_of_statuses();
-    readers_of_places();
 }

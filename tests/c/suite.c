@@ -437,6 +437,7 @@ int main(int argc, char **argv)
     /* A library that crashes should not take the lines before it along. */
     setvbuf(stdout, NULL, _IOLBF, BUFSIZ);
     test_header();
+    test_fields();
     test_refusals();
     test_answers();
     test_losses();

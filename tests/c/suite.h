@@ -108,6 +108,7 @@ void at_every_size(void (*test)(struct size size));
 
 /* The parts of the suite, one to a file. */
 void test_header(void);
+void test_fields(void);
 void test_refusals(void);
 void test_answers(void);
 void test_losses(void);

@@ -22,8 +22,16 @@ fn record_at(sheet: &[u8; 98], number: usize) -> Fields
     let found = reader::record_at(sheet, number);
     match found {
         Found::Record(disk, stripe, next) => Fields { disk, stripe, next },
-        Found::End => Fields { disk: 0, stripe: 0, next: 0 },
-        Found::Outside => Fields { disk: 0, stripe: 0, next: 0 },
+        Found::End => Fields {
+            disk: 0,
+            stripe: 0,
+            next: 0,
+        },
+        Found::Outside => Fields {
+            disk: 0,
+            stripe: 0,
+            next: 0,
+        },
     }
 }
 

@@ -3,7 +3,7 @@
 
 use crate::inputs::{random_grid, BLOCK_MAX, SIDE_MAX, SIDE_MIN};
 use crate::random::Random;
-use crate::sheet::SHEET;
+use crate::sheet::{RECORDS, SHEET};
 use crate::size::{Grid, Size};
 use crate::{losses, model, sheets};
 
@@ -35,6 +35,20 @@ fn number(random: &mut Random, good: usize, misses: &[usize]) -> usize {
 /// Rows or columns: the good number, or now and then another.
 fn side(random: &mut Random, good: usize) -> usize {
     number(random, good, &[0, 1, SIDE_MIN, SIDE_MAX, SIDE_MAX + 1, SIDE_MAX + 2, 255, 256])
+}
+
+/// A size of which each number is good, or now and then another.
+pub fn any_size(random: &mut Random) -> Size {
+    let grid = random_grid(random);
+    let block = random.between(1, BLOCK_MAX);
+    let block = number(random, block, &[0, 1, BLOCK_MAX, BLOCK_MAX + 1]);
+    Size { grid: Grid::new(side(random, grid.rows), side(random, grid.columns)), block }
+}
+
+/// The number of a record, or now and then one that no record has.
+pub fn any_record(random: &mut Random) -> usize {
+    let record = random.between(1, RECORDS);
+    number(random, record, &[0, 1, RECORDS, RECORDS + 1, 255, 256])
 }
 
 /// The length of a buffer whose right length is given: right, or now and then wrong, wrapping included.

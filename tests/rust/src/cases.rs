@@ -9,18 +9,18 @@ use crate::sheet::SHEET;
 use crate::size::{Grid, Size};
 use crate::{ffi, model, Run};
 
-/// A sealed array with blocks of one byte.
+/// A sealed array.
 #[derive(Clone, Copy)]
-struct Sealed {
+struct Sealed<'a> {
     size: Size,
-    array: &'static [u8],
+    array: &'a [u8],
 }
 
 /// The paper's sealed array A.
-const A: Sealed = Sealed { size: Size::new(2, 2, 1), array: &[1, 2, 3, 4, 8, 12, 5, 10, 15] };
+const A: Sealed<'static> = Sealed { size: Size::new(2, 2, 1), array: &[1, 2, 3, 4, 8, 12, 5, 10, 15] };
 /// Data 1 2 4 / 8 16 32, and the same with rows for columns.
-const WIDE: Sealed = Sealed { size: Size::new(2, 3, 1), array: &[1, 2, 4, 7, 8, 16, 32, 56, 9, 18, 36, 63] };
-const HIGH: Sealed = Sealed { size: Size::new(3, 2, 1), array: &[1, 8, 9, 2, 16, 18, 4, 32, 36, 7, 56, 63] };
+const WIDE: Sealed<'static> = Sealed { size: Size::new(2, 3, 1), array: &[1, 2, 4, 7, 8, 16, 32, 56, 9, 18, 36, 63] };
+const HIGH: Sealed<'static> = Sealed { size: Size::new(3, 2, 1), array: &[1, 8, 9, 2, 16, 18, 4, 32, 36, 7, 56, 63] };
 
 type Found = Result<Outcome, String>;
 
@@ -70,13 +70,17 @@ fn plan(run: &mut Run, case: &str, grid: Grid, map: &[u8], status: usize, count:
 }
 
 /// The array with 99 on the marked cards.
-fn lost(array: &[u8], map: &[u8]) -> Vec<u8> {
-    array.iter().zip(map).map(|(&byte, &mark)| if mark == 1 { 99 } else { byte }).collect()
+fn lost(size: Size, array: &[u8], map: &[u8]) -> Vec<u8> {
+    let mut lost = array.to_vec();
+    for (block, _) in lost.chunks_mut(size.block).zip(map).filter(|(_, &mark)| mark == 1) {
+        block.fill(99);
+    }
+    lost
 }
 
 /// The same of rebuild.
 fn rebuild(run: &mut Run, case: &str, size: Size, array: &[u8], map: &[u8], expected: Outcome) {
-    let lost = lost(array, map);
+    let lost = lost(size, array, map);
     let mut model = model::rebuild(size, &lost, map, &OLD);
     if expected.answer == FATAL {
         model.written[1] = expected.written[1].clone();
@@ -86,7 +90,7 @@ fn rebuild(run: &mut Run, case: &str, size: Size, array: &[u8], map: &[u8], expe
 
 /// The same of follow on plan's sheet: the loop of a fatal loss is refused by 10, and otherwise it does as rebuild.
 fn follow(run: &mut Run, case: &str, size: Size, array: &[u8], map: &[u8], begins: &[u8], expected: Outcome) {
-    let (lost, sheet) = (lost(array, map), sheet(begins));
+    let (lost, sheet) = (lost(size, array, map), sheet(begins));
     let model = model::follow(size, &lost, map, &sheet);
     stated(run, &format!("{case}, follow"), expected, || ffi::follow(size, &lost, map, &sheet), model);
 }
@@ -103,7 +107,7 @@ fn restored(run: &mut Run, case: &str, known: Sealed, marked: &[usize], begins: 
 fn fatal(run: &mut Run, case: &str, known: Sealed, marked: &[usize], begins: &[u8]) {
     let Sealed { size, array } = known;
     let (map, out) = (map_of(size.grid, marked), Some(marked.len()));
-    let kept = lost(array, &map);
+    let kept = lost(size, array, &map);
     plan(run, case, size.grid, &map, FATAL, marked.len(), begins);
     let written = vec![kept.clone(), sheet(begins)];
     rebuild(run, case, size, array, &map, Outcome { answer: FATAL, out, written });
@@ -187,11 +191,43 @@ fn sides(run: &mut Run) {
     }
 }
 
-/// Case 10: the largest array, and blocks that are too short or too long.
+/// The parities of an array whose data is given by disk and place: each data byte is added to its row's, its column's
+/// and the corner's.
+fn sealed_by_hand(size: Size, data: impl Fn(usize, usize) -> u8) -> Vec<u8> {
+    let (grid, mut array) = (size.grid, vec![0; size.bytes()]);
+    for (r, c) in (0..grid.rows).flat_map(|r| (0..grid.columns).map(move |c| (r, c))) {
+        for place in 0..size.block {
+            for (row, column) in [(r, c), (r, grid.columns), (grid.rows, c), (grid.rows, grid.columns)] {
+                array[grid.disk_at(row, column) * size.block + place] ^= data(grid.disk_at(r, c), place);
+            }
+        }
+    }
+    array
+}
+
+/// Case 10: the largest array, sealed from parities that are wrong at every place, written to, and restored from the loss
+/// of a row and a column, which is the longest list of repairs.
+fn largest(run: &mut Run) {
+    let size = Size { grid: LARGEST, block: BLOCK_MAX };
+    let data = |disk: usize, place: usize| (7 * disk + 13 * place + disk * place / 64) as u8;
+    let array = sealed_by_hand(size, data);
+    let parities: Vec<u8> = (0..size.disks()).map(|disk| u8::from(disk % 16 == 15 || disk >= 240)).collect();
+    seals(run, "10, the largest array", Sealed { size, array: &array }, &lost(size, &array, &parities));
+    let block = vec![9; size.block];
+    let after = sealed_by_hand(size, |disk, place| if disk == 238 { 9 } else { data(disk, place) });
+    let (found, model) = (|| ffi::write(size, &array, 238, &block), model::write(size, &array, 238, &block));
+    stated(run, "10, the largest array, written", Outcome::writing(0, after.clone()), found, model);
+    let (cross, mut begins) = ((0..16).chain((1..16).map(|r| 16 * r)).collect::<Vec<usize>>(), vec![1, 1]);
+    let columns = (1..16).map(|c| (c, 16 + c));
+    let rows = (0..16).map(|r| (16 * r, r));
+    for (step, (disk, stripe)) in (1..).zip(columns.chain(rows)) {
+        begins.extend([disk, stripe, if step < 31 { step + 1 } else { 0 }].map(|number: usize| number as u8));
+    }
+    restored(run, "10, the largest array", Sealed { size, array: &after }, &cross, &begins);
+}
+
+/// Case 10: blocks that are too short or too long.
 fn blocks(run: &mut Run) {
-    let largest = Size { grid: LARGEST, block: BLOCK_MAX };
-    let zeros = vec![0; largest.bytes()];
-    seal(run, "10, the largest array", largest, &zeros, 0, &zeros);
     for size in [0, BLOCK_MAX + 1].map(|block| Size::new(2, 2, block)) {
         let (case, array) = (format!("10, {size}"), vec![7; size.bytes()]);
         seal(run, &format!("{case}, seal"), size, &array, 2, &array);
@@ -251,6 +287,7 @@ pub fn run(run: &mut Run) {
     wider_than_high(run);
     higher_than_wide(run);
     sides(run);
+    largest(run);
     blocks(run);
     write(run, "11", A, 2, 8, A.array);
     refused(run, "11", A.size, &[0, 0, 0, 0, 2, 0, 0, 0, 0], 4);

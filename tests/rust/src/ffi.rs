@@ -3,11 +3,19 @@
 
 use crate::guard::{Lent, Out};
 use crate::outcome::Outcome;
+use crate::sheet::SHEET;
 use crate::size::{Grid, Size};
 
 // Nothing checks these against raid2d.h but the eye: they are laid out as there.
 #[rustfmt::skip]
 extern "C" {
+    pub fn raid2d_disks(rows: usize, columns: usize) -> usize;
+    pub fn raid2d_array_bytes(rows: usize, columns: usize, block: usize) -> usize;
+    pub fn raid2d_sheet_kind(sheet: *const u8) -> usize;
+    pub fn raid2d_sheet_first(sheet: *const u8) -> usize;
+    pub fn raid2d_sheet_disk(sheet: *const u8, record: usize) -> usize;
+    pub fn raid2d_sheet_stripe(sheet: *const u8, record: usize) -> usize;
+    pub fn raid2d_sheet_next(sheet: *const u8, record: usize) -> usize;
     pub fn raid2d_seal(rows: usize, columns: usize, block: usize,
                        array: *mut u8, array_len: usize) -> u32;
     pub fn raid2d_check(rows: usize, columns: usize, block: usize,
@@ -36,6 +44,29 @@ extern "C" {
                          map: *const u8, map_len: usize,
                          sheet: *const u8, sheet_len: usize,
                          count: *mut usize) -> u32;
+}
+
+/// The lengths of a map and of an array.
+pub fn lengths(size: Size) -> [usize; 2] {
+    let Size { grid: Grid { rows, columns }, block } = size;
+    unsafe { [raid2d_disks(rows, columns), raid2d_array_bytes(rows, columns, block)] }
+}
+
+/// The kind of a sheet and its first number, and the fields of a record.
+pub fn fields(sheet: &[u8; SHEET], record: usize) -> Result<[usize; 5], String> {
+    let mut lent = Lent::new("sheet", sheet);
+    let at = lent.pointer();
+    let fields = unsafe {
+        [
+            raid2d_sheet_kind(at),
+            raid2d_sheet_first(at),
+            raid2d_sheet_disk(at, record),
+            raid2d_sheet_stripe(at, record),
+            raid2d_sheet_next(at, record),
+        ]
+    };
+    lent.only_read()?;
+    Ok(fields)
 }
 
 pub fn seal(size: Size, array: &[u8]) -> Result<Outcome, String> {

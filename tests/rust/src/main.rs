@@ -15,6 +15,7 @@ mod equations;
 mod exhaustive;
 mod faults;
 mod ffi;
+mod fields;
 mod follow;
 mod guard;
 mod huge;
@@ -136,6 +137,8 @@ fn is_set(variable: &str) -> bool {
 fn gate(run: &mut Run, rounds: usize) {
     cases::run(run);
     run.tally.report("paper's cases", &[0, 1, 2, 4, 6, 7, 8, 10]);
+    fields::run(run);
+    run.tally.report("lengths and fields", &[0]);
     huge::run(run);
     for call in &CALLS {
         call.compare(run, rounds);
