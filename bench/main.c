@@ -4,6 +4,7 @@
 #include "followed.h"
 #include "guards.h"
 #include "repairs.h"
+#include "speed.h"
 #include "timing.h"
 
 #include <stdio.h>
@@ -65,6 +66,8 @@ int main(void)
     warnings = compare_places(&input);
     puts("");
     warnings += compare_follow(&input);
+    puts("");
+    print_speeds(&input);
     input_close(&input);
     puts("");
     warnings += warn(ratios);

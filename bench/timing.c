@@ -82,3 +82,11 @@ void time_calls(const struct call *const *list, size_t count, struct input *inpu
     for (size_t k = 0; k < count; k++)
         medians[k] = median_of(samples[k]);
 }
+
+double time_call(const struct call *call, struct input *input)
+{
+    size_t repeats = repeats_for(call, input);
+    for (size_t i = 0; i < SAMPLES; i++)
+        samples[LIBRARY][i] = sample(call, &peers[LIBRARY], input, repeats);
+    return median_of(samples[LIBRARY]) / (double)repeats;
+}

@@ -1,4 +1,4 @@
-/* Times calls in turn: one of every peer, one of the library on several maps, or several of the library. */
+/* Times calls in turn: one of every peer, one of the library on several maps, or several of the library; or one alone. */
 #ifndef TIMING_H
 #define TIMING_H
 
@@ -15,5 +15,8 @@ void time_maps(const struct call *call, struct input *input, const size_t *kinds
 
 /* The median time of each of at most PEERS calls of the library, in one unit. The input has been prepared. */
 void time_calls(const struct call *const *list, size_t count, struct input *input, double *medians);
+
+/* The median time of one call of the library, in nanoseconds. The input has been prepared. */
+double time_call(const struct call *call, struct input *input);
 
 #endif
