@@ -28,7 +28,7 @@ function read_example() {
 }
 
 # A comment is noted under its subject, the function or file that its first words name; one without goes to the constants.
-function end_comment(first, i, n, title) {
+function end_comment(  first, i, n, title) {
     first = line[1]
     for (i = 2; first ~ /,$/; i++) first = first " " line[i]
     if (first !~ /^[a-z0-9_., ]+: /) {

@@ -205,7 +205,7 @@ fn sealed_by_hand(size: Size, data: impl Fn(usize, usize) -> u8) -> Vec<u8> {
     array
 }
 
-/// Case 10: the largest array, sealed from parities that are wrong at every place, written to, and restored from the loss
+/// Case 10: the largest array, sealed from parities of 99 at every place, written to, and restored from the loss
 /// of a row and a column, which is the longest list of repairs.
 fn largest(run: &mut Run) {
     let size = Size { grid: LARGEST, block: BLOCK_MAX };
