@@ -2,17 +2,19 @@
  * raid2d.h: parities and repair of a two-dimensional RAID array.
  *
  * The library keeps the parities of a grid of disks and restores lost disks,
- * in memory that the caller lends. Each call is proved, in the Rattle sources
- * it is made from, against a definition of its result and of every byte it
- * leaves, for every argument. The header puts those definitions into words,
- * and the manual pages are made from it.
+ * in memory that the caller lends. Each function of the archive is proved, in
+ * the Rattle sources it is made from, against a definition of its result and
+ * of every byte it leaves, for every argument. The header puts those
+ * definitions into words, and the manual pages are made from it. It is C99 and
+ * C++98; the archive is for x86-64 with the System V calling convention.
  *
  * THE ARRAY
  *
  * An array has rows times columns data disks. One more column beside them and
  * one more row below them hold parities, so the grid has rows + 1 rows and
  * columns + 1 columns, each numbered from 0. The disk in row r and column c
- * has number r * (columns + 1) + c. For rows = 2 and columns = 3:
+ * has number r * (columns + 1) + c: disk d stands in row d / (columns + 1) and
+ * column d % (columns + 1). For rows = 2 and columns = 3:
  *
  *              column 0       column 1       column 2       column 3
  *     row 0    0 data         1 data         2 data         3 row parity
@@ -44,23 +46,25 @@
  *                  1 erased.
  *   erased         Said of a disk whose block counts for nothing. Calls
  *                  without a map take every disk as present. While an array
- *                  is filled before it has a superparity, that is erased.
+ *                  is filled before it has a superparity, that disk is simply
+ *                  erased in the map.
  *   loss           All disks that a map says are erased.
  *   survivors      The blocks of all other disks. They belong to a sealed
  *                  array if one with the same rows, columns and block has the
  *                  same bytes in each of them.
  *   repair         Sets the block of an erased disk to the sum of the other
  *                  disks of one stripe through it. It is allowed if no other
- *                  disk of that stripe is still erased; then the disk counts
- *                  as present.
+ *                  disk of that stripe is still erased. Afterwards the disk
+ *                  counts as present.
  *   plan's order   At each step the lowest-numbered disk that can be repaired,
  *                  by its row if that is allowed, else by its column.
  *   residual       The disks that are still erased when no repair is allowed
- *                  any more. The order of the repairs does not matter.
- *   fatal          Said of a loss with a residual. Then two different sealed
- *                  arrays have the same survivors, and nobody can tell which
- *                  of them was lost. No loss of up to three disks is fatal;
- *                  every loss of more than rows + columns + 1 is.
+ *                  any more: the same, whatever the order of the repairs.
+ *   fatal          Said of a loss with a residual. Then, and only then, two
+ *                  different sealed arrays have the same survivors, and nobody
+ *                  can tell which of them was lost. No loss of up to three
+ *                  disks is fatal; every loss of more than rows + columns + 1
+ *                  is.
  *   cycle          A loop of different erased disks, at least four: the first
  *                  and the second share a row, the second and the third a
  *                  column, and so on in turn, the last and the first a column;
@@ -70,7 +74,8 @@
  *   sheet          A list of repairs or a cycle, in RAID2D_SHEET_BYTES bytes.
  *                  A chain of records leads through it, each with a disk, a
  *                  stripe and the number of the next. raid2d_sheet_first and
- *                  its like read them; SPECIFICATION.md has the bytes.
+ *                  its like read them; SPECIFICATION.md has the bytes. It does
+ *                  not say for which rows and columns it is.
  *
  * PARAMETERS
  *
@@ -89,25 +94,29 @@
  *
  * Numbers. rows, columns, block, disk and record may have any value of size_t:
  * each is tested as it is given and never shortened before its test. A number
- * or a length that is out of range is refused and does no harm. But 2 rows and
- * 3 columns are another array than 3 rows and 2 columns, of the same length:
- * no call can see that the two were swapped, and what it writes is then wrong.
+ * or a length that is out of range is refused, by 0 where a function returns
+ * no status, and does no harm. But 2 rows and 3 columns are another array than
+ * 3 rows and 2 columns, of the same length: no call can see that the two were
+ * swapped, and what it writes is then wrong.
  *
- * Buffers. Each pointer to bytes is followed by its length, but for a sheet
- * that is only read record by record. The caller sees to three things, which
- * no call can test:
+ * Buffers. Each pointer to bytes is followed by its length, but for the sheet
+ * of the functions that read one. The caller sees to three things, which no
+ * call can test:
  *
- *   - a pointer is valid for its length; it may be NULL where that is 0;
+ *   - a pointer is valid for its length, the sheet of a reader for
+ *     RAID2D_SHEET_BYTES; it may be NULL where the length is 0;
  *   - an out-parameter points to a size_t, also where the call refuses;
  *   - nothing that is lent to one call overlaps anything else lent to it.
  *
  * Bytes may stand at any address. A buffer that is const is only read. No
  * pointer is kept after the call.
  *
- * Statuses. Where several apply, the first in the call's list is returned. A
- * call that refuses leaves every buffer and every out-parameter as it was, but
- * for what the lists of raid2d_plan, raid2d_rebuild and raid2d_follow say of
- * RAID2D_FATAL and RAID2D_ERR_SURVIVORS. A status keeps its number for good.
+ * Statuses. Where several apply, the first in the call's list is returned.
+ * RAID2D_OK and RAID2D_NOT_SEALED are answers, every other status is a
+ * refusal. A call that refuses leaves every buffer and every out-parameter as
+ * it was, but for what the lists of raid2d_plan, raid2d_rebuild and
+ * raid2d_follow say of RAID2D_FATAL and RAID2D_ERR_SURVIVORS. A status keeps
+ * its number for good.
  *
  * State. There is none: no memory is allocated, nothing is read or written but
  * what is lent and less than 2 KB of stack. Of the C library the archive needs
@@ -148,8 +157,8 @@ extern "C" {
 /*
  * The length of a map, one byte for each disk, parity disks included, and that
  * of an array. With constants both can size a static array. They test nothing:
- * with numbers out of range they may wrap. raid2d_disks and raid2d_array_bytes
- * give the same and test.
+ * with numbers out of range they may wrap, where raid2d_disks and
+ * raid2d_array_bytes give 0.
  */
 #ifdef __cplusplus
 #define RAID2D_DISKS(rows, columns) \
@@ -194,7 +203,7 @@ enum raid2d_status {
  *
  * Returns a constant string, never NULL: "unknown status" for a number that is
  * none. This function stands in the header only, since the prover's compiler
- * makes no function that returns a pointer: another language needs its own.
+ * exports none that returns a pointer: another language needs its own.
  */
 static inline const char *raid2d_strerror(uint32_t status)
 {
@@ -265,12 +274,15 @@ size_t raid2d_array_bytes(size_t rows, size_t columns, size_t block);
  *   sheet      the sheet, RAID2D_SHEET_BYTES bytes
  *   record     the number of a record
  *
- * Return the kind, RAID2D_SHEET_REPAIRS or RAID2D_SHEET_CYCLE in a sheet that
- * the library has written; the number of the first record, 0 for none; and of
- * a record its disk, its stripe, and the number of the next record, 0 for
- * none. If no record has that number, the last three return 0. A chain from
- * elsewhere may come back to a record and so never end; raid2d_follow takes no
- * such sheet.
+ * Return the kind, RAID2D_SHEET_REPAIRS or RAID2D_SHEET_CYCLE, or 0 in the
+ * zeros that raid2d_rebuild leaves with RAID2D_ERR_SURVIVORS; the number of
+ * the first record, 0 for none; and of a record its disk, its stripe, and the
+ * number of the next record, 0 for none. If no record has that number, the
+ * last three return 0, which is also a disk and a stripe.
+ *
+ * A sheet from elsewhere can have any bytes: another kind, numbers above
+ * RAID2D_SHEET_RECORDS, a chain that comes back to a record and never ends.
+ * raid2d_follow refuses such a sheet; the loop above is for others.
  */
 size_t raid2d_sheet_kind(const uint8_t *sheet);
 size_t raid2d_sheet_first(const uint8_t *sheet);
@@ -286,9 +298,9 @@ size_t raid2d_sheet_next(const uint8_t *sheet, size_t record);
  * parities. The array is then sealed.
  *
  *   Reads      the blocks of the data disks
- *   Writes     the blocks of all parity disks and of the superparity, whatever
- *              they held
- *   Unchanged  the blocks of the data disks
+ *   Writes     the blocks of all other disks, the parities, whatever they
+ *              held, with RAID2D_OK
+ *   Unchanged  the blocks of the data disks, always
  *
  * Returns the first of these that applies:
  *
@@ -310,9 +322,9 @@ uint32_t raid2d_seal(size_t rows, size_t columns, size_t block,
  *   Writes     *stripe with RAID2D_NOT_SEALED, else nothing
  *   Unchanged  the array, always
  *
- * One damaged byte is on two stripes and shows as its row. Two equal changes
- * at the same place of two disks of a row cancel in the row and show as the
- * lower of the two columns.
+ * One damaged byte of a sealed array is on two stripes and shows as its row.
+ * Two equal changes at the same place of two disks of a row cancel in the row
+ * and show as the lower of the two columns.
  *
  * Returns the first of these that applies:
  *
@@ -351,8 +363,8 @@ uint32_t raid2d_check(size_t rows, size_t columns, size_t block,
  *
  *   Reads      data, and the blocks of the four disks that it writes
  *   Writes     the blocks of the disk, of its row parity, of its column parity
- *              and of the superparity
- *   Unchanged  the blocks of all other disks; data, always
+ *              and of the superparity, with RAID2D_OK
+ *   Unchanged  the blocks of all other disks and data, always
  *
  * Returns the first of these that applies:
  *
@@ -399,11 +411,11 @@ size_t raid2d_look(size_t rows, size_t columns, size_t block,
 /*
  * raid2d_plan: say how a loss can be repaired, or why it cannot.
  *
- * The answer follows from the map alone and holds for every block length. The
- * sheet then lists the repairs in plan's order, each erased disk once, or for
- * a fatal loss a cycle. The residual can have more disks than the cycle, up to
- * all of the grid. Where a loss has several cycles, which of them is listed is
- * left open; raid2d_rebuild lists the same one.
+ * The answer follows from rows, columns and the map, and holds for every block
+ * length. The sheet then lists the repairs in plan's order, each erased disk
+ * once, or for a fatal loss a cycle. The residual can have more disks than the
+ * cycle, up to all of the grid. Where a loss has several cycles, which of them
+ * is listed is left open; raid2d_rebuild lists the same one.
  *
  *   sheet      receives the repairs or the cycle
  *   count      receives the number of repairs, which is that of the erased
@@ -481,11 +493,13 @@ uint32_t raid2d_rebuild(size_t rows, size_t columns, size_t block,
  * repair is allowed at its turn and after which no disk is erased: it need
  * not be that of raid2d_plan, its chain may visit the records in any order,
  * and bytes off the chain are ignored. The array is then what raid2d_rebuild
- * makes of it. A fatal loss has no such list. The sheet is judged as a whole
+ * makes of it. A fatal loss has no such list, so that it gets RAID2D_ERR_CHAIN
+ * or RAID2D_ERR_REPAIRS and never RAID2D_FATAL. The sheet is judged as a whole
  * before any block is changed. The map is not cleared.
  *
  *   sheet      the repairs, each erased disk once
- *   count      receives the number of repairs
+ *   count      receives the number of repairs, which is that of the erased
+ *              disks
  *
  *   Reads      the map, the sheet, and the blocks of the disks that are not
  *              erased
@@ -500,9 +514,9 @@ uint32_t raid2d_rebuild(size_t rows, size_t columns, size_t block,
  *   RAID2D_ERR_ARRAY_LENGTH
  *   RAID2D_ERR_MAP
  *   RAID2D_ERR_SHEET_LENGTH
- *   RAID2D_ERR_CHAIN         the kind is not 1, the number of the first or of
- *                            a next record is above 32, or a record is reached
- *                            twice
+ *   RAID2D_ERR_CHAIN         the kind is not 1, the number of the first record
+ *                            or, on the chain, of a next one is above 32, or a
+ *                            record is reached twice
  *   RAID2D_ERR_REPAIRS       a repair is not allowed at its turn: its disk is
  *                            not in the grid, is not erased or was repaired
  *                            before, its stripe does not go through the disk,

@@ -3,7 +3,7 @@ ghost use mathlib.Core.Path.{_≡_};
 ghost use Prim.Native.Nat.{_<_};
 ghost use lib.ListN.{getD};
 ghost use Rattle.model.specs.Sheet.{narrow};
-ghost use Rattle.model.specs.Chain.{entryAt, nextNumber, ofRecord};
+ghost use Rattle.model.specs.Chain.{kindOf, firstNumber, entryAt, nextNumber, ifRecord};
 use reader::Found;
 
 // A record: its disk, its stripe, the number of the next record.
@@ -15,9 +15,9 @@ struct Fields {
 
 // The record with this number, all zero where there is none.
 fn record_at(sheet: &[u8; 98], number: usize) -> Fields
-    ensures disk { λ r. ⌜ r .disk ≡ ofRecord narrow number (entryAt narrow (now (sheet .entry)) number .disk) ⌝ }
-    ensures stripe { λ r. ⌜ r .stripe ≡ ofRecord narrow number (entryAt narrow (now (sheet .entry)) number .stripe) ⌝ }
-    ensures next { λ r. ⌜ r .next ≡ ofRecord narrow number (nextNumber narrow (now (sheet .entry)) number) ⌝ }
+    ensures disk { λ r. ⌜ r .disk ≡ ifRecord narrow number (entryAt narrow (now (sheet .entry)) number .disk) ⌝ }
+    ensures stripe { λ r. ⌜ r .stripe ≡ ifRecord narrow number (entryAt narrow (now (sheet .entry)) number .stripe) ⌝ }
+    ensures next { λ r. ⌜ r .next ≡ ifRecord narrow number (nextNumber narrow (now (sheet .entry)) number) ⌝ }
 {
     let found = reader::record_at(sheet, number);
     match found {
@@ -46,35 +46,35 @@ fn byte(sheet: &[u8; 98], place: usize) -> usize
 
 // The kind of a sheet.
 pub fn kind(sheet: &[u8; 98]) -> usize
-    ensures { λ r. ⌜ r ≡ getD (now (sheet .entry)) 0 0 ⌝ }
+    ensures { λ r. ⌜ r ≡ kindOf (now (sheet .entry)) ⌝ }
 {
     byte(sheet, 0)
 }
 
 // The number of its first record.
 pub fn first(sheet: &[u8; 98]) -> usize
-    ensures { λ r. ⌜ r ≡ getD (now (sheet .entry)) 1 0 ⌝ }
+    ensures { λ r. ⌜ r ≡ firstNumber (now (sheet .entry)) ⌝ }
 {
     byte(sheet, 1)
 }
 
 // The disk of a record.
 pub fn disk(sheet: &[u8; 98], number: usize) -> usize
-    ensures { λ r. ⌜ r ≡ ofRecord narrow number (entryAt narrow (now (sheet .entry)) number .disk) ⌝ }
+    ensures { λ r. ⌜ r ≡ ifRecord narrow number (entryAt narrow (now (sheet .entry)) number .disk) ⌝ }
 {
     record_at(sheet, number).disk
 }
 
 // The stripe of a record.
 pub fn stripe(sheet: &[u8; 98], number: usize) -> usize
-    ensures { λ r. ⌜ r ≡ ofRecord narrow number (entryAt narrow (now (sheet .entry)) number .stripe) ⌝ }
+    ensures { λ r. ⌜ r ≡ ifRecord narrow number (entryAt narrow (now (sheet .entry)) number .stripe) ⌝ }
 {
     record_at(sheet, number).stripe
 }
 
 // The number of the record after it.
 pub fn next(sheet: &[u8; 98], number: usize) -> usize
-    ensures { λ r. ⌜ r ≡ ofRecord narrow number (nextNumber narrow (now (sheet .entry)) number) ⌝ }
+    ensures { λ r. ⌜ r ≡ ifRecord narrow number (nextNumber narrow (now (sheet .entry)) number) ⌝ }
 {
     record_at(sheet, number).next
 }

@@ -1,11 +1,11 @@
 // How long the map and the array of a size are, 0 for numbers that the calls refuse.
 ghost use mathlib.Core.Path.{_≡_};
-ghost use Rattle.model.specs.Grid.{mapLength, arrayLength};
+ghost use Rattle.model.specs.Grid.{disksOrZero, arrayBytesOrZero};
 use model::Size;
 
-// Bytes of a map.
-pub fn map_length(size: Size) -> usize
-    ensures { λ r. ⌜ r ≡ mapLength size ⌝ }
+// Disks of an array, and bytes of a map.
+pub fn disks(size: Size) -> usize
+    ensures { λ r. ⌜ r ≡ disksOrZero size ⌝ }
 {
     if refusal::size_fits(size) {
         return layout::disks(size);
@@ -14,13 +14,13 @@ pub fn map_length(size: Size) -> usize
 }
 
 // Bytes of an array with blocks of this length.
-pub fn array_length(size: Size, block: usize) -> usize
-    ensures { λ r. ⌜ r ≡ arrayLength size block ⌝ }
+pub fn array_bytes(size: Size, block: usize) -> usize
+    ensures { λ r. ⌜ r ≡ arrayBytesOrZero size block ⌝ }
 {
-    if !refusal::block_fits(block) {
+    if !refusal::size_fits(size) {
         return 0;
     }
-    if !refusal::size_fits(size) {
+    if !refusal::block_fits(block) {
         return 0;
     }
     layout::array_bytes(size, block)

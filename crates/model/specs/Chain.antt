@@ -1,4 +1,5 @@
--- The chain of a sheet from elsewhere: which records it visits, in which order, and what they list.
+-- What a sheet holds, record by record, and its chain, from elsewhere too: which records it visits, in which order, and what they
+-- list.
 -- Assumes nothing.
 use mathlib.Core.Bool.{Bool, true, cond, not, _&&_}
 use mathlib.Core.List.{List, [], _∷_}
@@ -9,6 +10,13 @@ use Rattle.stripes.specs.System.{among}
 use Rattle.stripes.specs.Repair.{Entry}
 use Rattle.model.specs.Sheet.{Format, recordAt, numberAt}
 
+-- The kind of a sheet and the number of its first record.
+abbrev pub kindOf : List ℕ → ℕ
+kindOf s = getD s 0 0
+
+abbrev pub firstNumber : List ℕ → ℕ
+firstNumber s = getD s 1 0
+
 -- Record k: its disk and its stripe, and the number of the next record.
 unfoldable pub entryAt : Format → List ℕ → ℕ → Entry
 entryAt f s k = record { disk = numberAt (f .diskBytes) s (recordAt f k); stripe = getD s (recordAt f k + f .diskBytes) 0 }
@@ -16,9 +24,9 @@ entryAt f s k = record { disk = numberAt (f .diskBytes) s (recordAt f k); stripe
 unfoldable pub nextNumber : Format → List ℕ → ℕ → ℕ
 nextNumber f s k = getD s (recordAt f k + f .diskBytes + 1) 0
 
--- A field of record k as C reads it: 0 where no record has that number.
-unfoldable pub ofRecord : Format → (k field : ℕ) → ℕ
-ofRecord f k field = cond (leb 1 k && leb k (f .records)) field 0
+-- The value, if there is a record k, else 0. A field of a record can be 0 too.
+unfoldable pub ifRecord : Format → (k value : ℕ) → ℕ
+ifRecord f k value = cond (leb 1 k && leb k (f .records)) value 0
 
 -- The numbers of the records that a chain visits from number k on, at most `steps` of them; 0 ends the chain.
 unfoldable pub visited : Format → List ℕ → (steps k : ℕ) → List ℕ
@@ -29,7 +37,7 @@ visited f s (suc steps) k = cond (eqb k 0) [] (k ∷ visited f s steps (nextNumb
 -- 0, so that the chain ends there. A chain of one number more than there are records visits some record twice, so more steps
 -- would show nothing new.
 unfoldable pub chainNumbers : Format → List ℕ → List ℕ
-chainNumbers f s = visited f s (suc (f .records)) (getD s 1 0)
+chainNumbers f s = visited f s (suc (f .records)) (firstNumber s)
 
 -- No number of a list exceeds k, and none stands in it twice.
 unfoldable pub within : ℕ → List ℕ → Bool
@@ -42,7 +50,7 @@ different (j ∷ js) = not (among j js) && different js
 
 -- What refusal 10 tests: the kind is that of repairs, no number exceeds that of the last record, no record is reached twice.
 unfoldable pub chainFits : Format → List ℕ → Bool
-chainFits f s = eqb (getD s 0 0) (f .repairKind) && (within (f .records) (chainNumbers f s) && different (chainNumbers f s))
+chainFits f s = eqb (kindOf s) (f .repairKind) && (within (f .records) (chainNumbers f s) && different (chainNumbers f s))
 
 -- What the records of a list of numbers say, and what those of the chain say.
 unfoldable pub entriesAt : Format → List ℕ → List ℕ → List Entry

@@ -76,13 +76,13 @@ sizeFits z = sideFits (rows z) && sideFits (columns z)
 unfoldable pub blockFits : ℕ → Bool
 blockFits B = leb 1 B && leb B 4096
 
--- The lengths of a map and of an array as C asks for them: 0 where a number is out of range.
-unfoldable pub mapLength : Size → ℕ
-mapLength z = cond (sizeFits z) (disks z) 0
-
-unfoldable pub arrayLength : Size → ℕ → ℕ
-arrayLength z B = cond (blockFits B && sizeFits z) (arrayBytes z B) 0
-
 -- What refusal 4 tests: a map has a byte for each disk, 0 present, 1 erased (paper 01: marked).
 unfoldable pub mapFits : Size → List ℕ → Bool
 mapFits z m = eqb (length m) (disks z) && every (length m) (λ d. leb (getD m d 0) 1)
+
+-- What C is told of a size: its disks and the bytes of its array, 0 where a number is out of range. No array has 0 of either.
+unfoldable pub disksOrZero : Size → ℕ
+disksOrZero z = cond (sizeFits z) (disks z) 0
+
+unfoldable pub arrayBytesOrZero : Size → ℕ → ℕ
+arrayBytesOrZero z B = cond (sizeFits z && blockFits B) (arrayBytes z B) 0

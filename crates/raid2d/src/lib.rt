@@ -2,10 +2,9 @@
 // them. What is lent without `mut` keeps its bytes: the language lets no call write there. The demands on these calls are stated
 // in crates/demands, of the same definitions.
 ghost use mathlib.Core.Path.{_≡_};
-ghost use lib.ListN.{getD};
-ghost use Rattle.model.specs.Grid.{rectangle, mapLength, arrayLength};
+ghost use Rattle.model.specs.Grid.{rectangle, disksOrZero, arrayBytesOrZero};
 ghost use Rattle.model.specs.Sheet.{narrow};
-ghost use Rattle.model.specs.Chain.{entryAt, nextNumber, ofRecord};
+ghost use Rattle.model.specs.Chain.{kindOf, firstNumber, entryAt, nextNumber, ifRecord};
 ghost use Rattle.model.specs.Array.{sealStatus, sealArray, checked, checkStatus, checkStripe, writeStatus, writeArray, lookLength, lookOffset};
 ghost use Rattle.model.specs.Plan.{planOutcome, planSheet, outcomeStatus, outcomeCount};
 ghost use Rattle.model.specs.Rebuild.{rebuildOutcome, rebuildArray, rebuildSheet};
@@ -22,52 +21,53 @@ pub extern "C" fn raid2d_version_number() -> u32
     501
 }
 
-// How many disks an array has, which is the length of a map.
+// The lengths of a map and of an array.
 #[no_mangle]
 pub extern "C" fn raid2d_disks(rows: usize, columns: usize) -> usize
-    ensures { λ r. ⌜ r ≡ mapLength (rectangle rows columns) ⌝ }
+    ensures { λ r. ⌜ r ≡ disksOrZero (rectangle rows columns) ⌝ }
 {
-    lengths::map_length(Size { rows, columns })
+    lengths::disks(Size { rows, columns })
 }
 
 #[no_mangle]
 pub extern "C" fn raid2d_array_bytes(rows: usize, columns: usize, block: usize) -> usize
-    ensures { λ r. ⌜ r ≡ arrayLength (rectangle rows columns) block ⌝ }
+    ensures { λ r. ⌜ r ≡ arrayBytesOrZero (rectangle rows columns) block ⌝ }
 {
-    lengths::array_length(Size { rows, columns }, block)
+    lengths::array_bytes(Size { rows, columns }, block)
 }
 
+// The numbers of a sheet: its kind, its first record, and the fields of the record with a number.
 #[no_mangle]
 pub extern "C" fn raid2d_sheet_kind(sheet: &[u8; 98]) -> usize
-    ensures { λ r. ⌜ r ≡ getD (now (sheet .entry)) 0 0 ⌝ }
+    ensures { λ r. ⌜ r ≡ kindOf (now (sheet .entry)) ⌝ }
 {
     fields::kind(sheet)
 }
 
 #[no_mangle]
 pub extern "C" fn raid2d_sheet_first(sheet: &[u8; 98]) -> usize
-    ensures { λ r. ⌜ r ≡ getD (now (sheet .entry)) 1 0 ⌝ }
+    ensures { λ r. ⌜ r ≡ firstNumber (now (sheet .entry)) ⌝ }
 {
     fields::first(sheet)
 }
 
 #[no_mangle]
 pub extern "C" fn raid2d_sheet_disk(sheet: &[u8; 98], number: usize) -> usize
-    ensures { λ r. ⌜ r ≡ ofRecord narrow number (entryAt narrow (now (sheet .entry)) number .disk) ⌝ }
+    ensures { λ r. ⌜ r ≡ ifRecord narrow number (entryAt narrow (now (sheet .entry)) number .disk) ⌝ }
 {
     fields::disk(sheet, number)
 }
 
 #[no_mangle]
 pub extern "C" fn raid2d_sheet_stripe(sheet: &[u8; 98], number: usize) -> usize
-    ensures { λ r. ⌜ r ≡ ofRecord narrow number (entryAt narrow (now (sheet .entry)) number .stripe) ⌝ }
+    ensures { λ r. ⌜ r ≡ ifRecord narrow number (entryAt narrow (now (sheet .entry)) number .stripe) ⌝ }
 {
     fields::stripe(sheet, number)
 }
 
 #[no_mangle]
 pub extern "C" fn raid2d_sheet_next(sheet: &[u8; 98], number: usize) -> usize
-    ensures { λ r. ⌜ r ≡ ofRecord narrow number (nextNumber narrow (now (sheet .entry)) number) ⌝ }
+    ensures { λ r. ⌜ r ≡ ifRecord narrow number (nextNumber narrow (now (sheet .entry)) number) ⌝ }
 {
     fields::next(sheet, number)
 }

@@ -7,23 +7,23 @@ use borrow.Author.Needs.{needs}
 use borrow.Author.Tests.{le-leb, lt-leb}
 use Rattle.stripes.specs.Repair.{Entry}
 use Rattle.model.specs.Sheet.{narrow}
-use Rattle.model.specs.Chain.{ofRecord}
+use Rattle.model.specs.Chain.{ifRecord}
 use Rattle.reader.specs.declared.Found.the-variants.{Record, End, Outside}
 use Rattle.reader.proofs.Says.{found-says}
 use Rattle.fields.proofs.record_at.Statement.{statement}
 use Rattle.fields.proofs.record_at.Tie as tie
 
 -- A field is itself under a number that a record has, and 0 under another.
-field : (k v : ℕ) → 0 < k → k ≤ 32 → v ≡ ofRecord narrow k v
-unfolding ofRecord
+field : (k v : ℕ) → 0 < k → k ≤ 32 → v ≡ ifRecord narrow k v
+unfolding ifRecord
 field k v low high = rw (le-leb 1 k (omega arith), le-leb k 32 high)
 
-none : (k v : ℕ) → k ≡ 0 → 0 ≡ ofRecord narrow k v
-unfolding ofRecord
+none : (k v : ℕ) → k ≡ 0 → 0 ≡ ifRecord narrow k v
+unfolding ifRecord
 none k v e = rw e
 
-beyond : (k v : ℕ) → 32 < k → 0 ≡ ofRecord narrow k v
-unfolding ofRecord
+beyond : (k v : ℕ) → 32 < k → 0 ≡ ifRecord narrow k v
+unfolding ifRecord
 beyond k v high = rw (lt-leb k 32 high, le-leb 1 k (omega arith))
 
 record-at-requires : tie.Need-record-at-requires
@@ -44,7 +44,7 @@ returns c =
     let a = r .before .before .args in
     let is = found-says (a .sheet .now) (a .number) _ (r .before .record-at-arg .given .0) (sym (c .before .found .given .1) ∙ r .record-at .ensures) in
     let same = sym (is .2) in
-    let of : (v : ℕ) → v ≡ ofRecord narrow (a .number) v = λ v. field (a .number) v (is .0) (is .1) in
+    let of : (v : ℕ) → v ≡ ifRecord narrow (a .number) v = λ v. field (a .number) v (is .0) (is .1) in
     (ap (λ (e : Entry). e .disk) same ∙ of _, (ap (λ (e : Entry). e .stripe) same ∙ of _, sym (is .3) ∙ of _))
 
 returns-2 : tie.Need-returns-2

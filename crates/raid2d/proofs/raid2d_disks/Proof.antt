@@ -5,12 +5,12 @@ use Rattle.model.specs.Grid.{rectangle}
 use Rattle.raid2d.proofs.raid2d_disks.Statement.{statement}
 use Rattle.raid2d.proofs.raid2d_disks.Tie as tie
 
-map-length-requires : tie.Need-map-length-requires
-map-length-requires c κs = search needs
+disks-requires : tie.Need-disks-requires
+disks-requires c κs = search needs
 
 returns : tie.Need-returns
 unfolding rectangle
-returns c = c .map-length .ensures
+returns c = c .disks .ensures
 
 pub raid2d-disks-spec : {M : Type 1} → statement M
-raid2d-disks-spec = tie.close (tie.spec map-length-requires returns)
+raid2d-disks-spec = tie.close (tie.spec disks-requires returns)

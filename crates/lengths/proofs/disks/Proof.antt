@@ -1,11 +1,11 @@
--- `lengths::map_length` meets its contract.
+-- `lengths::disks` meets its contract.
 -- Assumes nothing.
 use mathlib.Core.Path.{_≡_, _∙_, sym}
 use mathlib.Core.Bool.{true}
 use borrow.Author.Needs.{needs}
-use Rattle.model.specs.Grid.{sizeFits, mapLength}
-use Rattle.lengths.proofs.map_length.Statement.{statement}
-use Rattle.lengths.proofs.map_length.Tie as tie
+use Rattle.model.specs.Grid.{sizeFits, disksOrZero}
+use Rattle.lengths.proofs.disks.Statement.{statement}
+use Rattle.lengths.proofs.disks.Tie as tie
 
 sized : (c : tie.Then1) → sizeFits (c .before .before .args .size) ≡ true
 sized c = sym (c .before .size-fits .ensures) ∙ c .if1 .taken
@@ -17,12 +17,12 @@ disks-requires : tie.Need-disks-requires
 disks-requires c κs = sized c
 
 returns : tie.Need-returns
-unfolding mapLength
+unfolding disksOrZero
 returns c = rw (sized (c .before)) (c .disks .ensures)
 
 returns-2 : tie.Need-returns-2
-unfolding mapLength
+unfolding disksOrZero
 returns-2 c = rw (sym (c .before .size-fits .ensures) ∙ c .if1 .left)
 
-pub map-length-spec : {M : Type 1} → statement M
-map-length-spec = tie.close (tie.spec size-fits-requires disks-requires returns returns-2)
+pub disks-spec : {M : Type 1} → statement M
+disks-spec = tie.close (tie.spec size-fits-requires disks-requires returns returns-2)
