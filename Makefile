@@ -39,7 +39,7 @@ FUZZ_TIME = 600
 
 # The listing program and the manual pages, which are made from the header.
 LISTING = $(BUILD)/list_repairs
-MANUAL = $(BUILD)/man/raid2d.3
+MANUAL = $(BUILD)/man/man3/raid2d.3
 open := (
 FUNCTIONS := $(shell sed -n 's/^[a-z].*[ *]\(raid2d_[a-z0-9_]*\)$(open).*/\1/p' $(HEADER))
 
@@ -57,16 +57,17 @@ $(BUILD)/libraid2d.a: $(PROVED_SOURCES)
 	mkdir -p $(BUILD)
 	cp target/staticlib/libraid2d.a $@
 
-$(BUILD)/list_repairs: $(PROVED_SOURCES)
+# After the archive, since two runs of the prover would share target/.
+$(BUILD)/list_repairs: $(PROVED_SOURCES) | $(BUILD)/libraid2d.a
 	rt check list_repairs
 	mkdir -p $(BUILD)
 	cp target/bin/list_repairs $@
 
 $(MANUAL): man/pages.awk man/list_repairs.1 README.md CHANGES.md $(HEADER)
 	rm -rf $(BUILD)/man
-	mkdir -p $(BUILD)/man
-	sed -e 's/@VERSION@/$(VERSION)/' -e 's/@DATE@/$(DATE)/' man/list_repairs.1 >$(BUILD)/man/list_repairs.1
-	awk -v out=$(BUILD)/man -v version=$(VERSION) -v date=$(DATE) -f man/pages.awk README.md $(HEADER)
+	mkdir -p $(BUILD)/man/man1 $(BUILD)/man/man3
+	sed -e 's/@VERSION@/$(VERSION)/' -e 's/@DATE@/$(DATE)/' man/list_repairs.1 >$(BUILD)/man/man1/list_repairs.1
+	awk -v out=$(BUILD)/man/man3 -v version=$(VERSION) -v date=$(DATE) -f man/pages.awk README.md $(HEADER)
 
 $(BUILD)/host: examples/host.c $(HEADER) $(LIB)
 	mkdir -p $(BUILD)
@@ -119,11 +120,11 @@ INSTALL_PROGRAM = $(INSTALL)
 INSTALL_DATA = $(INSTALL) -m 644
 
 # `make install LIB=other.a` installs another archive, and likewise with
-# LISTING. Folders that install makes are noted in build/folders, and uninstall
-# removes those of them that are then empty.
+# LISTING. Folders that install makes are noted in build/folders; uninstall
+# removes those of them that are then empty, and notes the others again.
 install: $(LIB) $(LISTING) $(MANUAL)
 	@mkdir -p $(BUILD)
-	@made() { [ -d "$$1" ] || { made "$$(dirname "$$1")" && mkdir "$$1" && \
+	@made() { [ -d "$$1" ] || { made "$$(dirname "$$1")" && mkdir -m 755 "$$1" && \
 	    echo "$$1" >>$(BUILD)/folders; }; }; \
 	for folder in "$(bindir)" "$(includedir)" "$(libdir)" "$(pkgconfigdir)" \
 	    "$(mandir)/man1" "$(mandir)/man3" "$(docdir)"; do made "$(DESTDIR)$$folder" || exit; done
@@ -132,8 +133,8 @@ install: $(LIB) $(LISTING) $(MANUAL)
 	$(INSTALL_DATA) $(HEADER) "$(DESTDIR)$(includedir)/raid2d.h"
 	$(INSTALL_DATA) $(BUILD)/raid2d.pc "$(DESTDIR)$(pkgconfigdir)/raid2d.pc"
 	$(INSTALL_PROGRAM) $(LISTING) "$(DESTDIR)$(bindir)/list_repairs"
-	$(INSTALL_DATA) $(BUILD)/man/*.1 "$(DESTDIR)$(mandir)/man1"
-	$(INSTALL_DATA) $(BUILD)/man/*.3 "$(DESTDIR)$(mandir)/man3"
+	$(INSTALL_DATA) $(BUILD)/man/man1/* "$(DESTDIR)$(mandir)/man1"
+	$(INSTALL_DATA) $(BUILD)/man/man3/* "$(DESTDIR)$(mandir)/man3"
 	$(INSTALL_DATA) docs/SPECIFICATION.md CHANGES.md "$(DESTDIR)$(docdir)"
 
 uninstall:
@@ -142,9 +143,9 @@ uninstall:
 	    "$(DESTDIR)$(mandir)/man1/list_repairs.1" "$(DESTDIR)$(mandir)/man3/raid2d.3" \
 	    "$(DESTDIR)$(docdir)/SPECIFICATION.md" "$(DESTDIR)$(docdir)/CHANGES.md"
 	for name in $(FUNCTIONS); do rm -f "$(DESTDIR)$(mandir)/man3/$$name.3"; done
-	@[ ! -f $(BUILD)/folders ] || sort -ru $(BUILD)/folders | \
-	    while IFS= read -r folder; do rmdir "$$folder" 2>/dev/null || :; done
-	@rm -f $(BUILD)/folders
+	@[ ! -f $(BUILD)/folders ] || { sort -ru $(BUILD)/folders | while IFS= read -r folder; do \
+	    rmdir "$$folder" 2>/dev/null || [ ! -d "$$folder" ] || echo "$$folder"; done >$(BUILD)/left; \
+	    mv $(BUILD)/left $(BUILD)/folders; }
 
 clean:
 	rm -rf $(BUILD) target

@@ -120,13 +120,14 @@
  *
  * State. There is none: no memory is allocated, nothing is read or written but
  * what is lent and less than 2 KB of stack. Of the C library the archive needs
- * memcpy and memset. Calls may run at the same time, also from a signal
- * handler, unless one writes what another is lent.
+ * memcpy and memset, which take stack of their own, and at their first call so
+ * does a dynamic linker that has to find them. Calls may run at the same time,
+ * also from a signal handler, unless one writes what another is lent.
  *
  * Pointers that are not valid. The archive has no unwind tables and no line
  * numbers. A debugger that stops in it on a bad pointer names a function of
- * the sources, such as xor::fill::fill, and cannot say who called it. With a
- * breakpoint on the call itself, such as raid2d_seal, it shows the caller.
+ * the sources, such as xor::fill::fill, or the call, and mostly cannot say who
+ * called it. With a breakpoint on the call, such as raid2d_seal, it can.
  */
 
 #ifndef RAID2D_H
@@ -172,7 +173,7 @@ extern "C" {
     (RAID2D_DISKS(rows, columns) * (size_t)(block))
 #endif
 
-/* The stripe number of column 0. Row r is stripe r, column c this plus c. */
+/* The stripe number of column 0. */
 #define RAID2D_COLUMN_STRIPE  16
 
 /* Bytes of a sheet, how many records fit, and the two kinds. */
@@ -181,7 +182,7 @@ extern "C" {
 #define RAID2D_SHEET_REPAIRS  1
 #define RAID2D_SHEET_CYCLE    2
 
-/* The statuses. Their numbers never change. raid2d_strerror has the words. */
+/* What a call returns. raid2d_strerror has the words. */
 enum raid2d_status {
     RAID2D_OK = 0,
     RAID2D_ERR_SIDE = 1,
@@ -201,9 +202,12 @@ enum raid2d_status {
 /*
  * raid2d_strerror: a status in words.
  *
+ *   status     a status, or any other number
+ *
  * Returns a constant string, never NULL: "unknown status" for a number that is
- * none. This function stands in the header only, since the prover's compiler
- * exports none that returns a pointer: another language needs its own.
+ * no status. This function stands in the header only, since the prover's
+ * compiler exports none that returns a pointer: another language needs its
+ * own.
  */
 static inline const char *raid2d_strerror(uint32_t status)
 {
@@ -243,8 +247,8 @@ static inline const char *raid2d_strerror(uint32_t status)
  * raid2d_version_number: the version of the archive, as one number.
  *
  * Returns 10000 times the major version, plus 100 times the minor version,
- * plus the patch. A host that was built with this header and linked with that
- * archive finds RAID2D_VERSION_NUMBER here.
+ * plus the patch: RAID2D_VERSION_NUMBER, if the header that a host was built
+ * with and the archive are of one version.
  */
 uint32_t raid2d_version_number(void);
 
@@ -315,16 +319,16 @@ uint32_t raid2d_seal(size_t rows, size_t columns, size_t block,
 /*
  * raid2d_check: say whether an array is sealed.
  *
- *   stripe     receives the lowest stripe whose sum is not zero: r for row r,
- *              16 + c for column c, so rows come before columns
+ * Sums every stripe, rows before columns. One damaged byte of a sealed array
+ * is on two stripes and shows as its row. Two equal changes at the same place
+ * of two disks of a row cancel in the row and show as the lower of the two
+ * columns.
+ *
+ *   stripe     receives the lowest stripe whose sum is not zero
  *
  *   Reads      the whole array
  *   Writes     *stripe with RAID2D_NOT_SEALED, else nothing
  *   Unchanged  the array, always
- *
- * One damaged byte of a sealed array is on two stripes and shows as its row.
- * Two equal changes at the same place of two disks of a row cancel in the row
- * and show as the lower of the two columns.
  *
  * Returns the first of these that applies:
  *
@@ -397,9 +401,9 @@ uint32_t raid2d_write(size_t rows, size_t columns, size_t block,
  *
  * Returns a length and no status:
  *
- *   0          rows, columns, block, array_len, map_len or disk is wrong, or a
- *              byte of the map, wherever it stands, is neither 0 nor 1, or the
- *              disk is erased
+ *   0          rows, columns, block, array_len or map_len is wrong, or a byte
+ *              of the map, wherever it stands, is neither 0 nor 1, or disk is
+ *              no disk of the grid, or it is erased
  *   block      otherwise; *offset is disk * block
  */
 size_t raid2d_look(size_t rows, size_t columns, size_t block,

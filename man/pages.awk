@@ -1,7 +1,7 @@
 # Makes the manual pages of the library from its header, one for raid2d.h and one for each function or group of functions, and takes
 # the example from the first program of README.md:
 #
-#   awk -v out=FOLDER -v version=VERSION -v date=DATE -f man/pages.awk README.md include/raid2d.h
+#   awk -v out=FOLDER/man3 -v version=VERSION -v date=DATE -f man/pages.awk README.md include/raid2d.h
 #
 # What it reads of the header. A comment that begins `NAME: SUMMARY` or `NAME, NAME: SUMMARY` becomes a page, with the prototypes that
 # stand right below it. In a comment, paragraphs are parted by empty lines; a line of capitals is a heading; a paragraph that begins
@@ -72,6 +72,7 @@ function read_macro() {
 }
 
 function read_status() {
+    if (/^enum /) status_note = constant[constants--]
     if (/^    RAID2D_[A-Z_]+ = [0-9]+,?$/) { status[++statuses] = $1; number[$1] = $3 + 0 }
     if (/^    case RAID2D_/) { known = $2; sub(/:$/, "", known) }
     if (/^        return "/ && known) { sub(/^ *return "/, ""); sub(/";$/, ""); words[known] = $0; known = "" }
@@ -118,7 +119,7 @@ function write_page(name, path,  n, names, i) {
     n = split(members[name], names, ", ")
     put(".\\\" Made from raid2d.h.")
     put(".TH " toupper(name) " 3 " date " \"raid2d " version "\" \"Library Functions Manual\"")
-    put(".nh\n.ad l\n.SH NAME\n" members[name] " \\- " summary[name])
+    put(".nh\n.nr HY 0\n.ad l\n.SH NAME\n" members[name] " \\- " summary[name])
     write_synopsis(name)
     write_text(name)
     write_parameters(name)
@@ -247,7 +248,7 @@ function write_overview(  i, n, names) {
         if (is_note[i]) put((i > 1 ? ".EE\n" : "") ".PP\n" roff(constant[i]) "\n.PP\n.EX")
         else put(verbatim(constant[i]))
     }
-    put(".EE\n.SH STATUSES")
+    put(".EE\n.SH STATUSES\n" roff(status_note))
     for (i = 1; i <= statuses; i++) put(".TP\n\\fB" status[i] "\\fP (" number[status[i]] ")\n" roff(words[status[i]]))
     put(".SH EXAMPLES\n.EX")
     for (i = 1; i <= programs; i++) put(verbatim(program[i]))
@@ -259,5 +260,5 @@ function write_overview(  i, n, names) {
 function write_see_also(name) {
     put(".SH SEE ALSO")
     if (p == 1) put("\\fBlist_repairs\\fP(1), \\fBpkg\\-config\\fP(1)")
-    else put("\\fBraid2d\\fP(3)")
+    else put("\\fBraid2d\\fP(3), which has the words, the conventions and the limits")
 }
