@@ -1,21 +1,19 @@
 -- The chain of a sheet of paper 01, read into a list record by record.
 -- Assumes nothing.
-use mathlib.Core.Path.{_≡_, refl, sym, _∙_, subst}
-use mathlib.Core.Bool.{Bool, true, false, cond, _&&_, false≢true}
+use mathlib.Core.Path.{_≡_, sym, _∙_, subst}
+use mathlib.Core.Bool.{true, false, false≢true}
 use mathlib.Core.Logic.{⊎-elim}
 use mathlib.Core.List.{List, [], _∷_}
 use Prim.Native.Nat.{ℕ, _+_, _≤_, _<_}
 use native.Mathlib.Nat.{pos-of-ne-zero}
 use native.Mathlib.Omega.{arith}
-use borrow.Author.Tests.{eq-eqb, ne-eqb, eqb-true, eqb-false, leb-true, leb-false}
+use borrow.Author.Tests.{ne-eqb}
 use denote.Enum.Declared.{tagOf}
 use types.Run.{OneOf}
-use lib.Dec.{eqb, leb}
 use lib.ListN.{length, getD, set, length-set}
 use Rattle.stripes.specs.Repair.{Entry}
-use Rattle.stripes.proofs.Fold.{by-cases}
 use Rattle.model.specs.Sheet.{narrow, numberAt, recordAt}
-use Rattle.model.specs.Chain.{entryAt, nextNumber, chainFits, chainEntries}
+use Rattle.model.specs.Chain.{entryAt, chainFits, chainEntries}
 use Rattle.model.proofs.Chain.{Walked, walked-first, walked-next, walked-end, walked-outside, walked-ring}
 use Rattle.entries.specs.Listed.{wordOf, listed}
 use Rattle.entries.proofs.Words.{listed-length, listed-put}

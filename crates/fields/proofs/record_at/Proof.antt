@@ -8,7 +8,7 @@ use borrow.Author.Tests.{le-leb, lt-leb}
 use Rattle.stripes.specs.Repair.{Entry}
 use Rattle.model.specs.Sheet.{narrow}
 use Rattle.model.specs.Chain.{ifRecord}
-use Rattle.reader.specs.declared.Found.the-variants.{Record, End, Outside}
+use Rattle.reader.specs.declared.Found.the-variants.{End, Outside}
 use Rattle.reader.proofs.Says.{found-says}
 use Rattle.fields.proofs.record_at.Statement.{statement}
 use Rattle.fields.proofs.record_at.Tie as tie
