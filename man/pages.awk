@@ -71,8 +71,9 @@ function read_macro() {
     if (/^#define RAID2D_[A-Z_]+\(/ && !seen[$0]++) { sub(/^#define /, ""); sub(/ *\\$/, ""); constant[++constants] = $0 }
 }
 
+# The statuses with their numbers, and their words. The comment before them goes with them and not to the constants.
 function read_status() {
-    if (/^enum /) status_note = constant[constants--]
+    if (/^enum /) { status_note = constant[constants]; delete is_note[constants--] }
     if (/^    RAID2D_[A-Z_]+ = [0-9]+,?$/) { status[++statuses] = $1; number[$1] = $3 + 0 }
     if (/^    case RAID2D_/) { known = $2; sub(/:$/, "", known) }
     if (/^        return "/ && known) { sub(/^ *return "/, ""); sub(/";$/, ""); words[known] = $0; known = "" }
@@ -121,8 +122,10 @@ function write_page(name, path,  n, names, i) {
     put(".TH " toupper(name) " 3 " date " \"raid2d " version "\" \"Library Functions Manual\"")
     put(".nh\n.nr HY 0\n.ad l\n.SH NAME\n" members[name] " \\- " summary[name])
     write_synopsis(name)
+    result = 0
     write_text(name)
     write_parameters(name)
+    result = 1
     if (returns > 0) write_lines(name, returns, count[name])
     if (p == 1) write_overview()
     write_see_also(name)
@@ -138,7 +141,7 @@ function write_synopsis(name,  i) {
     if (p == 1) put(".PP\nCompile and link with\n.PP\n.EX\ncc program.c $(pkg\\-config \\-\\-cflags \\-\\-libs raid2d)\n.EE")
 }
 
-# What comes before the section on the result.
+# What comes before the section on the result. It has a heading unless it begins with one of its own or is only a list of parameters.
 function write_text(name,  i, last) {
     parameters_of(name)
     returns = 0
@@ -214,10 +217,10 @@ function begin_item(s) {
     if (!sub(/^[^ ]+( [^ ]+)*   */, "", item)) item = ""
 }
 
-# An item of a list. What is said of a parameter waits for the section on parameters.
+# An item of a list. What is said of a parameter waits for the section on parameters; in that on the result no term is one.
 function end_item() {
     if (term == "") return
-    if (term in taken && !(returns && term == "block")) own[term] = item
+    if (!result && term in taken) own[term] = item
     else if (term in number) write_item("\\fB" term "\\fP (" number[term] ")", item == "" ? words[term] : item)
     else write_item(roff(term), item)
     term = ""
