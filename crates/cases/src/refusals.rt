@@ -18,18 +18,18 @@ fn parities(size: Size, block: usize, array: &mut [u8], new: &[u8]) {
 }
 
 // What look, rebuild and follow answer. Look has no number: an empty part has length 0.
-fn losses(size: Size, block: usize, array: &mut [u8], map: &[u8]) {
+fn losses(size: Size, block: usize, array: &mut [u8], map: &mut [u8]) {
     let mut sheet = [0u8; 98];
     say::number(b"look", look::look(size, block, array, map, 0).len());
     say::outcome(
         b"rebuild",
-        rebuild::rebuild(size, block, array, map, &mut sheet),
+        rebuild::rebuild(size, block, array, map, &mut sheet, 31),
     );
     say::outcome(b"follow", follow::follow(size, block, array, map, &sheet));
 }
 
 // Each call on an array.
-fn calls(size: Size, block: usize, array: &mut [u8], map: &[u8], new: &[u8]) {
+fn calls(size: Size, block: usize, array: &mut [u8], map: &mut [u8], new: &[u8]) {
     heading(size.rows, size.columns, block);
     parities(size, block, array, new);
     losses(size, block, array, map);
@@ -42,7 +42,7 @@ fn planned(what: &[u8], size: Size, map: &[u8]) {
 }
 
 // Every call for a size, with blocks of one byte.
-fn sized(rows: usize, columns: usize, array: &mut [u8], map: &[u8]) {
+fn sized(rows: usize, columns: usize, array: &mut [u8], map: &mut [u8]) {
     let size = Size { rows, columns };
     calls(size, 1, array, map, b"a");
     planned(b"plan", size, map);
@@ -51,31 +51,31 @@ fn sized(rows: usize, columns: usize, array: &mut [u8], map: &[u8]) {
 // One data row and one data column, with the buffers that such an array would have.
 fn one_by_one() {
     let mut array = [0u8; 4];
-    let map = [0u8; 4];
-    sized(1, 1, &mut array, &map);
+    let mut map = [0u8; 4];
+    sized(1, 1, &mut array, &mut map);
 }
 
 // One of either alone, likewise.
 fn one_beside_two() {
     let mut array = [0u8; 6];
-    let map = [0u8; 6];
-    sized(1, 2, &mut array, &map);
-    sized(2, 1, &mut array, &map);
+    let mut map = [0u8; 6];
+    sized(1, 2, &mut array, &mut map);
+    sized(2, 1, &mut array, &mut map);
 }
 
 // 16 of both, likewise.
 fn sixteen_by_sixteen() {
     let mut array = [0u8; 289];
-    let map = [0u8; 289];
-    sized(16, 16, &mut array, &map);
+    let mut map = [0u8; 289];
+    sized(16, 16, &mut array, &mut map);
 }
 
 // 16 of either alone, likewise.
 fn sixteen_beside_two() {
     let mut array = [0u8; 51];
-    let map = [0u8; 51];
-    sized(16, 2, &mut array, &map);
-    sized(2, 16, &mut array, &map);
+    let mut map = [0u8; 51];
+    sized(16, 2, &mut array, &mut map);
+    sized(2, 16, &mut array, &mut map);
 }
 
 // The size of the cases that have another fault.
@@ -90,18 +90,18 @@ fn two_by_two() -> Size {
 fn block_zero() {
     let size = two_by_two();
     let mut array = [0u8; 0];
-    let map = [0u8; 9];
+    let mut map = [0u8; 9];
     let new = [0u8; 0];
-    calls(size, 0, &mut array, &map, &new);
+    calls(size, 0, &mut array, &mut map, &new);
 }
 
 // B = 4,097, likewise.
 fn block_above() {
     let size = two_by_two();
     let mut array = [0u8; 36873];
-    let map = [0u8; 9];
+    let mut map = [0u8; 9];
     let new = [0u8; 4097];
-    calls(size, 4097, &mut array, &map, &new);
+    calls(size, 4097, &mut array, &mut map, &new);
 }
 
 // A map byte of 2, first and last.
@@ -109,14 +109,14 @@ fn map_byte() {
     let size = two_by_two();
     let mut array = [0u8; 9];
     let mut sheet = [0u8; 98];
-    let first = [2u8, 0, 0, 0, 0, 0, 0, 0, 0];
+    let mut first = [2u8, 0, 0, 0, 0, 0, 0, 0, 0];
     let last = [0u8, 0, 0, 0, 0, 0, 0, 0, 2];
     heading(2, 2, 1);
     planned(b"plan with 2 in the map", size, &first);
     planned(b"plan with 2 at the map's end", size, &last);
     say::outcome(
         b"rebuild with 2 in the map",
-        rebuild::rebuild(size, 1, &mut array, &first, &mut sheet),
+        rebuild::rebuild(size, 1, &mut array, &mut first, &mut sheet, 31),
     );
     say::outcome(
         b"follow with 2 in the map",

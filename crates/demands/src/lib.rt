@@ -1,24 +1,33 @@
-// What is proved of the definitions, said of the calls: demand 2 of seal, check and write, demand 3 of plan and rebuild on one
-// input, and of follow that it does as rebuild.
+// What is proved of the definitions, said of the calls: demand 2 of seal, check and write, demand 3 of plan and rebuild's turns on
+// one input, and of follow that it does as rebuild.
 ghost use mathlib.Core.Path.{_≡_};
 ghost use mathlib.Core.Bool.{true};
 ghost use mathlib.Core.Logic.{_↔_};
-ghost use lib.ListN.{length};
+ghost use Prim.Native.Nat.{ℕ, _*_, _/_, _≤_, _<_};
+ghost use lib.ListN.{length, take};
+ghost use Rattle.stripes.specs.Fold.{count};
 ghost use Rattle.stripes.specs.System.{whole};
 ghost use Rattle.stripes.specs.Erased.{erasures, Belongs};
 ghost use Rattle.stripes.specs.Repair.{fatal};
+ghost use Rattle.model.specs.Grid.{disks};
 ghost use Rattle.model.specs.Refusal.{refusal, arrayTests};
 ghost use Rattle.model.specs.Array.{sealStatus, sealArray, checked, checkStatus, writeStatus, writeArray};
-ghost use Rattle.model.specs.Sheet.{narrow};
+ghost use Rattle.model.specs.Sheet.{narrow, sheetBytes, sheetsIn};
 ghost use Rattle.model.specs.Plan.{planTests, sheetLayout, planOutcome, planSheet, outcomeStatus};
-ghost use Rattle.model.specs.Rebuild.{rebuildTests, rebuildRefusal, rebuildOutcome, rebuildArray, rebuildSheet};
+ghost use Rattle.model.specs.Turn.{lastOf};
+ghost use Rattle.model.specs.Rebuild.{bufferRefusal, rebuildRefusal, rebuildTurn, rebuildTurns};
 ghost use Rattle.model.specs.Follow.{Usable, followOutcome, followArray};
 ghost use Rattle.model.specs.Edition.{superparity};
 ghost use Rattle.model.specs.Demand2.{SealDemand, CheckDemand, WriteDemand};
 ghost use Rattle.model.specs.Demand3.{Planned, Demand3};
+ghost use Rattle.demands.specs.Sum.{start, sumOf, Written};
+
+pub mod turns;
+
 use model::Checked;
 use model::Outcome;
 use model::Size;
+use turns::Turns;
 
 // Seals an array. Where it is not refused, the array has exactly the parities of the public description.
 pub fn seal_array(size: Size, block: usize, array: &mut [u8]) -> u32
@@ -52,32 +61,50 @@ pub fn write_block(size: Size, block: usize, array: &mut [u8], disk: usize, data
     write::write(size, block, array, disk, data)
 }
 
-// The two answers.
+// What plan answers, and what rebuild's turns come to.
 pub struct Answers {
     pub planned: Outcome,
-    pub rebuilt: Outcome,
+    pub rebuilt: Turns,
 }
 
-// Plans the repair of a loss into one sheet, the draft, and rebuilds the array with another. Demand 3 holds for every input that
-// the refusals before 6 let through; what it says of plan alone, under plan's own refusals and for every block length.
+// Plans the repair of a loss into one sheet, the draft, and rebuilds the array in turns of at most `limit` repairs, each with the
+// next sheet of a buffer, until the map is clear, a turn is refused or no sheet is left. Demand 3 holds for every input that the
+// refusals before 6 let through, if there are sheets for as many repairs as a loss can take; what it says of plan alone, under
+// plan's own refusals and for every block length.
 pub fn plan_and_rebuild(
     size: Size,
     block: usize,
     array: &mut [u8],
-    map: &[u8],
+    map: &mut [u8],
     draft: &mut [u8],
-    sheet: &mut [u8],
+    sheets: &mut [u8],
+    limit: usize,
 ) -> Answers
     ensures planned { λ r. ⌜ r .planned ≡ planOutcome size (now (map .entry)) (now (draft .entry)) ⌝ }
     ensures draft { λ r. ⌜ now (draft .exit) ≡ planSheet size (now (map .entry)) (now (draft .entry)) ⌝ }
     ensures rebuilt { λ r. ⌜
-        r .rebuilt ≡ rebuildOutcome size block (now (array .entry)) (now (map .entry)) (now (sheet .entry))
+        r .rebuilt ≡ sumOf (start (now (array .entry)) (now (map .entry)))
+        (rebuildTurns size block limit
+        (sheetsIn narrow (length (now (sheets .entry)) / sheetBytes narrow) (now (sheets .entry)))
+        (now (array .entry)) (now (map .entry)))
         ⌝ }
     ensures array { λ r. ⌜
-        now (array .exit) ≡ rebuildArray size block (now (array .entry)) (now (map .entry)) (now (sheet .entry))
+        now (array .exit) ≡ lastOf (start (now (array .entry)) (now (map .entry)))
+        (rebuildTurns size block limit
+        (sheetsIn narrow (length (now (sheets .entry)) / sheetBytes narrow) (now (sheets .entry)))
+        (now (array .entry)) (now (map .entry))) .array
         ⌝ }
-    ensures sheet { λ r. ⌜
-        now (sheet .exit) ≡ rebuildSheet size block (now (array .entry)) (now (map .entry)) (now (sheet .entry))
+    ensures map { λ r. ⌜
+        now (map .exit) ≡ lastOf (start (now (array .entry)) (now (map .entry)))
+        (rebuildTurns size block limit
+        (sheetsIn narrow (length (now (sheets .entry)) / sheetBytes narrow) (now (sheets .entry)))
+        (now (array .entry)) (now (map .entry))) .map
+        ⌝ }
+    ensures sheets { λ r. ⌜
+        Written narrow (now (sheets .entry)) (now (sheets .exit))
+        (rebuildTurns size block limit
+        (sheetsIn narrow (length (now (sheets .entry)) / sheetBytes narrow) (now (sheets .entry)))
+        (now (array .entry)) (now (map .entry)))
         ⌝ }
     ensures plan { λ r. ⌜
         (refusal (planTests size (now (map .entry)) (length (now (draft .entry)))) ≡ 0
@@ -85,27 +112,30 @@ pub fn plan_and_rebuild(
         ⌝ }
     ensures demand3 { λ r. ⌜
         (refusal (planTests size (now (map .entry)) (length (now (draft .entry)))) ≡ 0
-        → refusal (rebuildTests size block (length (now (array .entry))) (now (map .entry)) (length (now (sheet .entry)))) ≡ 0
-        → Demand3 (superparity size (narrow .base)) narrow block (now (array .entry)) (now (map .entry))
+        → rebuildRefusal size block (now (array .entry)) (now (map .entry)) (take (sheetBytes narrow) (now (sheets .entry))) limit ≡ 0
+        → superparity size (narrow .base) .limit ≤ length (now (sheets .entry)) / sheetBytes narrow * limit
+        → Demand3 (superparity size (narrow .base)) narrow block limit (now (array .entry)) (now (map .entry))
         (record {
           planned = r .planned;
           planSheet = now (draft .exit);
-          rebuilt = r .rebuilt;
+          last = r .rebuilt .last;
+          made = r .rebuilt .made;
           array = now (array .exit);
-          sheet = now (sheet .exit);
+          map = now (map .exit);
+          sheets = sheetsIn narrow (r .rebuilt .turns) (now (sheets .exit));
         }))
         ⌝ }
 {
     let planned = plan::plan(size, map, draft);
-    let rebuilt = rebuild::rebuild(size, block, array, map, sheet);
+    let rebuilt = turns::rebuild_in_turns(size, block, array, map, sheets, limit);
     Answers {
         planned: planned,
         rebuilt: rebuilt,
     }
 }
 
-// Follows a sheet from elsewhere. With a usable sheet it answers what rebuild would and leaves the same array, whatever the order
-// of the repairs; it refuses by 7 exactly if such a sheet meets survivors that belong to no sealed array; and where the loss is
+// Follows a sheet from elsewhere. With a usable sheet it answers what rebuild would in one turn and leaves the same array, whatever
+// the order of the repairs; it refuses by 7 exactly if such a sheet meets survivors that belong to no sealed array; and where the loss is
 // fatal, no sheet makes it change anything.
 pub fn follow_sheet(size: Size, block: usize, array: &mut [u8], map: &[u8], sheet: &[u8]) -> Outcome
     ensures outcome { λ r. ⌜ r ≡ followOutcome size block (now (array .entry)) (now (map .entry)) (now (sheet .entry)) ⌝ }
@@ -114,11 +144,12 @@ pub fn follow_sheet(size: Size, block: usize, array: &mut [u8], map: &[u8], shee
         ⌝ }
     ensures rebuilt { λ r. ⌜
         (Usable size (now (map .entry)) (now (sheet .entry))
-        → (r ≡ rebuildOutcome size block (now (array .entry)) (now (map .entry)) (now (sheet .entry)))
-        × (now (array .exit) ≡ rebuildArray size block (now (array .entry)) (now (map .entry)) (now (sheet .entry))))
+        → (k : ℕ) → 0 < k → count (disks size) (erasures (now (map .entry))) ≤ k
+        → (r ≡ rebuildTurn size block (now (array .entry)) (now (map .entry)) (now (sheet .entry)) k .answer)
+        × (now (array .exit) ≡ rebuildTurn size block (now (array .entry)) (now (map .entry)) (now (sheet .entry)) k .array))
         ⌝ }
     ensures contradicted { λ r. ⌜
-        (rebuildRefusal size block (now (array .entry)) (now (map .entry)) (now (sheet .entry)) ≡ 0
+        (bufferRefusal size block (now (array .entry)) (now (map .entry)) (now (sheet .entry)) ≡ 0
         → ((outcomeStatus r ≡ 7)
         ↔ (Usable size (now (map .entry)) (now (sheet .entry))
         × (Belongs (sheetLayout size) (whole block) (erasures (now (map .entry))) (now (array .entry)) → ⊥))))

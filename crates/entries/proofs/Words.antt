@@ -3,13 +3,14 @@
 use mathlib.Core.Path.{_≡_, refl, sym, _∙_, ap, ap₂, subst}
 use mathlib.Core.Logic.{⊎-elim}
 use mathlib.Core.List.{List, [], _∷_, _++_}
-use Prim.Native.Nat.{ℕ, zero, suc, _+_, _/_, _%_, _<_}
+use Prim.Native.Nat.{ℕ, zero, suc, _+_, _/_, _%_, _≤_, _<_, min}
 use native.Mathlib.Nat.{le-of-suc-le-suc, lt-suc-self, eq-or-lt-of-le, not-suc-le-zero}
 use native.Mathlib.Numerals.{add-one}
 use native.Mathlib.Omega.{arith}
-use lib.ListN.{length, getD, set, length-append, List·getD-append}
-use lib.Seq.{getD-set-same, getD-set-other, getD-append-seam}
+use lib.ListN.{length, getD, set, take, length-append, List·getD-append}
+use lib.Seq.{take-all, take-append-le, getD-set-same, getD-set-other, getD-append-seam}
 use Rattle.stripes.specs.Repair.{Entry}
+use Rattle.stripes.proofs.Fold.{lt-or-le}
 use Rattle.entries.specs.Listed.{wordOf, entryDisk, entryStripe, listed}
 
 -- The entry of a word.
@@ -42,6 +43,23 @@ listed-put l k d s h low high =
     ∙ ap₂ (λ (w : List Entry) (r : Entry). w ++ (r ∷ []))
     (listed-same k (set l k (wordOf d s)) l (λ i w. getD-set-other l k i (wordOf d s) 0 (λ q. omega arith)))
     (ap₂ (λ (x y : ℕ). record { disk = x; stripe = y }) disk stripe)
+
+-- The first of the first entries.
+listed-front : (l : List ℕ) (n k : ℕ) → k ≤ n → take k (listed l n) ≡ listed l k
+unfolding listed
+listed-front l zero k h = let none : k ≡ 0 = omega arith in rw none refl
+listed-front l (suc n) k h =
+    let long = listed-length l n in
+    ⊎-elim (λ (e : k ≡ suc n). rw e (take-all (suc n) (listed l (suc n)) (omega (arith, listed-length l (suc n)))))
+    (λ (m : k < suc n). take-append-le k (listed l n) _ (omega arith) ∙ listed-front l n k (le-of-suc-le-suc m)) (eq-or-lt-of-le h)
+
+pub listed-take : (l : List ℕ) (n k : ℕ) → listed l (min n k) ≡ take k (listed l n)
+listed-take l n k =
+    let long = listed-length l n in
+    ⊎-elim
+    (λ (h : k < n). let least : min n k ≡ k = omega arith in ap (listed l) least ∙ sym (listed-front l n k (omega arith)))
+    (λ (h : n ≤ k). let least : min n k ≡ n = omega arith in ap (listed l) least ∙ sym (take-all k (listed l n) (omega arith)))
+    (lt-or-le k n)
 
 -- Entry number i of the first k.
 pub listed-at : (l : List ℕ) (k i : ℕ) → i < k → (other : Entry) → getD (listed l k) i other ≡ entryAt l i

@@ -1,6 +1,6 @@
 // Lists inside the library: repairs, or the steps of a cycle, a disk and a stripe in one word each.
 ghost use mathlib.Core.Path.{_≡_};
-ghost use Prim.Native.Nat.{_<_};
+ghost use Prim.Native.Nat.{_<_, min};
 ghost use lib.ListN.{length, set};
 ghost use Rattle.entries.specs.Listed.{wordOf, entryDisk, entryStripe};
 
@@ -31,4 +31,14 @@ pub fn stripe_of(list: &[u32], k: usize) -> usize
     ensures { λ r. ⌜ r ≡ entryStripe (now (list .entry)) k ⌝ }
 {
     (list[k] / 65536 % 65536) as usize
+}
+
+// How many entries of a list of `count` a limit allows.
+pub fn at_most(count: usize, limit: usize) -> usize
+    ensures { λ r. ⌜ r ≡ min count limit ⌝ }
+{
+    if limit < count {
+        return limit;
+    }
+    count
 }

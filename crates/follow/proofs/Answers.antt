@@ -12,7 +12,7 @@ use Rattle.model.specs.Refusal.{refusal, arrayTests}
 use Rattle.model.specs.Sheet.{narrow}
 use Rattle.model.specs.Chain.{chainFits, chainEntries}
 use Rattle.model.specs.Plan.{sheetTests, sheetLayout}
-use Rattle.model.specs.Rebuild.{rebuildTests, rebuildRefusal}
+use Rattle.model.specs.Rebuild.{bufferTests, bufferRefusal}
 use Rattle.model.specs.Follow.{followedArray, followOutcome, followArray}
 use Rattle.model.specs.declared.Size.{Size}
 use Rattle.model.specs.declared.Outcome.{Outcome}
@@ -37,18 +37,18 @@ module _ (z : Size) (B : ℕ) (a m s : List ℕ) where
   as-given g = (sym (g .0), sym (g .1))
 
   -- ---- refused by the tests that rebuild has too
-  early : (k : ℕ) → rebuildRefusal z B a m s ≡ k → (k ≡ 0 → ⊥) → Followed z B a m s (Refused k) a
+  early : (k : ℕ) → bufferRefusal z B a m s ≡ k → (k ≡ 0 → ⊥) → Followed z B a m s (Refused k) a
   early k e some =
       subst (λ (k : ℕ). Followed z B a m s (Refused k) a) e (as-given (follow-first z B a m s (λ q. some (sym e ∙ q))))
 
   pub array-refused : (status : ℕ) → status ≡ refusal (arrayTests z B (length a)) → (status ≡ 0 → ⊥)
       → Followed z B a m s (Refused status) a
-  unfolding rebuildRefusal rebuildTests
+  unfolding bufferRefusal bufferTests
   array-refused status e some = early status (refused-first (arrayTests z B (length a)) _ (λ q. some (e ∙ q)) ∙ sym e) some
 
   module _ (sized : refusal (arrayTests z B (length a)) ≡ 0) where
-    pub tests-left : rebuildRefusal z B a m s ≡ refusal (sheetTests z m (length s))
-    unfolding rebuildRefusal rebuildTests
+    pub tests-left : bufferRefusal z B a m s ≡ refusal (sheetTests z m (length s))
+    unfolding bufferRefusal bufferTests
     tests-left = array-passed z B (length a) (array-fits z B (length a) sized) _
 
     pub sheet-refused : (status : ℕ) → status ≡ refusal (sheetTests z m (length s)) → (status ≡ 0 → ⊥)
@@ -58,7 +58,7 @@ module _ (z : Size) (B : ℕ) (a m s : List ℕ) where
 -- ---- the sheet
 
 -- Reading has answered that the chain is broken.
-pub broken : (z : Size) (B : ℕ) (a m s : List ℕ) → rebuildRefusal z B a m s ≡ 0
+pub broken : (z : Size) (B : ℕ) (a m s : List ℕ) → bufferRefusal z B a m s ≡ 0
     → (answer : Chain) → answer ≡ chainRead s → answer ≡ Broken → Followed z B a m s (Refused 10) a
 unfolding chainRead
 broken z B a m s ok answer answer-is e = go (chainFits narrow s) refl
@@ -98,7 +98,7 @@ module _ {s own : List ℕ} {count : ℕ} (is : Read s own count) where
   own-entries = ap (listed own) (is .counted) ∙ is .written
 
   -- ---- the steps, then the survivors
-  module _ (z : Size) (B : ℕ) (a m : List ℕ) (ok : rebuildRefusal z B a m s ≡ 0) where
+  module _ (z : Size) (B : ℕ) (a m : List ℕ) (ok : bufferRefusal z B a m s ≡ 0) where
     pub steps-refused : clears (sheetLayout z) (erasures m) (listed own count) ≡ false → Followed z B a m s (Refused 11) a
     steps-refused unclear =
         as-given z B a m s

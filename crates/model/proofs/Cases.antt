@@ -8,7 +8,7 @@ use lib.ListN.{replicate}
 use Rattle.stripes.specs.Fold.{xsum, gate, every, bit, count, lowest, tabulate, _⊕_}
 use Rattle.stripes.specs.System.{among, on, whole, byte, sumOver, stripeSum, sumsToZero, changed, consistent}
 use Rattle.stripes.specs.Erased.{erasures, without, below}
-use Rattle.stripes.specs.Repair.{alone, allowed, firstAllowed, someAllowed, nextDisk, repairOf, peel, repairs, after, residual, lost, fatal, sumOfOthers, repaired, rebuilt, zeroed, allAllowed, clears, residualCount}
+use Rattle.stripes.specs.Repair.{mapAfter, alone, allowed, firstAllowed, someAllowed, nextDisk, repairOf, peel, repairs, after, residual, lost, fatal, sumOfOthers, repaired, rebuilt, zeroed, allAllowed, clears, residualCount}
 use Rattle.stripes.specs.Cycle.{closing, core, partner, firstOf, otherThan, trace, lowestOf, cycleOf, shownCycle}
 use Rattle.model.specs.Grid.{grid, layoutOf, rectangle, rows, columns, across, disks, diskAt, isData, arrayBytes, arrayOf, sideFits, sizeFits, blockFits, mapFits, down}
 use Rattle.model.specs.Equations.{cell, rowData, columnData}
@@ -17,7 +17,8 @@ use Rattle.model.specs.Array.{encodedByte, encoded, sealStatus, sealArra
 use Rattle.model.specs.Sheet.{chainBytes, sheetOf, blankSheet, numberBytes, numberAt}
 use Rattle.model.specs.Chain.{entryAt, nextNumber, visited, chainNumbers, within, different, chainFits, entriesAt, chainEntries}
 use Rattle.model.specs.Plan.{sheetTests, planTests, planOutcome, outcomeStatus, outcomeCount, lossOutcome, lossSheet, planSheet}
-use Rattle.model.specs.Rebuild.{rebuildTests, rebuildRefusal, repairedArray, choose, rebuildOutcome, rebuildArray, rebuildSheet, loss}
+use Rattle.model.specs.Turn.{clear, lossTold, contradiction, repairsMade, turnRepairs, contradicts, turnOf}
+use Rattle.model.specs.Rebuild.{bufferTests, rebuildTests, rebuildRefusal, rebuildTurn}
 use Rattle.model.specs.Follow.{followedArray, followTests, followStatus, followOutcome, followArray}
 use Rattle.model.specs.Listing.{digit, decimal, repairWord, fatalWord, refusedWord, entryLines, listed, listing}
 use Rattle.model.specs.declared.Size.{Size}
@@ -57,12 +58,19 @@ planned : Size → List ℕ → List ℕ
 unfolding before
 planned z m = outcomeStatus (planOutcome z m before) ∷ outcomeCount (planOutcome z m before) 99 ∷ planSheet z m before
 
--- What rebuild gives for an array and a map: the number, the count, the array, the sheet.
+-- What a turn of at most k repairs gives for an array and a map: the number, the count, the array, the map, the sheet.
+turned : Size → (k : ℕ) → (a m : List ℕ) → List ℕ
+unfolding before
+turned z k a m =
+    let t = rebuildTurn z 1 a m before k in
+    outcomeStatus (t .answer) ∷ outcomeCount (t .answer) 99 ∷ t .array ++ t .map ++ t .sheet
+
+-- What rebuild gives without a limit to speak of, but for the map.
 restored : Size → (a m : List ℕ) → List ℕ
 unfolding before
 restored z a m =
-    outcomeStatus (rebuildOutcome z 1 a m before) ∷ outcomeCount (rebuildOutcome z 1 a m before) 99
-    ∷ rebuildArray z 1 a m before ++ rebuildSheet z 1 a m before
+    let t = rebuildTurn z 1 a m before 256 in
+    outcomeStatus (t .answer) ∷ outcomeCount (t .answer) 99 ∷ t .array ++ t .sheet
 
 -- What follow gives for an array, a map and a sheet: the number, the count, the array.
 followed : Size → (a m sheet : List ℕ) → List ℕ
@@ -70,7 +78,7 @@ followed z a m sheet =
     outcomeStatus (followOutcome z 1 a m sheet) ∷ outcomeCount (followOutcome z 1 a m sheet) 99 ∷ followArray z 1 a m sheet
 
 unfoldable pub cases : List Case
-unfolding two wide high A W H planned restored followed
+unfolding two wide high A W H planned turned restored followed
 cases =
     -- Data 1 2 / 4 8 seals to A, whatever stands in the parities' place.
     record {
@@ -167,6 +175,31 @@ cases =
       expected =
           0 ∷ 3 ∷ A ++ 10 ∷ 99 ∷ 7 ∷ 2 ∷ 7 ∷ 4 ∷ 8 ∷ 12 ∷ 7 ∷ 10 ∷ 15 ∷ 11 ∷ 99 ∷ 7 ∷ 2 ∷ 7 ∷ 4 ∷ 8 ∷ 12 ∷ 7 ∷ 10 ∷ 15 ∷ [];
     }
+    -- Case 3 in turns of two: the first repairs disks 2 and 0 and leaves 6 erased, the second repairs it and finds all sums zero.
+    ∷ record {
+      number = 0;
+      computed =
+          turned two 2 (7 ∷ 2 ∷ 7 ∷ 4 ∷ 8 ∷ 12 ∷ 7 ∷ 10 ∷ 15 ∷ []) (1 ∷ 0 ∷ 1 ∷ 0 ∷ 0 ∷ 0 ∷ 1 ∷ 0 ∷ 0 ∷ [])
+          ++ turned two 2 (1 ∷ 2 ∷ 3 ∷ 4 ∷ 8 ∷ 12 ∷ 7 ∷ 10 ∷ 15 ∷ []) (0 ∷ 0 ∷ 0 ∷ 0 ∷ 0 ∷ 0 ∷ 1 ∷ 0 ∷ 0 ∷ []);
+      expected =
+          0 ∷ 2 ∷ 1 ∷ 2 ∷ 3 ∷ 4 ∷ 8 ∷ 12 ∷ 7 ∷ 10 ∷ 15 ∷ 0 ∷ 0 ∷ 0 ∷ 0 ∷ 0 ∷ 0 ∷ 1 ∷ 0 ∷ 0 ∷ 1 ∷ 1 ∷ 2 ∷ 18 ∷ 2 ∷ 0 ∷ 0 ∷ 0 ∷ replicate 90 0
+          ++ 0 ∷ 1 ∷ A ++ replicate 9 0 ++ 1 ∷ 1 ∷ 6 ∷ 2 ∷ 0 ∷ replicate 93 0;
+    }
+    -- Disks 0 and 4 erased, disk 8 holding 14, in turns of one: the first repairs disk 0 and tests nothing, the second finds the
+    -- contradiction, and disk 4 stays erased and becomes 0. A turn of no repairs, and a clear map with the same contradiction.
+    ∷ record {
+      number = 0;
+      computed =
+          turned two 1 (7 ∷ 2 ∷ 3 ∷ 4 ∷ 7 ∷ 12 ∷ 5 ∷ 10 ∷ 14 ∷ []) (1 ∷ 0 ∷ 0 ∷ 0 ∷ 1 ∷ 0 ∷ 0 ∷ 0 ∷ 0 ∷ [])
+          ++ turned two 1 (1 ∷ 2 ∷ 3 ∷ 4 ∷ 7 ∷ 12 ∷ 5 ∷ 10 ∷ 14 ∷ []) (0 ∷ 0 ∷ 0 ∷ 0 ∷ 1 ∷ 0 ∷ 0 ∷ 0 ∷ 0 ∷ [])
+          ++ turned two 0 A (1 ∷ 0 ∷ 1 ∷ 0 ∷ 0 ∷ 0 ∷ 1 ∷ 0 ∷ 1 ∷ [])
+          ++ turned two 1 (1 ∷ 2 ∷ 3 ∷ 4 ∷ 8 ∷ 12 ∷ 5 ∷ 10 ∷ 14 ∷ []) (replicate 9 0);
+      expected =
+          0 ∷ 1 ∷ 1 ∷ 2 ∷ 3 ∷ 4 ∷ 7 ∷ 12 ∷ 5 ∷ 10 ∷ 14 ∷ 0 ∷ 0 ∷ 0 ∷ 0 ∷ 1 ∷ 0 ∷ 0 ∷ 0 ∷ 0 ∷ 1 ∷ 1 ∷ 0 ∷ 0 ∷ 0 ∷ replicate 93 0
+          ++ 7 ∷ 99 ∷ 1 ∷ 2 ∷ 3 ∷ 4 ∷ 0 ∷ 12 ∷ 5 ∷ 10 ∷ 14 ∷ 0 ∷ 0 ∷ 0 ∷ 0 ∷ 1 ∷ 0 ∷ 0 ∷ 0 ∷ 0 ∷ replicate 98 0
+          ++ 12 ∷ 99 ∷ A ++ 1 ∷ 0 ∷ 1 ∷ 0 ∷ 0 ∷ 0 ∷ 1 ∷ 0 ∷ 1 ∷ replicate 98 7
+          ++ 7 ∷ 99 ∷ 1 ∷ 2 ∷ 3 ∷ 4 ∷ 8 ∷ 12 ∷ 5 ∷ 10 ∷ 14 ∷ replicate 9 0 ++ replicate 98 0;
+    }
     -- Two data rows, three data columns: data 1 2 4 / 8 16 32 seals to W; disks 0 to 3, 4 and 8, the full six, are restored.
     ∷ record {
       number = 0;
@@ -214,6 +247,6 @@ cases =
 
 -- Every case holds, and the paper's nine are there.
 pub cases-hold : (map (λ (c : Case). c .computed) cases ≡ map (λ (c : Case). c .expected) cases)
-    × (map (λ (c : Case). c .number) cases ≡ 1 ∷ 2 ∷ 3 ∷ 4 ∷ 5 ∷ 6 ∷ 7 ∷ 8 ∷ 9 ∷ replicate 7 0)
-unfolding cases sealStatus sealArray encoded encodedByte writeStatus writeArray writeTests written writtenByte isParityOf refusal arrayTests sideFits sizeFits blockFits arrayBytes arrayOf disks across down rows columns diskAt isData rowData columnData cell byte whole xsum _⊕_ tabulate gate every bit count lowest among on sumOver stripeSum sumsToZero grid layoutOf mapFits erasures without alone allowed firstAllowed someAllowed nextDisk repairOf peel repairs after residual residualCount lost fatal changed sumOfOthers repaired rebuilt zeroed consistent below closing core partner firstOf otherThan trace lowestOf cycleOf shownCycle numberBytes numberAt chainBytes sheetOf blankSheet sheetTests planTests lossOutcome lossSheet planOutcome planSheet outcomeStatus outcomeCount rebuildTests rebuildRefusal repairedArray loss choose rebuildOutcome rebuildArray rebuildSheet entryAt nextNumber visited chainNumbers within different chainFits entriesAt chainEntries allAllowed clears followedArray followTests followStatus followOutcome followArray rectangle digit decimal repairWord fatalWord refusedWord entryLines listed listing
+    × (map (λ (c : Case). c .number) cases ≡ 1 ∷ 2 ∷ 3 ∷ 4 ∷ 5 ∷ 6 ∷ 7 ∷ 8 ∷ 9 ∷ replicate 9 0)
+unfolding cases sealStatus sealArray encoded encodedByte writeStatus writeArray writeTests written writtenByte isParityOf refusal arrayTests sideFits sizeFits blockFits arrayBytes arrayOf disks across down rows columns diskAt isData rowData columnData cell byte whole xsum _⊕_ tabulate gate every bit count lowest among on sumOver stripeSum sumsToZero grid layoutOf mapFits erasures without alone allowed firstAllowed someAllowed nextDisk repairOf peel repairs after residual residualCount lost fatal changed sumOfOthers repaired rebuilt zeroed consistent below closing core partner firstOf otherThan trace lowestOf cycleOf shownCycle numberBytes numberAt chainBytes sheetOf blankSheet sheetTests planTests lossOutcome lossSheet planOutcome planSheet outcomeStatus outcomeCount mapAfter clear lossTold contradiction repairsMade turnRepairs contradicts turnOf bufferTests rebuildTests rebuildRefusal rebuildTurn entryAt nextNumber visited chainNumbers within different chainFits entriesAt chainEntries allAllowed clears followedArray followTests followStatus followOutcome followArray rectangle digit decimal repairWord fatalWord refusedWord entryLines listed listing
 cases-hold = (refl, refl)

@@ -1,63 +1,72 @@
--- The contents of an erased disk's block count for nothing: arrays that agree on the survivors get the same repairs, the same
--- answers and, where the loss is not fatal, the same array.
+-- The contents of an erased disk's block count for nothing: arrays that agree on the survivors get the same answers, maps and
+-- sheets, and agree on the survivors that there are then.
 -- Assumes nothing.
-use mathlib.Core.Path.{_≡_, refl, sym, _∙_, ap, ap₂}
-use mathlib.Core.Bool.{Bool, true, false, cond, true≢false}
+use mathlib.Core.Path.{_≡_, refl, sym, _∙_, ap}
+use mathlib.Core.Bool.{Bool, true, false, cond, not, _&&_}
 use mathlib.Core.List.{List}
-use Prim.Native.Nat.{ℕ, _*_}
+use Prim.Native.Nat.{ℕ, _*_, _<_}
+use borrow.Author.Tests.{eqb-true}
+use lib.Dec.{eqb}
 use lib.ListN.{length}
-use Rattle.stripes.specs.System.{whole, consistent}
+use Rattle.stripes.specs.Fold.{count}
+use Rattle.stripes.specs.System.{Layout, whole, consistent}
 use Rattle.stripes.specs.Erased.{erasures, Agree}
-use Rattle.stripes.specs.Repair.{fatal}
-use Rattle.model.specs.Sheet.{narrow}
-use Rattle.model.specs.Plan.{sheetLayout}
-use Rattle.model.specs.Refusal.{refusal}
-use Rattle.model.specs.Rebuild.{rebuildTests, rebuildRefusal, repairedArray, loss, choose, rebuildOutcome, rebuildArray, rebuildSheet}
-use Rattle.model.specs.declared.Size.{Size}
-use Rattle.stripes.proofs.Restore.{zeroed-whole, same-rebuilt}
-use Rattle.model.proofs.Grid.{block-fits, layout-sized}
-use Rattle.model.proofs.Refusal.{given-accepted, ArrayFits, array-tests}
+use Rattle.stripes.specs.Repair.{Entry, Peels, repairs, after, mapAfter, fatal, rebuilt, zeroed}
+use Rattle.model.specs.Sheet.{Format}
+use Rattle.model.specs.Turn.{Turn, clear, lossTold, contradiction, repairsMade, turnRepairs, contradicts, turnOf, wholeRebuild}
+use Rattle.stripes.proofs.Fold.{count-zero-none}
+use Rattle.stripes.proofs.Bytes.{whole-inside, whole-equal}
+use Rattle.stripes.proofs.Peel.{repairs-peels}
+use Rattle.stripes.proofs.Restore.{zeroed-whole, same-rebuilt, agree-rebuilt, length-rebuilt}
+use Rattle.stripes.proofs.Turns.{peels-take, erasures-after}
 
-module _ (z : Size) (B : ℕ) (a b m s : List ℕ) (ok : refusal (rebuildTests z B (length a) m (length s)) ≡ 0)
-    (long : length b ≡ length a) (same : Agree (sheetLayout z) (whole B) (erasures m) a b) where
-  fits : ArrayFits z B (length a)
-  unfolding rebuildTests
-  fits = array-tests z B (length a) _ ok .0
+module _ (L : Layout) (f : Format) (B : ℕ) (some : 0 < B) (a b m : List ℕ) (sized : length a ≡ L .disks * whole B .block)
+    (long : length b ≡ length a) (same : Agree L (whole B) (erasures m) a b) where
+  zeros : zeroed (whole B) b (erasures m) ≡ zeroed (whole B) a (erasures m)
+  zeros = zeroed-whole L B some (erasures m) a b sized long same
 
-  sized : length a ≡ sheetLayout z .disks * whole B .block
-  sized = layout-sized z (narrow .base) B a (fits .long)
+  -- A rebuild without turns.
+  pub same-whole : fatal L (erasures m) ≡ false → wholeRebuild L f (whole B) b m ≡ wholeRebuild L f (whole B) a m
+  unfolding wholeRebuild contradiction repairsMade
+  same-whole fine = rw (fine, zeros, same-rebuilt L B (erasures m) fine a b sized (long ∙ sized) same)
 
-  same-repaired : fatal (sheetLayout z) (erasures m) ≡ false → repairedArray (sheetLayout z) (whole B) b (erasures m) ≡ repairedArray (sheetLayout z) (whole B) a (erasures m)
-  unfolding repairedArray
-  same-repaired fine = sym (same-rebuilt (sheetLayout z) B (erasures m) fine a b sized (long ∙ sized) same)
+  -- ---- a turn
+  module _ (k : ℕ) where
+    abbrev w : List Entry
+    w = turnRepairs L k m
 
-  -- The same of the four things comes of both arrays.
-  same-choice {ℓ} : {A : Type ℓ} (r₁ r₂ f₁ f₂ c₁ c₂ d₁ d₂ : A) → (fatal (sheetLayout z) (erasures m) ≡ true → f₁ ≡ f₂)
-      → (fatal (sheetLayout z) (erasures m) ≡ false → (c₁ ≡ c₂) × (d₁ ≡ d₂)) → choose z B b m s r₁ f₁ c₁ d₁ ≡ choose z B a m s r₂ f₂ c₂ d₂
-  unfolding choose loss rebuildRefusal
-  same-choice r₁ r₂ f₁ f₂ c₁ c₂ d₁ d₂ lossy fine =
-      given-accepted _ _ r₁ (ap (λ (n : ℕ). refusal (rebuildTests z B n m (length s))) long ∙ ok)
-      ∙ go (fatal (sheetLayout z) (erasures m)) refl ∙ sym (given-accepted _ _ r₂ ok)
-    where
-      go : (t : Bool) → fatal (sheetLayout z) (erasures m) ≡ t
-          → cond t f₁ (cond (consistent (sheetLayout z) (whole B) (repairedArray (sheetLayout z) (whole B) b (erasures m))) d₁ c₁)
-          ≡ cond t f₂ (cond (consistent (sheetLayout z) (whole B) (repairedArray (sheetLayout z) (whole B) a (erasures m))) d₂ c₂)
-      go true q = lossy q
-      go false q =
-          ap (λ (r : List ℕ). cond (consistent (sheetLayout z) (whole B) r) d₁ c₁) (same-repaired q)
-          ∙ ap₂ (cond (consistent (sheetLayout z) (whole B) (repairedArray (sheetLayout z) (whole B) a (erasures m)))) (fine q .1) (fine q .0)
+    agree : Agree L (whole B) (erasures (mapAfter m w)) (rebuilt L (whole B) a w) (rebuilt L (whole B) b w)
+    unfolding turnRepairs
+    agree =
+        rw (erasures-after m w)
+        (agree-rebuilt L (whole B) (whole-inside B) (erasures m) a b sized (long ∙ sized) w (peels-take L (erasures m) k _ (repairs-peels L (erasures m))) same)
 
-  pub same-outcome : rebuildOutcome z B b m s ≡ rebuildOutcome z B a m s
-  unfolding rebuildOutcome
-  same-outcome = same-choice _ _ _ _ _ _ _ _ (λ q. refl) (λ q. (refl, refl))
+    -- A turn that clears the map makes them the same.
+    same-cleared : clear L (mapAfter m w) ≡ true → rebuilt L (whole B) a w ≡ rebuilt L (whole B) b w
+    unfolding clear whole
+    same-cleared done =
+        whole-equal (L .disks) B _ _ (length-rebuilt L (whole B) a w ∙ sized) (length-rebuilt L (whole B) b w ∙ long ∙ sized)
+        (λ d p l h. agree d l (count-zero-none (L .disks) (erasures (mapAfter m w)) (eqb-true _ 0 done) d l) p h)
 
-  pub same-sheet : rebuildSheet z B b m s ≡ rebuildSheet z B a m s
-  unfolding rebuildSheet
-  same-sheet = same-choice _ _ _ _ _ _ _ _ (λ q. refl) (λ q. (refl, refl))
+    -- What comes of one array and of the other.
+    pub record Alike (t u : Turn) : Type 0 where
+      pub answer : u .answer ≡ t .answer
+      pub map : u .map ≡ t .map
+      pub sheet : u .sheet ≡ t .sheet
+      pub array : Agree L (whole B) (erasures (t .map)) (t .array) (u .array)
 
-  -- A fatal loss leaves each array as it is; otherwise both become the same, restored or with zeros on the erased disks.
-  pub same-array : fatal (sheetLayout z) (erasures m) ≡ false → rebuildArray z B b m s ≡ rebuildArray z B a m s
-  unfolding rebuildArray
-  same-array fine =
-      same-choice _ _ _ _ _ _ _ _ (λ q. absurd (true≢false (sym q ∙ fine)))
-      (λ q. (zeroed-whole (sheetLayout z) B (block-fits B (fits .block) .low) (erasures m) a b sized long same, same-repaired q))
+    pub same-turn : Alike (turnOf L f (whole B) k a m) (turnOf L f (whole B) k b m)
+    unfolding turnOf contradicts lossTold contradiction repairsMade
+    same-turn = go (fatal L (erasures m)) refl (clear L (mapAfter m w)) refl
+      where
+        judged : (c : Bool) → consistent L (whole B) (rebuilt L (whole B) b w) ≡ c
+            → Alike (cond (not c) (contradiction f (whole B) a m) (repairsMade L f (whole B) a m w))
+            (cond (not c) (contradiction f (whole B) b m) (repairsMade L f (whole B) b m w))
+        judged true q = record { answer = refl; map = refl; sheet = refl; array = agree }
+        judged false q = record { answer = refl; map = refl; sheet = refl; array = rw zeros (λ d l h p i. refl) }
+
+        go : (t : Bool) → fatal L (erasures m) ≡ t → (c : Bool) → clear L (mapAfter m w) ≡ c
+            → Alike (turnOf L f (whole B) k a m) (turnOf L f (whole B) k b m)
+        go true q c p = rw q (record { answer = refl; map = refl; sheet = refl; array = same })
+        go false q false p = rw (q, p) (record { answer = refl; map = refl; sheet = refl; array = agree })
+        go false q true p = rw (q, p, ap (consistent L (whole B)) (same-cleared p)) (judged (consistent L (whole B) (rebuilt L (whole B) b w)) refl)

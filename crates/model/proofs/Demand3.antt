@@ -1,32 +1,39 @@
 -- Demand 3: what plan and rebuild promise of a loss, for every size, block, map and content.
 -- Assumes nothing.
-use mathlib.Core.Path.{_≡_}
-use mathlib.Core.Bool.{Bool, true, false}
+use mathlib.Core.Path.{_≡_, refl, sym, _∙_, ap, subst}
+use mathlib.Core.Bool.{Bool, true, false, cond}
 use mathlib.Core.Logic.{_↔_}
-use mathlib.Core.List.{List}
-use Prim.Native.Nat.{ℕ, _+_, _*_, _≤_, _<_}
+use mathlib.Core.List.{List, [], _∷_, map}
+use Prim.Native.Nat.{ℕ, suc, _+_, _*_, _≤_, _<_}
 use native.Mathlib.Omega.{arith}
+use borrow.Author.Tests.{le-ltb}
+use lib.Dec.{eqb, ltb}
 use lib.ListN.{length, getD}
-use Rattle.model.specs.Rebuild.{rebuildOutcome, rebuildTests, rebuildArray, rebuildSheet, choose, rebuildRefusal}
+use Rattle.model.specs.Turn.{Turn, unfinished, turnOf, turnsBy, turnsOf, lastOf, madeBy, wholeRebuild}
+use Rattle.model.specs.Rebuild.{bufferTests, bufferRefusal, rebuildTests, rebuildRefusal, rebuildTurn, rebuildTurns}
 use Rattle.model.specs.Refusal.{refusal, arrayTests}
-use Rattle.model.specs.Plan.{planOutcome, planSheet, planTests, sheetLayout}
+use Rattle.model.specs.Plan.{lossOutcome, lossSheet, planOutcome, planSheet, planTests, sheetLayout}
 use Rattle.model.specs.Edition.{superparity}
-use Rattle.model.specs.Grid.{rectangle, sizeFits, rows, columns, layoutOf}
+use Rattle.model.specs.Grid.{rectangle, sizeFits, rows, columns, disks, layoutOf}
 use Rattle.model.specs.declared.Size.{Size}
 use Rattle.model.specs.declared.Outcome.the-variants.{Refused}
 use Rattle.model.specs.Demand3.{Planned, Demand3}
 use Rattle.model.specs.Loop.{Loop}
 use Rattle.model.specs.Sheet.{narrow}
-use Rattle.model.proofs.Accept.{plan-accepts, rebuild-accepts}
+use Rattle.model.proofs.Accept.{plan-accepts, rebuild-accepts, buffers-passed, limit-passed, rebuild-fits, buffers-fit, sheet-passes}
+use Rattle.model.proofs.Turns.{turn-length, turn-map, whole-turn, shape, as-whole}
 use Rattle.model.proofs.Losses.{resultsOf, Lawful, planned, edition-demand3}
-use Rattle.model.proofs.Refusal.{given-refused, ArrayFits, array-tests, passed}
-use Rattle.model.proofs.Grid.{rows-below, Fits, size-fits, block-fits, layout-two, layout-sized, layout-disks}
+use Rattle.model.proofs.Refusal.{given-accepted, given-refused, fails, passed, array-passed}
+use Rattle.model.proofs.Grid.{rows-below, Fits, size-fits, block-fits, layout-two, layout-sized, layout-disks, layout-ordered}
 use Rattle.model.proofs.Loop.{loop-bound, fatal-loop, loop-is, loop-fits, three}
 use Rattle.model.proofs.Limits.{grid-repairs}
-use Rattle.model.proofs.Contents.{same-outcome, same-sheet, same-array}
+use Rattle.model.proofs.Contents.{same-turn}
+use Rattle.stripes.specs.Fold.{count}
 use Rattle.stripes.specs.System.{whole, Bytes}
-use Rattle.stripes.specs.Repair.{Entry, Peels, fatal}
-use Rattle.stripes.specs.Erased.{Agree, erasures}
+use Rattle.stripes.specs.Repair.{Entry, Peels, repairs, fatal}
+use Rattle.stripes.proofs.Peel.{repairs-peels}
+use Rattle.stripes.proofs.Theorems.{all-judged}
+use Rattle.stripes.specs.Erased.{Agree, Belongs, erasures}
 
 -- ---- which arguments are taken
 
@@ -36,11 +43,16 @@ pub plan-takes : (a b : ℕ) (m : List ℕ) (len : ℕ) → (refusal (planTests 
     × ((length m ≡ (a + 1) * (b + 1)) × ((d : ℕ) → d < length m → getD m d 0 ≤ 1) × (len ≡ 98)))
 plan-takes = plan-accepts
 
--- Rebuild takes, besides, just the blocks and the arrays that every call on an array takes.
-pub rebuild-takes : (a b B arrayLen : ℕ) (m : List ℕ) (len : ℕ) → (refusal (rebuildTests (rectangle a b) B arrayLen m len) ≡ 0)
-    ↔ ((refusal (arrayTests (rectangle a b) B arrayLen) ≡ 0)
-    × ((length m ≡ (a + 1) * (b + 1)) × ((d : ℕ) → d < length m → getD m d 0 ≤ 1) × (len ≡ 98)))
+-- Rebuild takes, besides, just the blocks and the arrays that every call on an array takes, and every limit from 1 on.
+pub rebuild-takes : (a b B : ℕ) (array m sheet : List ℕ) (k : ℕ) → (rebuildRefusal (rectangle a b) B array m sheet k ≡ 0)
+    ↔ ((refusal (arrayTests (rectangle a b) B (length array)) ≡ 0)
+    × ((length m ≡ (a + 1) * (b + 1)) × ((d : ℕ) → d < length m → getD m d 0 ≤ 1) × (length sheet ≡ 98)) × (1 ≤ k))
 rebuild-takes = rebuild-accepts
+
+-- A limit of 0 gets 12, after the tests of the buffers and before all else.
+pub limit-refused : (z : Size) (B : ℕ) (a m sheet : List ℕ) → bufferRefusal z B a m sheet ≡ 0 → rebuildRefusal z B a m sheet 0 ≡ 12
+unfolding rebuildRefusal rebuildTests
+limit-refused z B a m sheet ok = buffers-passed z B a m sheet ok _ ∙ fails 12 (ltb 0 0) _ (le-ltb 0 0 (omega arith))
 
 -- One that is refused by these tests changes nothing.
 pub plan-refused : (z : Size) (m sheet : List ℕ) → (refusal (planTests z m (length sheet)) ≡ 0 → ⊥)
@@ -48,15 +60,49 @@ pub plan-refused : (z : Size) (m sheet : List ℕ) → (refusal (planTests z m (
 unfolding planOutcome planSheet
 plan-refused z m sheet refused = (given-refused (refusal (planTests z m (length sheet))) _ _ refused, given-refused (refusal (planTests z m (length sheet))) _ _ refused)
 
-pub rebuild-refused : (z : Size) (B : ℕ) (a m sheet : List ℕ) → (rebuildRefusal z B a m sheet ≡ 0 → ⊥)
-    → (rebuildOutcome z B a m sheet ≡ Refused (rebuildRefusal z B a m sheet)) × (rebuildArray z B a m sheet ≡ a)
-    × (rebuildSheet z B a m sheet ≡ sheet)
-unfolding rebuildOutcome rebuildArray rebuildSheet choose
-rebuild-refused z B a m sheet refused = (
-  given-refused (rebuildRefusal z B a m sheet) _ _ refused,
-  given-refused (rebuildRefusal z B a m sheet) _ _ refused,
-  given-refused (rebuildRefusal z B a m sheet) _ _ refused,
-)
+pub rebuild-refused : (z : Size) (B : ℕ) (a m sheet : List ℕ) (k : ℕ) → (rebuildRefusal z B a m sheet k ≡ 0 → ⊥)
+    → rebuildTurn z B a m sheet k ≡ record { answer = Refused (rebuildRefusal z B a m sheet k); array = a; map = m; sheet = sheet }
+unfolding rebuildTurn
+rebuild-refused z B a m sheet k refused = given-refused (rebuildRefusal z B a m sheet k) _ _ refused
+
+-- One that is not ends as a turn does,
+pub rebuild-turns : (z : Size) (B : ℕ) (a m sheet : List ℕ) (k : ℕ) → rebuildRefusal z B a m sheet k ≡ 0
+    → rebuildTurn z B a m sheet k ≡ turnOf (sheetLayout z) narrow (whole B) k a m
+unfolding rebuildTurn
+rebuild-turns z B a m sheet k ok = given-accepted (rebuildRefusal z B a m sheet k) _ _ ok
+
+-- and leaves an array and a map that another turn takes.
+pub next-turn : (z : Size) (B : ℕ) (a m sheet : List ℕ) (k : ℕ) → rebuildRefusal z B a m sheet k ≡ 0
+    → (other : List ℕ) → length other ≡ 98
+    → let t = turnOf (sheetLayout z) narrow (whole B) k a m in rebuildRefusal z B (t .array) (t .map) other k ≡ 0
+unfolding bufferRefusal bufferTests
+next-turn z B a m sheet k ok other long =
+    let (buffers, some) = rebuild-fits z B a m sheet k ok in
+    let (array, map, sheet-long) = buffers-fit z B a m sheet buffers in
+    let t = turnOf (sheetLayout z) narrow (whole B) k a m in
+    limit-passed z B (t .array) (t .map) other k some
+    ∙ array-passed z B (length (t .array)) (rw (turn-length (sheetLayout z) narrow (whole B) k a m) array) _
+    ∙ sheet-passes z (t .map) (length other) (turn-map (sheetLayout z) narrow (whole B) k a m z map) long
+
+-- Every one of some sheets has the length of a sheet.
+abbrev pub Sheets : List (List ℕ) → Type 0
+Sheets [] = Unit {0}
+Sheets (s ∷ ss) = (length s ≡ 98) × Sheets ss
+
+-- ---- one rebuild
+
+-- With a limit that is no less than the number of erased disks, the turn is the only one: it is a rebuild without turns, that of
+-- paper 01, which makes all repairs and then tests every stripe.
+pub rebuild-whole : (z : Size) (B : ℕ) (a m sheet : List ℕ) (k : ℕ) → 0 < k → count (disks z) (erasures m) ≤ k
+    → rebuildTurn z B a m sheet k
+    ≡ cond (eqb (bufferRefusal z B a m sheet) 0) (wholeRebuild (sheetLayout z) narrow (whole B) a m)
+    (record { answer = Refused (bufferRefusal z B a m sheet); array = a; map = m; sheet = sheet })
+unfolding rebuildTurn
+rebuild-whole z B a m sheet k some enough =
+    rw (
+      limit-passed z B a m sheet k some,
+      whole-turn (sheetLayout z) narrow (whole B) k a m (rw (layout-disks z (narrow .base)) enough),
+    )
 
 -- ---- the grid
 
@@ -76,14 +122,18 @@ loop-few = loop-bound
 
 -- ---- the calls
 
--- The contents of an erased block count for nothing: two arrays with the same survivors get the same answer, the same sheet and,
--- unless the loss is fatal, the same array.
-pub contents-free : (z : Size) (B : ℕ) (a b m sheet : List ℕ)
-    → refusal (rebuildTests z B (length a) m (length sheet)) ≡ 0 → length b ≡ length a → Agree (sheetLayout z) (whole B) (erasures m) a b
-    → (rebuildOutcome z B b m sheet ≡ rebuildOutcome z B a m sheet) × (rebuildSheet z B b m sheet ≡ rebuildSheet z B a m sheet)
-    × (fatal (sheetLayout z) (erasures m) ≡ false → rebuildArray z B b m sheet ≡ rebuildArray z B a m sheet)
-contents-free z B a b m sheet ok long same =
-    (same-outcome z B a b m sheet ok long same, same-sheet z B a b m sheet ok long same, same-array z B a b m sheet ok long same)
+-- The contents of an erased block count for nothing: two arrays with the same survivors get the same answer, the same map and the
+-- same sheet, and agree on the survivors that there are then.
+pub contents-free : (z : Size) (B : ℕ) (a b m sheet : List ℕ) (k : ℕ) → rebuildRefusal z B a m sheet k ≡ 0
+    → length b ≡ length a → Agree (sheetLayout z) (whole B) (erasures m) a b
+    → let t = rebuildTurn z B a m sheet k in let u = rebuildTurn z B b m sheet k in
+    (u .answer ≡ t .answer) × (u .map ≡ t .map) × (u .sheet ≡ t .sheet) × Agree (sheetLayout z) (whole B) (erasures (t .map)) (t .array) (u .array)
+unfolding rebuildRefusal whole
+contents-free z B a b m sheet k ok long same =
+    let (buffers, some) = rebuild-fits z B a m sheet k ok in
+    let (array, fits, sheet-long) = buffers-fit z B a m sheet buffers in
+    let t = same-turn (sheetLayout z) narrow B (block-fits B (array .block) .low) a b m (layout-sized z (narrow .base) B a (array .long)) long same k in
+    rw (rebuild-turns z B a m sheet k ok, rebuild-turns z B b m sheet k ((rw long) ∙ ok)) (t .answer, t .map, t .sheet, t .array)
 
 -- The edition of paper 01 is lawful.
 superparity-lawful : (z : Size) → sizeFits z ≡ true → Lawful (superparity z (narrow .base)) narrow
@@ -107,20 +157,69 @@ unfolding planOutcome planSheet superparity planTests
 plan-planned z m sheet ok =
     rw ok (planned (superparity z (narrow .base)) narrow (superparity-lawful z (passed 1 (sizeFits z) _ (omega arith) ok .0)) (erasures m))
 
--- Demand 3 holds of what plan and rebuild are defined to give, for every input that the refusals before 6 let through.
-pub demand3 : (z : Size) (B : ℕ) (a m s₁ s₂ : List ℕ) → Bytes a
-    → refusal (planTests z m (length s₁)) ≡ 0 → refusal (rebuildTests z B (length a) m (length s₂)) ≡ 0
-    → Demand3 (superparity z (narrow .base)) narrow B a m
+-- Turn after turn rebuild does as a turn does, if nothing is refused at first and every sheet that follows is one.
+pub rebuilds-turns : (z : Size) (B k : ℕ) (a m s : List ℕ) (ss : List (List ℕ)) → rebuildRefusal z B a m s k ≡ 0 → Sheets ss
+    → rebuildTurns z B k (s ∷ ss) a m ≡ turnsOf (sheetLayout z) narrow (whole B) k (s ∷ ss) a m
+unfolding turnsBy
+rebuilds-turns z B k a m s [] ok long = rw (rebuild-turns z B a m s k ok) refl
+rebuilds-turns z B k a m s (s₂ ∷ ss) ok long =
+    let t : Turn = turnOf (sheetLayout z) narrow (whole B) k a m in
+    rw (rebuild-turns z B a m s k ok)
+    (ap (λ (rest : List Turn). t ∷ cond (unfinished (sheetLayout z) t) rest [])
+    (rebuilds-turns z B k (t .array) (t .map) s₂ ss (next-turn z B a m s k ok s₂ (long .0)) (long .1)))
+
+-- With survivors of a sealed array and a loss that is not fatal, the turns end as one rebuild does that makes all repairs: with the
+-- same array and the same map.
+pub turns-as-one : (z : Size) (B k : ℕ) (a m s : List ℕ) (ss : List (List ℕ)) → Bytes a
+    → rebuildRefusal z B a m s k ≡ 0 → Sheets ss → rows z + columns z + 1 ≤ length (s ∷ ss) * k
+    → fatal (sheetLayout z) (erasures m) ≡ false → Belongs (sheetLayout z) (whole B) (erasures m) a
+    → (before : Turn) (all : ℕ) → 0 < all → count (disks z) (erasures m) ≤ all
+    → let end = lastOf before (rebuildTurns z B k (s ∷ ss) a m) in let one = rebuildTurn z B a m s all in
+    (end .array ≡ one .array) × (end .map ≡ one .map)
+unfolding whole
+turns-as-one z B k a m s ss small ok long enough fine belongs before all any most =
+    let (buffers, some) = rebuild-fits z B a m s k ok in
+    let (array, fits, sheet-long) = buffers-fit z B a m s buffers in
+    let L = sheetLayout z in
+    let w = repairs L (erasures m) in
+    let few = repairs-few z (narrow .base) (rows-below z (array .size)) (erasures m) w (repairs-peels L (erasures m)) in
+    let sealed = all-judged L (erasures m) (layout-ordered z (narrow .base) (rows-below z (array .size))) fine B a (layout-sized z (narrow .base) B a (array .long)) small .1 belongs in
+    rw (rebuilds-turns z B k a m s ss ok long, rebuild-whole z B a m s all any most, buffers)
+    (as-whole L narrow (whole B) k some a m fine before (turnsOf L narrow (whole B) k (s ∷ ss) a m)
+    (shape L narrow (whole B) k some s ss a m fine (omega arith) before) sealed)
+
+-- Demand 3 holds of what plan is defined to give and of rebuild's turns, for every input that the refusals before 6 let through, if
+-- the turns may make as many repairs as a loss can take.
+pub demand3 : (z : Size) (B k : ℕ) (a m s₁ s : List ℕ) (ss : List (List ℕ)) → Bytes a
+    → refusal (planTests z m (length s₁)) ≡ 0 → rebuildRefusal z B a m s k ≡ 0 → Sheets ss → rows z + columns z + 1 ≤ length (s ∷ ss) * k
+    → (before : Turn) → let ts = rebuildTurns z B k (s ∷ ss) a m in
+    Demand3 (superparity z (narrow .base)) narrow B k a m
     (record {
       planned = planOutcome z m s₁;
       planSheet = planSheet z m s₁;
-      rebuilt = rebuildOutcome z B a m s₂;
-      array = rebuildArray z B a m s₂;
-      sheet = rebuildSheet z B a m s₂;
+      last = lastOf before ts .answer;
+      made = madeBy ts;
+      array = lastOf before ts .array;
+      map = lastOf before ts .map;
+      sheets = map (λ (t : Turn). t .sheet) ts;
     })
-unfolding planOutcome planSheet rebuildOutcome rebuildArray rebuildSheet rebuildRefusal choose rebuildTests resultsOf superparity whole
-demand3 z B a m s₁ s₂ small planOk rebuildOk =
-    let fits : ArrayFits z B (length a) = array-tests z B (length a) _ rebuildOk .0 in
-    rw (planOk, rebuildOk)
-    (edition-demand3 (superparity z (narrow .base)) narrow (superparity-lawful z (fits .size)) B (block-fits B (fits .block) .low) a m small
-    (layout-sized z (narrow .base) B a (fits .long)))
+unfolding planOutcome planSheet resultsOf superparity turnsBy lastOf whole
+demand3 z B k a m s₁ s ss small planOk rebuildOk long enough before =
+    let (buffers, some) = rebuild-fits z B a m s k rebuildOk in
+    let (array, fits, sheet-long) = buffers-fit z B a m s buffers in
+    rw planOk
+    (subst
+    (λ (ts : List Turn).
+    Demand3 (superparity z (narrow .base)) narrow B k a m
+    (record {
+      planned = lossOutcome (sheetLayout z) (erasures m);
+      planSheet = lossSheet (sheetLayout z) narrow (erasures m);
+      last = lastOf before ts .answer;
+      made = madeBy ts;
+      array = lastOf before ts .array;
+      map = lastOf before ts .map;
+      sheets = map (λ (t : Turn). t .sheet) ts;
+    }))
+    (sym (rebuilds-turns z B k a m s ss rebuildOk long))
+    (edition-demand3 (superparity z (narrow .base)) narrow (superparity-lawful z (array .size)) B (block-fits B (array .block) .low) k some s ss enough a m small
+    (layout-sized z (narrow .base) B a (array .long))))

@@ -5,7 +5,7 @@ use mathlib.Core.Path.{_≡_, refl, sym, _∙_, ap}
 use mathlib.Core.Bool.{Bool, true, false, cond, true≢false}
 use mathlib.Core.Logic.{_↔_, _⊎_, inl, inr}
 use mathlib.Core.List.{List, _++_}
-use Prim.Native.Nat.{ℕ, _≤_}
+use Prim.Native.Nat.{ℕ, _≤_, _<_}
 use native.Mathlib.Omega.{arith}
 use borrow.Author.Tests.{ne-eqb, eqb-true, eqb-false}
 use lib.Dec.{eqb}
@@ -13,14 +13,15 @@ use lib.ListN.{length, getD}
 use Rattle.stripes.specs.Fold.{count}
 use Rattle.stripes.specs.System.{among, whole, Codeword, Bytes, consistent}
 use Rattle.stripes.specs.Erased.{erasures, Agree, Belongs}
-use Rattle.stripes.specs.Repair.{Entry, repairs, fatal, zeroed, clears}
+use Rattle.stripes.specs.Repair.{Entry, repairs, fatal, rebuilt, zeroed, clears}
 use Rattle.stripes.specs.Cycle.{shownCycle}
 use Rattle.model.specs.Grid.{disks, sizeFits, blockFits, arrayBytes, mapFits}
 use Rattle.model.specs.Refusal.{Test, refusal, arrayTests}
 use Rattle.model.specs.Sheet.{sheetOf, narrow, sheetBytes}
 use Rattle.model.specs.Chain.{entryAt, nextNumber, chainNumbers, within, chainFits, chainEntries}
 use Rattle.model.specs.Plan.{sheetTests, planTests, outcomeStatus, lossOutcome, lossSheet, planSheet, sheetLayout}
-use Rattle.model.specs.Rebuild.{rebuildTests, rebuildRefusal, repairedArray, choose, rebuildOutcome, rebuildArray, loss}
+use Rattle.model.specs.Turn.{Turn, lossTold, contradiction, repairsMade, turnOf, wholeRebuild}
+use Rattle.model.specs.Rebuild.{bufferTests, bufferRefusal, rebuildRefusal, rebuildTurn}
 use Rattle.model.specs.Follow.{Usable, followedArray, followTests, followStatus, followOutcome, followArray}
 use Rattle.model.specs.declared.Size.{Size}
 use Rattle.model.specs.declared.Outcome.{Outcome}
@@ -29,13 +30,14 @@ use Rattle.stripes.proofs.Fold.{by-cases}
 use Rattle.stripes.proofs.Peel.{repairs-peels, repairs-count}
 use Rattle.stripes.proofs.Sums.{consistent-iff}
 use Rattle.stripes.proofs.Clears.{clears-peels, clears-length, clears-fine, repairs-clear, clears-restored, clears-judged, clears-alike}
-use Rattle.model.proofs.Grid.{layout-disks, layout-ordered, layout-sized, rows-below}
+use Rattle.model.proofs.Grid.{block-fits, layout-disks, layout-ordered, layout-sized, rows-below}
 use Rattle.model.proofs.Refusal.{passes, by-test, refused-first, passed, ArrayFits, array-tests, array-passed}
 use Rattle.model.proofs.Limits.{peels-fitting}
-use Rattle.model.proofs.Accept.{sheet-small}
+use Rattle.model.proofs.Accept.{first-five, buffers-fit, buffers-passed}
 use Rattle.model.proofs.Sheets.{sheet-length}
 use Rattle.model.proofs.Chain.{written-chain, loop-sheet-unfit, Linked, linked-fits, off-chain}
-use Rattle.model.proofs.Demand3.{contents-free}
+use Rattle.model.proofs.Contents.{same-whole}
+use Rattle.model.proofs.Demand3.{rebuild-whole}
 
 -- Follow answers o and leaves the array as b.
 abbrev pub Gives : Size → ℕ → (a m s : List ℕ) → Outcome → (b : List ℕ) → Type 0
@@ -43,26 +45,6 @@ Gives z B a m s o b = (followOutcome z B a m s ≡ o) × (followArray z B a m s 
 
 -- ---- what follow gives, by its number
 module _ (z : Size) (B : ℕ) (a m s : List ℕ) where
-  -- Rebuild's tests refuse by 1 to 5. Where they are passed, the array fits, and the tests that follow decide.
-  first-five : rebuildRefusal z B a m s ≤ 5
-  unfolding rebuildRefusal rebuildTests arrayTests
-  first-five =
-      by-test (λ k. k ≤ 5) 1 (sizeFits z) _ (omega arith)
-      (by-test (λ k. k ≤ 5) 2 (blockFits B) _ (omega arith)
-      (by-test (λ k. k ≤ 5) 3 (eqb (length a) (arrayBytes z B)) _ (omega arith) (sheet-small z m (length s))))
-
-  fits : rebuildRefusal z B a m s ≡ 0 → ArrayFits z B (length a)
-  unfolding rebuildRefusal rebuildTests
-  fits ok = array-tests z B (length a) _ ok .0
-
-  decided : rebuildRefusal z B a m s ≡ 0 → (ts : List Test) → refusal (rebuildTests z B (length a) m (length s) ++ ts) ≡ refusal ts
-  unfolding rebuildRefusal rebuildTests arrayTests sheetTests
-  decided ok ts =
-      let (array, e) = array-tests z B (length a) _ ok in
-      let (map, e₂) = passed 4 (mapFits z m) _ (omega arith) e in
-      let (long, e₃) = passed 5 (eqb (length s) (sheetBytes narrow)) _ (omega arith) e₂ in
-      array-passed z B (length a) array _ ∙ passes 4 (mapFits z m) _ map ∙ passes 5 (eqb (length s) (sheetBytes narrow)) ts long
-
   -- What follow gives where it refuses by k, or where k is 0.
   pub follow-given : (k : ℕ) → followStatus z B a m s ≡ k
       → Gives z B a m s (cond (eqb k 0) (Repairs (length (chainEntries narrow s))) (Refused k))
@@ -85,29 +67,30 @@ seven-only true false r e = absurd (omega arith)
 seven-only false q r e = absurd (omega arith)
 
 -- Rebuild keeps the array where the loss is fatal.
-rebuild-kept : (z : Size) (B : ℕ) (a m t : List ℕ) → fatal (sheetLayout z) (erasures m) ≡ true → rebuildArray z B a m t ≡ a
-unfolding rebuildArray choose loss
-rebuild-kept z B a m t lossy = rw lossy (by-cases (λ (u : Bool). cond u a a ≡ a) (eqb (rebuildRefusal z B a m t) 0) (λ e. refl) (λ e. refl))
+rebuild-kept : (z : Size) (B : ℕ) (a m t : List ℕ) (k : ℕ) → fatal (sheetLayout z) (erasures m) ≡ true → rebuildTurn z B a m t k .array ≡ a
+unfolding rebuildTurn turnOf lossTold
+rebuild-kept z B a m t k lossy =
+    rw lossy (by-cases (λ (u : Bool). cond u (lossTold (sheetLayout z) narrow a m) (record { answer = Refused (rebuildRefusal z B a m t k); array = a; map = m; sheet = t }) .array ≡ a) (eqb (rebuildRefusal z B a m t k) 0) (λ e. refl) (λ e. refl))
 
 -- ---- paper 01's words
 module _ (z : Size) (B : ℕ) (a m s : List ℕ) where
   -- Follow: 1, 2, 3, 4, 5. They are rebuild's, and nothing changes.
-  pub follow-first : (rebuildRefusal z B a m s ≡ 0 → ⊥) → Gives z B a m s (Refused (rebuildRefusal z B a m s)) a
-  unfolding followStatus followTests rebuildRefusal
+  pub follow-first : (bufferRefusal z B a m s ≡ 0 → ⊥) → Gives z B a m s (Refused (bufferRefusal z B a m s)) a
+  unfolding followStatus followTests bufferRefusal
   follow-first refused =
-      let k = rebuildRefusal z B a m s in
+      let k = bufferRefusal z B a m s in
       let few : k ≤ 5 = first-five z B a m s in
       rw (ne-eqb k 0 refused, ne-eqb k 7 (λ e. omega arith)) at
-      (follow-given z B a m s k (refused-first (rebuildTests z B (length a) m (length s)) _ refused))
+      (follow-given z B a m s k (refused-first (bufferTests z B (length a) m (length s)) _ refused))
 
   -- Otherwise 10 exactly if the chain does not fit; else 11 exactly if a step is not an allowed repair or a disk stays erased; else 7
   -- exactly if a stripe's sum is not zero after the repairs.
-  pub follow-order : rebuildRefusal z B a m s ≡ 0
+  pub follow-order : bufferRefusal z B a m s ≡ 0
       → followStatus z B a m s
       ≡ cond (chainFits narrow s)
       (cond (clears (sheetLayout z) (erasures m) (chainEntries narrow s)) (cond (consistent (sheetLayout z) (whole B) (followedArray z B a s)) 0 7) 11) 10
   unfolding followStatus followTests refusal
-  follow-order ok = decided z B a m s ok _
+  follow-order ok = buffers-passed z B a m s ok _
 
   -- Numbers 10 and 11 come before any block is changed: after a refusal by a number other than 7 the array is as it was.
   pub follow-refused : (outcomeStatus (followOutcome z B a m s) ≡ 0 → ⊥) → (outcomeStatus (followOutcome z B a m s) ≡ 7 → ⊥)
@@ -117,7 +100,7 @@ module _ (z : Size) (B : ℕ) (a m s : List ℕ) where
       let status = status-is z B a m s in
       rw (ne-eqb (followStatus z B a m s) 0 (λ e. some (status ∙ e)), ne-eqb (followStatus z B a m s) 7 (λ e. other (status ∙ e)))
 
-  module _ (ok : rebuildRefusal z B a m s ≡ 0) where
+  module _ (ok : bufferRefusal z B a m s ≡ 0) where
     -- 10, and nothing changes.
     pub follow-ten : chainFits narrow s ≡ false → Gives z B a m s (Refused 10) a
     follow-ten unfit = follow-given z B a m s 10 (follow-order ok ∙ (rw unfit))
@@ -131,7 +114,7 @@ module _ (z : Size) (B : ℕ) (a m s : List ℕ) where
         → (consistent (sheetLayout z) (whole B) (followedArray z B a s) ≡ true) ↔ Belongs (sheetLayout z) (whole B) (erasures m) a
     unfolding followedArray
     follow-judged (chain, clear) =
-        let array = fits z B a m s ok in
+        let array = buffers-fit z B a m s ok .0 in
         clears-judged (sheetLayout z) (layout-ordered z (narrow .base) (rows-below z (array .size)) .bounded) B (erasures m) a (layout-sized z (narrow .base) B a (array .long)) (chainEntries narrow s) clear
 
     -- If they do, the array becomes that one, and the count of repairs is that of the erased disks.
@@ -139,7 +122,7 @@ module _ (z : Size) (B : ℕ) (a m s : List ℕ) where
         → Gives z B a m s (Repairs (count (disks z) (erasures m))) b
     unfolding followedArray
     follow-restores (chain, clear) b word agree =
-        let array = fits z B a m s ok in
+        let array = buffers-fit z B a m s ok .0 in
         let is : followedArray z B a s ≡ b =
         clears-restored (sheetLayout z) (layout-ordered z (narrow .base) (rows-below z (array .size)) .bounded) B (erasures m) a (layout-sized z (narrow .base) B a (array .long))
         (chainEntries narrow s) clear b word agree in
@@ -175,60 +158,70 @@ module _ (z : Size) (B : ℕ) (a m s : List ℕ) where
   -- On a map whose loss is fatal follow changes nothing, whatever the sheet, and refuses by 10 or 11 where it has not refused before.
   pub follow-fatal : fatal (sheetLayout z) (erasures m) ≡ true
       → (followArray z B a m s ≡ a)
-      × (rebuildRefusal z B a m s ≡ 0 → (followOutcome z B a m s ≡ Refused 10) ⊎ (followOutcome z B a m s ≡ Refused 11))
-  follow-fatal lossy = go (eqb (rebuildRefusal z B a m s) 0) refl (chainFits narrow s) refl (clears (sheetLayout z) (erasures m) (chainEntries narrow s)) refl
+      × (bufferRefusal z B a m s ≡ 0 → (followOutcome z B a m s ≡ Refused 10) ⊎ (followOutcome z B a m s ≡ Refused 11))
+  follow-fatal lossy = go (eqb (bufferRefusal z B a m s) 0) refl (chainFits narrow s) refl (clears (sheetLayout z) (erasures m) (chainEntries narrow s)) refl
     where
-      go : (u : Bool) → eqb (rebuildRefusal z B a m s) 0 ≡ u → (p : Bool) → chainFits narrow s ≡ p
+      go : (u : Bool) → eqb (bufferRefusal z B a m s) 0 ≡ u → (p : Bool) → chainFits narrow s ≡ p
           → (q : Bool) → clears (sheetLayout z) (erasures m) (chainEntries narrow s) ≡ q
           → (followArray z B a m s ≡ a)
-          × (rebuildRefusal z B a m s ≡ 0 → (followOutcome z B a m s ≡ Refused 10) ⊎ (followOutcome z B a m s ≡ Refused 11))
+          × (bufferRefusal z B a m s ≡ 0 → (followOutcome z B a m s ≡ Refused 10) ⊎ (followOutcome z B a m s ≡ Refused 11))
       go false e p chain q clear =
-          let refused = eqb-false (rebuildRefusal z B a m s) 0 e in (follow-first refused .1, λ ok. absurd (refused ok))
+          let refused = eqb-false (bufferRefusal z B a m s) 0 e in (follow-first refused .1, λ ok. absurd (refused ok))
       go true e false unfit q clear =
-          let (answer, kept) = follow-ten (eqb-true (rebuildRefusal z B a m s) 0 e) unfit in (kept, λ ok. inl answer)
+          let (answer, kept) = follow-ten (eqb-true (bufferRefusal z B a m s) 0 e) unfit in (kept, λ ok. inl answer)
       go true e true chain false unclear =
-          let (answer, kept) = follow-eleven (eqb-true (rebuildRefusal z B a m s) 0 e) chain unclear in (kept, λ ok. inr answer)
+          let (answer, kept) = follow-eleven (eqb-true (bufferRefusal z B a m s) 0 e) chain unclear in (kept, λ ok. inr answer)
       go true e true chain true clear =
           absurd (true≢false (sym lossy ∙ clears-fine (sheetLayout z) (erasures m) (chainEntries narrow s) clear))
 
--- Otherwise the array is as after rebuild: follow on s and rebuild on t give the same answer and the same array.
-abbrev pub AsRebuild : Size → ℕ → (a m s t : List ℕ) → Type 0
-AsRebuild z B a m s t = Gives z B a m s (rebuildOutcome z B a m t) (rebuildArray z B a m t)
-
--- It is so for every usable sheet: in which order disks are repaired, and by which stripes, counts for nothing. Where the other
--- arguments or the survivors are refused, they are refused alike.
-pub follow-any : (z : Size) (B : ℕ) (a m s t : List ℕ) → length s ≡ length t → Bytes a → Usable z m s → AsRebuild z B a m s t
-unfolding rebuildRefusal rebuildOutcome rebuildArray choose loss lossOutcome followedArray repairedArray
-follow-any z B a m s t long small (chain, clear) =
-    go (eqb (rebuildRefusal z B a m t) 0) refl (consistent (sheetLayout z) (whole B) (repairedArray (sheetLayout z) (whole B) a (erasures m))) refl
+-- Otherwise the array is as after rebuild: follow on s gives the answer and the array of a rebuild without turns. It is so for every
+-- usable sheet: in which order disks are repaired, and by which stripes, counts for nothing.
+pub follow-whole : (z : Size) (B : ℕ) (a m s : List ℕ) → bufferRefusal z B a m s ≡ 0 → Bytes a → Usable z m s
+    → let t = wholeRebuild (sheetLayout z) narrow (whole B) a m in Gives z B a m s (t .answer) (t .array)
+unfolding wholeRebuild repairsMade contradiction followedArray
+follow-whole z B a m s ok small (chain, clear) = go (consistent (sheetLayout z) (whole B) (rebuilt (sheetLayout z) (whole B) a w)) refl
   where
-    same : rebuildRefusal z B a m s ≡ rebuildRefusal z B a m t
-    same = rw long
+    w : List Entry
+    w = repairs (sheetLayout z) (erasures m)
 
     fine : fatal (sheetLayout z) (erasures m) ≡ false
     fine = clears-fine (sheetLayout z) (erasures m) (chainEntries narrow s) clear
 
-    alike : rebuildRefusal z B a m s ≡ 0
-        → (consistent (sheetLayout z) (whole B) (followedArray z B a s) ≡ consistent (sheetLayout z) (whole B) (repairedArray (sheetLayout z) (whole B) a (erasures m)))
-        × (consistent (sheetLayout z) (whole B) (repairedArray (sheetLayout z) (whole B) a (erasures m)) ≡ true → followedArray z B a s ≡ repairedArray (sheetLayout z) (whole B) a (erasures m))
-    alike ok =
-        let array = fits z B a m s ok in
+    alike : (consistent (sheetLayout z) (whole B) (followedArray z B a s) ≡ consistent (sheetLayout z) (whole B) (rebuilt (sheetLayout z) (whole B) a w))
+        × (consistent (sheetLayout z) (whole B) (rebuilt (sheetLayout z) (whole B) a w) ≡ true → followedArray z B a s ≡ rebuilt (sheetLayout z) (whole B) a w)
+    alike =
+        let array = buffers-fit z B a m s ok .0 in
         clears-alike (sheetLayout z) (layout-ordered z (narrow .base) (rows-below z (array .size)) .bounded) B (erasures m) a (layout-sized z (narrow .base) B a (array .long)) small
-        (chainEntries narrow s) (repairs (sheetLayout z) (erasures m)) clear (repairs-clear (sheetLayout z) (erasures m) fine)
+        (chainEntries narrow s) w clear (repairs-clear (sheetLayout z) (erasures m) fine)
 
-    go : (u : Bool) → eqb (rebuildRefusal z B a m t) 0 ≡ u
-        → (v : Bool) → consistent (sheetLayout z) (whole B) (repairedArray (sheetLayout z) (whole B) a (erasures m)) ≡ v → AsRebuild z B a m s t
-    go false e v j =
-        let (answer, left) = follow-first z B a m s (λ q. eqb-false (rebuildRefusal z B a m t) 0 e (sym same ∙ q)) in
-        rw e (answer ∙ ap Refused same, left)
-    go true e true j =
-        let ok = same ∙ eqb-true (rebuildRefusal z B a m t) 0 e in
-        let (answer, left) = follow-given z B a m s 0 (follow-order z B a m s ok ∙ (rw (chain, clear, alike ok .0, j))) in
+    go : (v : Bool) → consistent (sheetLayout z) (whole B) (rebuilt (sheetLayout z) (whole B) a w) ≡ v
+        → Gives z B a m s (wholeRebuild (sheetLayout z) narrow (whole B) a m .answer) (wholeRebuild (sheetLayout z) narrow (whole B) a m .array)
+    go true j =
+        let (answer, left) = follow-given z B a m s 0 (follow-order z B a m s ok ∙ (rw (chain, clear, alike .0, j))) in
         let count-is = clears-length (sheetLayout z) (erasures m) (chainEntries narrow s) clear ∙ sym (repairs-count (sheetLayout z) (erasures m) fine) in
-        rw (e, fine, j) (answer ∙ ap Repairs count-is, left ∙ alike ok .1 j)
-    go true e false j =
-        let ok = same ∙ eqb-true (rebuildRefusal z B a m t) 0 e in
-        rw (e, fine, j) (follow-given z B a m s 7 (follow-order z B a m s ok ∙ (rw (chain, clear, alike ok .0, j))))
+        rw (fine, j) (answer ∙ ap Repairs count-is, left ∙ alike .1 j)
+    go false j = rw (fine, j) (follow-given z B a m s 7 (follow-order z B a m s ok ∙ (rw (chain, clear, alike .0, j))))
+
+-- So follow on s and rebuild on t, with a limit that is no less than the number of erased disks, give the same answer and the same
+-- array. Where the other arguments are refused, they are refused alike.
+abbrev pub AsRebuild : Size → ℕ → (a m s t : List ℕ) → Type 0
+AsRebuild z B a m s t =
+    (k : ℕ) → 0 < k → count (disks z) (erasures m) ≤ k → Gives z B a m s (rebuildTurn z B a m t k .answer) (rebuildTurn z B a m t k .array)
+
+pub follow-any : (z : Size) (B : ℕ) (a m s t : List ℕ) → length s ≡ length t → Bytes a → Usable z m s → AsRebuild z B a m s t
+unfolding bufferRefusal
+follow-any z B a m s t long small usable k some enough = rw (rebuild-whole z B a m t k some enough) (go (eqb (bufferRefusal z B a m t) 0) refl)
+  where
+    same : bufferRefusal z B a m s ≡ bufferRefusal z B a m t
+    same = rw long
+
+    go : (u : Bool) → eqb (bufferRefusal z B a m t) 0 ≡ u
+        → let r = cond u (wholeRebuild (sheetLayout z) narrow (whole B) a m) (record { answer = Refused (bufferRefusal z B a m t); array = a; map = m; sheet = t }) in
+        Gives z B a m s (r .answer) (r .array)
+    go true e = follow-whole z B a m s (same ∙ eqb-true (bufferRefusal z B a m t) 0 e) small usable
+    go false e =
+        let (answer, left) = follow-first z B a m s (λ q. eqb-false (bufferRefusal z B a m t) 0 e (sym same ∙ q)) in
+        (answer ∙ ap Refused same, left)
 
 module _ (z : Size) (B : ℕ) (a m s₁ t : List ℕ) (planOk : refusal (planTests z m (length s₁)) ≡ 0) (long : length t ≡ sheetBytes narrow) where
   -- It is so for the sheet that plan leaves,
@@ -243,13 +236,13 @@ module _ (z : Size) (B : ℕ) (a m s₁ t : List ℕ) (planOk : refusal (planTes
 
   -- unless it shows a loop: then neither changes the array, and follow refuses by 10 where rebuild calls the loss fatal.
   pub follow-loop : fatal (sheetLayout z) (erasures m) ≡ true
-      → (followArray z B a m (planSheet z m s₁) ≡ a) × (rebuildArray z B a m t ≡ a)
-      × (rebuildRefusal z B a m t ≡ 0 → followOutcome z B a m (planSheet z m s₁) ≡ Refused 10)
-  unfolding planSheet lossSheet rebuildRefusal
+      → (followArray z B a m (planSheet z m s₁) ≡ a) × ((k : ℕ) → rebuildTurn z B a m t k .array ≡ a)
+      × (bufferRefusal z B a m t ≡ 0 → followOutcome z B a m (planSheet z m s₁) ≡ Refused 10)
+  unfolding planSheet lossSheet bufferRefusal
   follow-loop lossy =
       let w : List Entry = shownCycle (sheetLayout z) (erasures m) in (
         follow-fatal z B a m (planSheet z m s₁) lossy .0,
-        rebuild-kept z B a m t lossy,
+        λ k. rebuild-kept z B a m t k lossy,
         λ ok. rw (planOk, lossy) (follow-ten z B a m (sheetOf narrow 2 w) (rw (sheet-length narrow 2 w, ← long) ok) (loop-sheet-unfit narrow w (λ q. omega arith)) .0),
       )
 
@@ -280,14 +273,14 @@ follow-list z size B a m t long small w clear =
 
 -- The contents of an erased block count for nothing: two arrays with the same survivors get the same answer and, from a usable
 -- sheet, the same array.
-pub follow-contents-free : (z : Size) (B : ℕ) (a b m s : List ℕ) → rebuildRefusal z B a m s ≡ 0 → Bytes a → Bytes b
+pub follow-contents-free : (z : Size) (B : ℕ) (a b m s : List ℕ) → bufferRefusal z B a m s ≡ 0 → Bytes a → Bytes b
     → length b ≡ length a → Agree (sheetLayout z) (whole B) (erasures m) a b
     → (followOutcome z B b m s ≡ followOutcome z B a m s) × (Usable z m s → followArray z B b m s ≡ followArray z B a m s)
-unfolding rebuildRefusal
+unfolding bufferRefusal
 follow-contents-free z B a b m s ok small small₂ long same =
     go (chainFits narrow s) refl (clears (sheetLayout z) (erasures m) (chainEntries narrow s)) refl
   where
-    ok₂ : rebuildRefusal z B b m s ≡ 0
+    ok₂ : bufferRefusal z B b m s ≡ 0
     ok₂ = (rw long) ∙ ok
 
     go : (p : Bool) → chainFits narrow s ≡ p → (q : Bool) → clears (sheetLayout z) (erasures m) (chainEntries narrow s) ≡ q
@@ -301,9 +294,11 @@ follow-contents-free z B a b m s ok small small₂ long same =
       λ usable. absurd (true≢false (sym (usable .1) ∙ unclear)),
     )
     go true chain true clear =
-        let (answer, left) = follow-any z B a m s s refl small (chain, clear) in
-        let (answer₂, left₂) = follow-any z B b m s s refl small₂ (chain, clear) in
-        let (outcome, sheet, array) = contents-free z B a b m s ok long same in (
-          answer₂ ∙ outcome ∙ sym answer,
-          λ usable. left₂ ∙ array (clears-fine (sheetLayout z) (erasures m) (chainEntries narrow s) clear) ∙ sym left,
+        let array = buffers-fit z B a m s ok .0 in
+        let fine = clears-fine (sheetLayout z) (erasures m) (chainEntries narrow s) clear in
+        let equal = same-whole (sheetLayout z) narrow B (block-fits B (array .block) .low) a b m (layout-sized z (narrow .base) B a (array .long)) long same fine in
+        let (answer, left) = follow-whole z B a m s ok small (chain, clear) in
+        let (answer₂, left₂) = follow-whole z B b m s ok₂ small₂ (chain, clear) in (
+          answer₂ ∙ ap (λ (t : Turn). t .answer) equal ∙ sym answer,
+          λ usable. left₂ ∙ ap (λ (t : Turn). t .array) equal ∙ sym left,
         )

@@ -11,6 +11,7 @@ pub mod Sheets
 pub mod Limits
 pub mod Chain
 pub mod Contents
+pub mod Turns
 pub mod Losses
 pub mod Demand3
 pub mod Follow

@@ -1,27 +1,29 @@
 -- What comes of a loss in any edition of the array, and what demand 3 asks of an edition.
 -- Assumes nothing.
-use mathlib.Core.Path.{_≡_, refl, sym, _∙_, ap}
-use mathlib.Core.Bool.{Bool, true, false, true≢false}
-use mathlib.Core.List.{List}
-use Prim.Native.Nat.{ℕ, _*_, _≤_, _<_}
+use mathlib.Core.Path.{_≡_, refl, sym, _∙_, ap, subst}
+use mathlib.Core.Bool.{Bool, true, false, cond, true≢false}
+use mathlib.Core.List.{List, [], _∷_, map}
+use Prim.Native.Nat.{ℕ, suc, _*_, _-_, _≤_, _<_}
 use native.Mathlib.Omega.{arith}
-use lib.ListN.{length}
+use lib.ListN.{length, length-map}
 use Rattle.stripes.specs.Fold.{count}
 use Rattle.stripes.specs.System.{Layout, TwoStripes, whole, Codeword, Bytes, consistent, Ordered}
 use Rattle.stripes.specs.Erased.{erasures, Agree, Belongs}
-use Rattle.stripes.specs.Repair.{Entry, Peels, repairs, lost, fatal, zeroed}
+use Rattle.stripes.specs.Repair.{Entry, Peels, repairs, mapAfter, lost, fatal, rebuilt, zeroed}
 use Rattle.stripes.specs.Cycle.{Cycle, shownCycle}
 use Rattle.model.specs.Sheet.{Format, sheetOf, blankSheet}
 use Rattle.model.specs.Plan.{lossOutcome, lossSheet, outcomeStatus}
-use Rattle.model.specs.Rebuild.{repairedArray, loss}
+use Rattle.model.specs.Turn.{Turn, clear, lossTold, contradiction, turnOf, accepted, unfinished, turnsBy, turnsOf, lastOf, repairCount, madeBy}
 use Rattle.model.specs.Edition.{Edition}
-use Rattle.model.specs.Demand3.{Planned, Results, Demand3}
+use Rattle.model.specs.Demand3.{Planned, Lists, InTurns, turnsFor, Results, Demand3}
 use Rattle.model.specs.declared.Outcome.{Outcome}
-use Rattle.model.specs.declared.Outcome.the-variants.{Repairs, Fatal, Refused}
+use Rattle.model.specs.declared.Outcome.the-variants.{Repairs, Fatal}
+use Rattle.stripes.proofs.Fold.{by-cases}
 use Rattle.stripes.proofs.Peel.{repairs-peels}
 use Rattle.stripes.proofs.Degree.{two-ordered}
 use Rattle.stripes.proofs.Trace.{shown}
 use Rattle.stripes.proofs.Theorems.{fatal-ambiguous, all-repaired, all-unique, all-ordered, all-judged, all-restored}
+use Rattle.model.proofs.Turns.{all-clear, Shape, shape, not-refused, array-restored, map-cleared, all-made, undone, made-before, turns-number}
 
 -- What is to be shown of an edition, with sheets of a format.
 pub record Lawful (E : Edition) (f : Format) : Type 0 where
@@ -75,7 +77,7 @@ module _ (E : Edition) (f : Format) (law : Lawful E f) (e : ℕ → Bool) where
         fatal = λ B some. (λ s. absurd (zero-six s), λ both. absurd (all-unique L e (two-ordered L (law .two)) fine B both));
         loop = λ s. absurd (zero-six s);
         repairs = λ no.
-            (ap Repairs number, omega arith, (repairs L e, refl, omega arith, number, all-ordered L e (two-ordered L (law .two)) fine));
+            (ap Repairs number, omega arith, (repairs L e, (refl, omega arith, number, all-ordered L e (two-ordered L (law .two)) fine)));
         few = λ few s. zero-six s;
       }
 
@@ -87,108 +89,160 @@ module _ (E : Edition) (f : Format) (law : Lawful E f) (e : ℕ → Bool) where
       go true q = rw q (plan-fatal q)
       go false q = rw q (plan-fine q)
 
--- ---- plan and rebuild
+-- ---- plan and rebuild's turns
 
--- What they give for a loss where nothing is refused.
-unfoldable pub resultsOf : Layout → Format → ℕ → (a m : List ℕ) → Results
-resultsOf L f B a m =
-    let e : ℕ → Bool = erasures m in
+-- What they give for a loss where nothing is refused: plan, and turns of k repairs with a sheet for each.
+unfoldable pub resultsOf : Layout → Format → (B k : ℕ) → (sheets : List (List ℕ)) → (a m : List ℕ) → Results
+resultsOf L f B k sheets a m =
+    let ts : List Turn = turnsOf L f (whole B) k sheets a m in
+    let end : Turn = lastOf (lossTold L f a m) ts in
     record {
-      planned = lossOutcome L e;
-      planSheet = lossSheet L f e;
-      rebuilt = loss L (whole B) a e (lossOutcome L e) (Refused 7) (lossOutcome L e);
-      array = loss L (whole B) a e a (zeroed (whole B) a e) (repairedArray L (whole B) a e);
-      sheet = loss L (whole B) a e (lossSheet L f e) (blankSheet f) (lossSheet L f e);
+      planned = lossOutcome L (erasures m);
+      planSheet = lossSheet L f (erasures m);
+      last = end .answer;
+      made = madeBy ts;
+      array = end .array;
+      map = end .map;
+      sheets = map (λ (t : Turn). t .sheet) ts;
     }
 
-module _ (E : Edition) (f : Format) (law : Lawful E f) (B : ℕ) (some : 0 < B)
+module _ (E : Edition) (f : Format) (law : Lawful E f) (B : ℕ) (some : 0 < B) (k : ℕ) (may : 0 < k) (s : List ℕ) (ss : List (List ℕ)) (enough : E .limit ≤ length (s ∷ ss) * k)
     (a m : List ℕ) (small : Bytes a) (sized : length a ≡ E .layout .disks * B) where
-  e : ℕ → Bool
+  abbrev e : ℕ → Bool
   e = erasures m
+
+  abbrev w : List Entry
+  w = repairs (E .layout) e
+
+  abbrev given : Results
+  given = resultsOf (E .layout) f B k (s ∷ ss) a m
 
   ordered : Ordered (E .layout)
   ordered = two-ordered (E .layout) (law .two)
 
-  -- A fatal loss.
-  when-fatal : fatal (E .layout) e ≡ true
-      → Demand3 E f B a m
-      (record {
+  -- A fatal loss is told in the first turn, and there is no second.
+  abbrev told : Results
+  told =
+      record {
         planned = Fatal (lost (E .layout) e);
         planSheet = sheetOf f (f .loopKind) (shownCycle (E .layout) e);
-        rebuilt = Fatal (lost (E .layout) e);
+        last = Fatal (lost (E .layout) e);
+        made = 0;
         array = a;
-        sheet = sheetOf f (f .loopKind) (shownCycle (E .layout) e);
-      })
-  unfolding outcomeStatus e
+        map = m;
+        sheets = sheetOf f (f .loopKind) (shownCycle (E .layout) e) ∷ [];
+      }
+
+  is-told : fatal (E .layout) e ≡ true → given ≡ told
+  unfolding resultsOf turnsBy turnOf lossTold lossOutcome lossSheet unfinished accepted lastOf madeBy repairCount
+  is-told lossy = rw lossy refl
+
+  when-fatal : fatal (E .layout) e ≡ true → Demand3 E f B k a m told
+  unfolding outcomeStatus
   when-fatal lossy =
       let both = fatal-ambiguous (E .layout) (law .two) e B some .0 lossy in
       record {
         plan = plan-fatal E f law e lossy;
         rebuildFatal = (λ s. both, λ am. refl);
-        kept = λ s. (refl, refl, refl);
+        kept = λ s. (refl, refl, refl, refl);
         restored = λ no b word agree. absurd (no both);
         contradicted = (λ s. absurd (six-seven s), λ h. absurd (h .0 both));
-        zeros = λ s. absurd (six-seven s);
+        undone = λ s. absurd (six-seven s);
         few = λ few. absurd (true≢false (sym lossy ∙ law .few e few));
       }
 
-  -- The survivors belong to a sealed array.
-  when-restored : fatal (E .layout) e ≡ false → consistent (E .layout) (whole B) (repairedArray (E .layout) (whole B) a e) ≡ true
-      → Demand3 E f B a m
-      (record {
-        planned = Repairs (length (repairs (E .layout) e));
-        planSheet = sheetOf f (f .repairKind) (repairs (E .layout) e);
-        rebuilt = Repairs (length (repairs (E .layout) e));
-        array = repairedArray (E .layout) (whole B) a e;
-        sheet = sheetOf f (f .repairKind) (repairs (E .layout) e);
-      })
-  unfolding outcomeStatus repairedArray e
-  when-restored fine sealed =
-      let belongs = all-judged (E .layout) e ordered fine B a sized small .0 sealed in
-      let is : (b : List ℕ) → Codeword (E .layout) (whole B) b → Agree (E .layout) (whole B) e a b
-      → repairedArray (E .layout) (whole B) a e ≡ b = λ b. all-restored (E .layout) e ordered fine B a b sized in
-      record {
-        plan = plan-fine E f law e fine;
-        rebuildFatal = (λ s. absurd (zero-six s), λ am. absurd (all-unique (E .layout) e ordered fine B am));
-        kept = λ s. absurd (zero-six s);
-        restored = λ no b word agree. (refl, refl, is b word agree);
-        contradicted = (λ s. absurd (zero-seven s), λ h. absurd (h .1 belongs));
-        zeros = λ s. absurd (zero-seven s);
-        few = λ few b word agree. (ap Repairs (all-repaired (E .layout) e ordered fine), is b word agree);
-      }
+  -- Otherwise the turns are as they have to be.
+  module _ (fine : fatal (E .layout) e ≡ false) where
+    abbrev ts : List Turn
+    ts = turnsOf (E .layout) f (whole B) k (s ∷ ss) a m
 
-  -- They belong to none.
-  when-contradicted : fatal (E .layout) e ≡ false → consistent (E .layout) (whole B) (repairedArray (E .layout) (whole B) a e) ≡ false
-      → Demand3 E f B a m
-      (record {
-        planned = Repairs (length (repairs (E .layout) e));
-        planSheet = sheetOf f (f .repairKind) (repairs (E .layout) e);
-        rebuilt = Refused 7;
-        array = zeroed (whole B) a e;
-        sheet = blankSheet f;
-      })
-  unfolding outcomeStatus repairedArray e
-  when-contradicted fine unsealed =
-      let judged = all-judged (E .layout) e ordered fine B a sized small in
-      let none : Belongs (E .layout) (whole B) e a → ⊥ = λ h. true≢false (sym (judged .1 h) ∙ unsealed) in
-      record {
-        plan = plan-fine E f law e fine;
-        rebuildFatal = (λ s. absurd (seven-six s), λ am. absurd (all-unique (E .layout) e ordered fine B am));
-        kept = λ s. absurd (seven-six s);
-        restored = λ no b word agree. absurd (none (b, word, agree));
-        contradicted = (λ s. (all-unique (E .layout) e ordered fine B, none), λ h. refl);
-        zeros = λ s. (refl, refl);
-        few = λ few b word agree. absurd (none (b, word, agree));
-      }
+    number : length w ≡ count (E .layout .disks) e
+    number = all-repaired (E .layout) e ordered fine
 
-  pub edition-demand3 : Demand3 E f B a m (resultsOf (E .layout) f B a m)
-  unfolding resultsOf lossOutcome lossSheet loss e
-  edition-demand3 =
-      go (fatal (E .layout) e) refl (consistent (E .layout) (whole B) (repairedArray (E .layout) (whole B) a e)) refl
+    formed : Shape (E .layout) f (whole B) k may a m (lossTold (E .layout) f a m) ts
+    formed =
+        let most : length w ≤ E .limit = law .limited e w (repairs-peels (E .layout) e) in
+        shape (E .layout) f (whole B) k may s ss a m fine (omega arith) (lossTold (E .layout) f a m)
+
+    plan-is : Planned E f e (given .planned) (given .planSheet)
+    unfolding resultsOf
+    plan-is = planned E f law e
+
+    listing : Lists (E .layout) f e w (given .planSheet)
+    unfolding resultsOf lossSheet
+    listing =
+        let most : length w ≤ E .limit = law .limited e w (repairs-peels (E .layout) e) in
+        let room = law .limitFits in
+        (rw fine, omega arith, number, all-ordered (E .layout) e ordered fine)
+
+    -- How the sheets end depends on the survivors.
+    in-turns : (c : Bool) → consistent (E .layout) (whole B) (rebuilt (E .layout) (whole B) a w) ≡ c
+        → InTurns f k (λ u. cond c (sheetOf f (f .repairKind) u) (blankSheet f)) w (given .sheets)
+    unfolding resultsOf
+    in-turns c q =
+        subst (λ (c : Bool). InTurns f k (λ u. cond c (sheetOf f (f .repairKind) u) (blankSheet f)) w (map (λ (t : Turn). t .sheet) ts)) q (formed .sheets)
+
+    -- The survivors belong to a sealed array.
+    when-restored : consistent (E .layout) (whole B) (rebuilt (E .layout) (whole B) a w) ≡ true → Demand3 E f B k a m given
+    unfolding resultsOf lossOutcome
+    when-restored sealed =
+        let belongs = all-judged (E .layout) e ordered fine B a sized small .0 sealed in
+        let is : (b : List ℕ) → Codeword (E .layout) (whole B) b → Agree (E .layout) (whole B) e a b → given .array ≡ b =
+        λ b word agree. array-restored (E .layout) f (whole B) k may a m fine _ ts formed sealed ∙ all-restored (E .layout) e ordered fine B a b sized word agree in
+        let ok = not-refused (E .layout) f (whole B) k may a m fine _ ts formed sealed in
+        let made = all-made (E .layout) f (whole B) k may a m fine _ ts formed sealed in
+        record {
+          plan = plan-is;
+          rebuildFatal = (λ s. absurd (zero-six (sym ok ∙ s)), λ am. absurd (all-unique (E .layout) e ordered fine B am));
+          kept = λ s. absurd (zero-six (sym ok ∙ s));
+          restored = λ no b word agree.
+              record {
+                answer = ok;
+                number = rw (fine, made);
+                sheets = (w, listing, in-turns true sealed);
+                turns = turns-number f k may (sheetOf f (f .repairKind)) w (given .sheets) (in-turns true sealed) ∙ ap (λ (i : ℕ). turnsFor i k) number;
+                array = is b word agree;
+                map = ap (λ (l : List ℕ). count (E .layout .disks) (erasures l)) (map-cleared (E .layout) f (whole B) k may a m fine _ ts formed sealed) ∙ all-clear (E .layout) m fine;
+              };
+          contradicted = (λ s. absurd (zero-seven (sym ok ∙ s)), λ h. absurd (h .1 belongs));
+          undone = λ s. absurd (zero-seven (sym ok ∙ s));
+          few = λ few b word agree. (ok, made ∙ number, is b word agree);
+        }
+
+    -- They belong to none.
+    when-contradicted : consistent (E .layout) (whole B) (rebuilt (E .layout) (whole B) a w) ≡ false → Demand3 E f B k a m given
+    unfolding resultsOf contradiction outcomeStatus
+    when-contradicted unsealed =
+        let judged = all-judged (E .layout) e ordered fine B a sized small in
+        let none : Belongs (E .layout) (whole B) e a → ⊥ = λ h. true≢false (sym (judged .1 h) ∙ unsealed) in
+        let end = undone (E .layout) f (whole B) k may a m fine _ ts formed unsealed in
+        let made = made-before (E .layout) f (whole B) k may a m fine _ ts formed unsealed in
+        let all : length (given .sheets) ≡ suc (formed .early) = length-map ts (λ (t : Turn). t .sheet) ∙ formed .number in
+        let early : formed .early ≡ length (given .sheets) - 1 = omega arith in
+        let seven : outcomeStatus (given .last) ≡ 7 = ap (λ (t : Turn). outcomeStatus (t .answer)) end in
+        record {
+          plan = plan-is;
+          rebuildFatal = (λ s. absurd (seven-six (sym seven ∙ s)), λ am. absurd (all-unique (E .layout) e ordered fine B am));
+          kept = λ s. absurd (seven-six (sym seven ∙ s));
+          restored = λ no b word agree. absurd (none (b, word, agree));
+          contradicted = (λ s. (all-unique (E .layout) e ordered fine B, none), λ h. seven);
+          undone = λ s. (
+            w,
+            record {
+              lists = listing;
+              sheets = in-turns false unsealed;
+              made = made ∙ ap (λ (i : ℕ). k * i) early;
+              map = rw made (ap (λ (t : Turn). t .map) end);
+              array = rw (made, ap (λ (t : Turn). t .map) end) (ap (λ (t : Turn). t .array) end);
+            },
+          );
+          few = λ few b word agree. absurd (none (b, word, agree));
+        }
+
+  pub edition-demand3 : Demand3 E f B k a m given
+  edition-demand3 = go (fatal (E .layout) e) refl
     where
-      go : (b : Bool) → fatal (E .layout) e ≡ b
-          → (c : Bool) → consistent (E .layout) (whole B) (repairedArray (E .layout) (whole B) a e) ≡ c
-          → Demand3 E f B a m (resultsOf (E .layout) f B a m)
-      go true p c q = rw p (when-fatal p)
-      go false p true q = rw (p, q) (when-restored p q)
-      go false p false q = rw (p, q) (when-contradicted p q)
+      go : (b : Bool) → fatal (E .layout) e ≡ b → Demand3 E f B k a m given
+      go true p = subst (Demand3 E f B k a m) (sym (is-told p)) (when-fatal p)
+      go false p =
+          by-cases (λ (c : Bool). Demand3 E f B k a m given) (consistent (E .layout) (whole B) (rebuilt (E .layout) (whole B) a w)) (when-restored p) (when-contradicted p)

@@ -1,27 +1,27 @@
--- Demand 3, what plan and rebuild promise of a loss, as one statement about both on the same map, in the words that paper 01
--- gives for it: over any edition of the array and format of the sheets, for one block length B and array a. The survivors are the
--- disks that the map has as present.
+-- Demand 3, what plan and rebuild promise of a loss, as one statement about a plan and rebuild's turns on the same map, in the words
+-- that papers 01 and 02 give for it: over any edition of the array and format of the sheets, for one block length B, array a and
+-- limit k. The survivors are the disks that the map has as present before the first turn.
 -- Assumes nothing.
 use mathlib.Core.Path.{_≡_}
-use mathlib.Core.Bool.{Bool}
+use mathlib.Core.Bool.{Bool, cond}
 use mathlib.Core.Logic.{_↔_}
-use mathlib.Core.List.{List}
-use Prim.Native.Nat.{ℕ, _≤_, _<_}
-use lib.ListN.{length}
+use mathlib.Core.List.{List, [], _∷_}
+use Prim.Native.Nat.{ℕ, _+_, _*_, _-_, _/_, _≤_, _<_}
+use lib.Dec.{eqb}
+use lib.ListN.{length, take, drop}
 use Rattle.stripes.specs.Fold.{count}
 use Rattle.stripes.specs.System.{Layout, whole, Codeword}
 use Rattle.stripes.specs.Erased.{erasures, Agree, Belongs, Ambiguous}
-use Rattle.stripes.specs.Repair.{Entry, lost, zeroed, InOrder}
+use Rattle.stripes.specs.Repair.{Entry, lost, mapAfter, rebuilt, zeroed, InOrder}
 use Rattle.model.specs.Sheet.{Format, sheetOf, blankSheet}
 use Rattle.model.specs.Plan.{outcomeStatus}
 use Rattle.model.specs.Edition.{Edition}
 use Rattle.model.specs.declared.Outcome.{Outcome}
 use Rattle.model.specs.declared.Outcome.the-variants.{Repairs, Fatal}
 
--- A sheet that lists repairs in plan's order, every erased disk once, and one that shows a loop. Their records fit.
-abbrev pub RepairSheet : Layout → Format → (ℕ → Bool) → List ℕ → Type 0
-RepairSheet L f e sheet =
-    (w : List Entry) × (sheet ≡ sheetOf f (f .repairKind) w) × (length w ≤ f .records) × (length w ≡ count (L .disks) e) × InOrder L e w
+-- A list of repairs in plan's order, every erased disk once, and its sheet, and a sheet that shows a loop. The records fit.
+abbrev pub Lists : Layout → Format → (ℕ → Bool) → List Entry → (sheet : List ℕ) → Type 0
+Lists L f e w sheet = (sheet ≡ sheetOf f (f .repairKind) w) × (length w ≤ f .records) × (length w ≡ count (L .disks) e) × InOrder L e w
 
 abbrev pub LoopSheet : Edition → Format → (ℕ → Bool) → List ℕ → Type 0
 LoopSheet E f e sheet = (w : List Entry) × (sheet ≡ sheetOf f (f .loopKind) w) × (length w ≤ f .records) × E .Loops e w
@@ -34,33 +34,68 @@ pub record Planned (E : Edition) (f : Format) (e : ℕ → Bool) (answer : Outco
   pub loop : outcomeStatus answer ≡ 6 → (answer ≡ Fatal (lost (E .layout) e)) × LoopSheet E f e sheet
   -- Otherwise it counts the erased disks, no more than the limit, and its sheet lists their repairs.
   pub repairs : (outcomeStatus answer ≡ 6 → ⊥)
-      → (answer ≡ Repairs (count (E .layout .disks) e)) × (count (E .layout .disks) e ≤ E .limit) × RepairSheet (E .layout) f e sheet
+      → (answer ≡ Repairs (count (E .layout .disks) e)) × (count (E .layout .disks) e ≤ E .limit)
+      × ((w : List Entry) × Lists (E .layout) f e w sheet)
   -- A loss of few disks is not fatal.
   pub few : count (E .layout .disks) e ≤ E .always → outcomeStatus answer ≡ 6 → ⊥
 
--- What plan answers and leaves in its sheet, and what rebuild answers and leaves in the array and its sheet.
+-- Sheets that list w in turns of k, read one after another: each lists the next k repairs, and the last, which is `ending` of them,
+-- is for what is left.
+abbrev pub InTurns : Format → (k : ℕ) → (ending : List Entry → List ℕ) → List Entry → List (List ℕ) → Type 0
+InTurns f k ending w [] = ⊥
+InTurns f k ending w (s ∷ []) = (s ≡ ending w) × (length w ≤ k)
+InTurns f k ending w (s ∷ (t ∷ ss)) =
+    (s ≡ sheetOf f (f .repairKind) (take k w)) × (k < length w) × InTurns f k ending (drop k w) (t ∷ ss)
+
+-- The turns of k that n repairs take: n / k, rounded up, and one where there is none.
+unfoldable pub turnsFor : (n k : ℕ) → ℕ
+turnsFor n k = cond (eqb n 0) 1 ((n + (k - 1)) / k)
+
+-- What plan answers and leaves in its sheet; and, of rebuild's turns until the map is clear or one is refused, what the last one
+-- answers, how many repairs all of them made, the array and the map as the last one leaves them, and their sheets in order.
 pub record Results : Type 0 where
   pub planned : Outcome
   pub planSheet : List ℕ
-  pub rebuilt : Outcome
+  pub last : Outcome
+  pub made : ℕ
   pub array : List ℕ
-  pub sheet : List ℕ
+  pub map : List ℕ
+  pub sheets : List (List ℕ)
 
-pub record Demand3 (E : Edition) (f : Format) (B : ℕ) (a m : List ℕ) (r : Results) : Type 0 where
+-- The turns have restored b: none was refused, the repairs are as many as plan counts, the sheets, read one after another, list
+-- plan's repairs, the array is b byte for byte, and no disk is erased any more.
+pub record Restored (E : Edition) (f : Format) (k : ℕ) (b m : List ℕ) (r : Results) : Type 0 where
+  pub answer : outcomeStatus (r .last) ≡ 0
+  pub number : r .planned ≡ Repairs (r .made)
+  pub sheets : (w : List Entry) × Lists (E .layout) f (erasures m) w (r .planSheet) × InTurns f k (sheetOf f (f .repairKind)) w (r .sheets)
+  pub turns : length (r .sheets) ≡ turnsFor (count (E .layout .disks) (erasures m)) k
+  pub array : r .array ≡ b
+  pub map : count (E .layout .disks) (erasures (r .map)) ≡ 0
+
+-- The last turn has found a contradiction, and w are plan's repairs. The turns before it made k repairs each, and what they
+-- restored stays; its own disks stay erased, and their blocks and its whole sheet are zero.
+pub record Undone (E : Edition) (f : Format) (B k : ℕ) (a m : List ℕ) (w : List Entry) (r : Results) : Type 0 where
+  pub lists : Lists (E .layout) f (erasures m) w (r .planSheet)
+  pub sheets : InTurns f k (λ v. blankSheet f) w (r .sheets)
+  pub made : r .made ≡ k * (length (r .sheets) - 1)
+  pub map : r .map ≡ mapAfter m (take (r .made) w)
+  pub array : r .array ≡ zeroed (whole B) (rebuilt (E .layout) (whole B) a (take (r .made) w)) (erasures (r .map))
+
+-- For turns of k repairs.
+pub record Demand3 (E : Edition) (f : Format) (B k : ℕ) (a m : List ℕ) (r : Results) : Type 0 where
   pub plan : Planned E f (erasures m) (r .planned) (r .planSheet)
   -- Rebuild calls the loss fatal, by 6, exactly if plan does: whatever the survivors hold, exactly if two different sealed arrays
-  -- agree on every survivor. Then no byte of the array changes, and count and loop are plan's.
-  pub rebuildFatal : (outcomeStatus (r .rebuilt) ≡ 6) ↔ Ambiguous (E .layout) (whole B) (erasures m)
-  pub kept : outcomeStatus (r .rebuilt) ≡ 6 → (r .array ≡ a) × (r .rebuilt ≡ r .planned) × (r .sheet ≡ r .planSheet)
-  -- Otherwise, if the survivors belong to a sealed array, count and sheet are plan's, and the array equals that sealed array
-  -- byte for byte.
+  -- agree on every survivor. It does so in the first turn. No byte of the array or of the map changes, and count and loop are plan's.
+  pub rebuildFatal : (outcomeStatus (r .last) ≡ 6) ↔ Ambiguous (E .layout) (whole B) (erasures m)
+  pub kept : outcomeStatus (r .last) ≡ 6 → (r .array ≡ a) × (r .map ≡ m) × (r .last ≡ r .planned) × (r .sheets ≡ r .planSheet ∷ [])
+  -- Otherwise, if the survivors belong to a sealed array, it is restored.
   pub restored : (Ambiguous (E .layout) (whole B) (erasures m) → ⊥) → (b : List ℕ) → Codeword (E .layout) (whole B) b
-      → Agree (E .layout) (whole B) (erasures m) a b → (r .rebuilt ≡ r .planned) × (r .sheet ≡ r .planSheet) × (r .array ≡ b)
-  -- If they belong to none, and just then, rebuild refuses by 7; the erased blocks and the whole sheet are then zero.
-  pub contradicted : (outcomeStatus (r .rebuilt) ≡ 7)
+      → Agree (E .layout) (whole B) (erasures m) a b → Restored E f k b m r
+  -- If they belong to none, and just then, the last turn is refused by 7.
+  pub contradicted : (outcomeStatus (r .last) ≡ 7)
       ↔ ((Ambiguous (E .layout) (whole B) (erasures m) → ⊥) × (Belongs (E .layout) (whole B) (erasures m) a → ⊥))
-  pub zeros : outcomeStatus (r .rebuilt) ≡ 7 → (r .array ≡ zeroed (whole B) a (erasures m)) × (r .sheet ≡ blankSheet f)
+  pub undone : outcomeStatus (r .last) ≡ 7 → (w : List Entry) × Undone E f B k a m w r
   -- Few disks always come back: with survivors of a sealed array their loss is restored.
   pub few : count (E .layout .disks) (erasures m) ≤ E .always → (b : List ℕ) → Codeword (E .layout) (whole B) b
       → Agree (E .layout) (whole B) (erasures m) a b
-      → (r .rebuilt ≡ Repairs (count (E .layout .disks) (erasures m))) × (r .array ≡ b)
+      → (outcomeStatus (r .last) ≡ 0) × (r .made ≡ count (E .layout .disks) (erasures m)) × (r .array ≡ b)

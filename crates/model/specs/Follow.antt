@@ -13,7 +13,7 @@ use Rattle.model.specs.Refusal.{Test, _unless_, refusal}
 use Rattle.model.specs.Sheet.{narrow}
 use Rattle.model.specs.Chain.{chainFits, chainEntries}
 use Rattle.model.specs.Plan.{sheetLayout}
-use Rattle.model.specs.Rebuild.{rebuildTests}
+use Rattle.model.specs.Rebuild.{bufferTests}
 use Rattle.model.specs.declared.Size.{Size}
 use Rattle.model.specs.declared.Outcome.{Outcome}
 use Rattle.model.specs.declared.Outcome.the-variants.{Repairs, Refused}
@@ -29,7 +29,7 @@ followedArray z B a sheet = rebuilt (sheetLayout z) (whole B) a (chainEntries na
 -- The tests of follow: the last is of the array after the repairs, the others come before any block is changed.
 unfoldable pub followTests : Size → ℕ → (a m sheet : List ℕ) → List Test
 followTests z B a m sheet =
-    rebuildTests z B (length a) m (length sheet)
+    bufferTests z B (length a) m (length sheet)
     ++ (10 unless chainFits narrow sheet
     ∷ 11 unless clears (sheetLayout z) (erasures m) (chainEntries narrow sheet)
     ∷ 7 unless consistent (sheetLayout z) (whole B) (followedArray z B a sheet)

@@ -6,6 +6,7 @@ pub mod Loop
 pub mod Sheet
 pub mod Chain
 pub mod Plan
+pub mod Turn
 pub mod Rebuild
 pub mod Follow
 pub mod Listing

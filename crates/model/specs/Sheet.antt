@@ -3,7 +3,7 @@
 use mathlib.Core.Path.{_≡_}
 use mathlib.Core.List.{List, [], _∷_, _++_}
 use Prim.Native.Nat.{ℕ, zero, suc, _+_, _*_, _-_, _/_, _%_, _≤_, _<_}
-use lib.ListN.{length, getD}
+use lib.ListN.{length, getD, take, drop}
 use Rattle.stripes.specs.Fold.{tabulate}
 use Rattle.stripes.specs.System.{Bytes}
 use Rattle.stripes.specs.Repair.{Entry, diskOf, stripeOf}
@@ -54,7 +54,12 @@ sheetOf f kind rs = tabulate (sheetBytes f) (λ i. getD (kind ∷ chainBytes f 1
 unfoldable pub blankSheet : Format → List ℕ
 blankSheet f = tabulate (sheetBytes f) (λ i. 0)
 
--- The same in paper 01's words. A list fits if it has at most as many entries as the format has records, and its numbers and the
+-- The first n of the sheets that stand one after another in a buffer.
+unfoldable pub sheetsIn : Format → (n : ℕ) → List ℕ → List (List ℕ)
+sheetsIn f zero s = []
+sheetsIn f (suc n) s = take (sheetBytes f) s ∷ sheetsIn f n (drop (sheetBytes f) s)
+
+-- A sheet in paper 01's words. A list fits if it has at most as many entries as the format has records, and its numbers and the
 -- kind fit their bytes; then bytes are its sheet exactly if this holds of them.
 pub record SheetBytes (f : Format) (kind : ℕ) (w : List Entry) (s : List ℕ) : Type 0 where
   -- Byte 0 is the kind, byte 1 the number of the first record, 0 for none.

@@ -7,7 +7,7 @@ ghost use Rattle.model.specs.Sheet.{narrow};
 ghost use Rattle.model.specs.Chain.{kindOf, firstNumber, entryAt, nextNumber, ifRecord};
 ghost use Rattle.model.specs.Array.{sealStatus, sealArray, checked, checkStatus, checkStripe, writeStatus, writeArray, lookLength, lookOffset};
 ghost use Rattle.model.specs.Plan.{planOutcome, planSheet, outcomeStatus, outcomeCount};
-ghost use Rattle.model.specs.Rebuild.{rebuildOutcome, rebuildArray, rebuildSheet};
+ghost use Rattle.model.specs.Rebuild.{rebuildTurn};
 ghost use Rattle.model.specs.Follow.{followOutcome, followArray};
 use model::Checked;
 use model::Outcome;
@@ -16,9 +16,9 @@ use model::Size;
 // The version of the library: 10000 times the major number, 100 times the minor number, and the patch.
 #[no_mangle]
 pub extern "C" fn raid2d_version_number() -> u32
-    ensures { λ r. ⌜ r ≡ 501 ⌝ }
+    ensures { λ r. ⌜ r ≡ 600 ⌝ }
 {
-    501
+    600
 }
 
 // The lengths of a map and of an array.
@@ -189,29 +189,34 @@ pub extern "C" fn raid2d_rebuild(
     columns: usize,
     block: usize,
     array: &mut [u8],
-    map: &[u8],
+    map: &mut [u8],
     sheet: &mut [u8],
+    limit: usize,
     count: &mut usize,
 ) -> u32
     ensures status { λ r. ⌜
         r ≡ outcomeStatus
-        (rebuildOutcome (rectangle rows columns) block (now (array .entry)) (now (map .entry)) (now (sheet .entry)))
+        (rebuildTurn (rectangle rows columns) block (now (array .entry)) (now (map .entry)) (now (sheet .entry)) limit .answer)
         ⌝ }
     ensures array { λ r. ⌜
         now (array .exit)
-        ≡ rebuildArray (rectangle rows columns) block (now (array .entry)) (now (map .entry)) (now (sheet .entry))
+        ≡ rebuildTurn (rectangle rows columns) block (now (array .entry)) (now (map .entry)) (now (sheet .entry)) limit .array
+        ⌝ }
+    ensures map { λ r. ⌜
+        now (map .exit)
+        ≡ rebuildTurn (rectangle rows columns) block (now (array .entry)) (now (map .entry)) (now (sheet .entry)) limit .map
         ⌝ }
     ensures sheet { λ r. ⌜
         now (sheet .exit)
-        ≡ rebuildSheet (rectangle rows columns) block (now (array .entry)) (now (map .entry)) (now (sheet .entry))
+        ≡ rebuildTurn (rectangle rows columns) block (now (array .entry)) (now (map .entry)) (now (sheet .entry)) limit .sheet
         ⌝ }
     ensures count { λ r. ⌜
         now (count .exit) ≡ outcomeCount
-        (rebuildOutcome (rectangle rows columns) block (now (array .entry)) (now (map .entry)) (now (sheet .entry)))
+        (rebuildTurn (rectangle rows columns) block (now (array .entry)) (now (map .entry)) (now (sheet .entry)) limit .answer)
         (now (count .entry))
         ⌝ }
 {
-    let answer = rebuild::rebuild(Size { rows, columns }, block, array, map, sheet);
+    let answer = rebuild::rebuild(Size { rows, columns }, block, array, map, sheet, limit);
     report(answer, count)
 }
 

@@ -1,35 +1,41 @@
--- What rebuild answers and leaves behind at each of its four ends.
+-- What rebuild answers and leaves behind at each of its six ends.
 -- Assumes nothing.
 use mathlib.Core.Path.{_≡_, refl, sym, _∙_, ap, subst}
-use mathlib.Core.Bool.{Bool, true, false}
-use mathlib.Core.List.{List, [], _∷_, _++_}
+use mathlib.Core.Bool.{Bool, true, false, cond, not}
+use mathlib.Core.List.{List, [], _∷_}
 use mathlib.Core.Logic.{⊎-elim}
-use Prim.Native.Nat.{ℕ, _≤_}
+use Prim.Native.Nat.{ℕ, _≤_, _<_, min}
 use native.Mathlib.Omega.{arith}
 use types.Run.{OneOf}
 use denote.Enum.Declared.{tagOf}
-use borrow.Author.Tests.{ne-eqb, eqb-true}
-use lib.Dec.{eqb}
-use lib.ListN.{length}
-use Rattle.stripes.specs.Repair.{Entry, Peels, repairs, lost, fatal}
+use borrow.Author.Tests.{not-true, not-false}
+use lib.ListN.{length, take}
+use Rattle.stripes.specs.System.{whole}
 use Rattle.stripes.specs.Erased.{erasures}
-use Rattle.model.specs.Grid.{sizeFits, mapFits}
+use Rattle.stripes.specs.Repair.{mapAfter, repairs, lost, fatal, rebuilt, zeroed, clears}
+use Rattle.stripes.proofs.Peel.{repairs-peels}
+use Rattle.stripes.proofs.Clears.{repairs-clear}
+use Rattle.model.specs.Grid.{mapFits}
 use Rattle.model.specs.Refusal.{refusal, arrayTests}
 use Rattle.model.specs.Sheet.{sheetOf, blankSheet, narrow, sheetBytes}
-use Rattle.model.specs.Plan.{sheetTests, planTests, lossOutcome, lossSheet, planOutcome, planSheet, sheetLayout}
-use Rattle.model.specs.Rebuild.{rebuildTests, rebuildRefusal, repairedArray, choose, rebuildOutcome, rebuildArray, rebuildSheet, loss}
+use Rattle.model.specs.Plan.{sheetTests, lossOutcome, lossSheet, sheetLayout}
+use Rattle.model.specs.Turn.{Turn, lossTold, contradiction, repairsMade, turnRepairs, contradicts, turnOf}
+use Rattle.model.specs.Rebuild.{bufferTests, bufferRefusal, rebuildTests, rebuildRefusal, rebuildTurn}
 use Rattle.model.specs.declared.Size.{Size}
 use Rattle.model.specs.declared.Outcome.{Outcome}
 use Rattle.model.specs.declared.Outcome.the-variants.{Repairs, Fatal, Refused}
-use Rattle.stripes.proofs.Peel.{repairs-peels}
-use Rattle.stripes.specs.System.{whole}
-use Rattle.model.proofs.Refusal.{ArrayFits, passes, passed, refused-first, array-fits, array-passed}
+use Rattle.model.proofs.Refusal.{ArrayFits, refused-first, array-fits, array-passed}
+use Rattle.model.proofs.Accept.{buffers-fit, limit-passed}
+use Rattle.model.proofs.Demand3.{limit-refused, rebuild-refused, rebuild-turns}
 use Rattle.model.proofs.Limits.{grid-repairs-bound}
 use Rattle.model.proofs.Sheets.{sheet-length}
-use Rattle.entries.specs.Listed.{listed}
-use Rattle.model.proofs.Grid.{rows-below}
+use Rattle.model.proofs.Grid.{rows-below, map-length}
 use Rattle.model.proofs.Outcome as outcome
-use Rattle.restore.specs.Restored.{fits, restored}
+use Rattle.entries.specs.Listed.{entryDisk, listed}
+use Rattle.entries.proofs.Words.{listed-length, listed-take}
+use Rattle.restore.proofs.Judged.{on-disks}
+use Rattle.plan.specs.Drafted.{draftSheet, Drafted}
+use Rattle.rebuild.proofs.Made.{peels-made}
 
 -- An answer of another kind than the first.
 other-kind : {A : Type 0} (tag : A → ℕ) (o first : A) → OneOf (1 ∷ 2 ∷ []) (tag o) → tag first ≡ 0 → o ≡ first → ⊥
@@ -37,132 +43,166 @@ other-kind tag o first other none e =
     let q : tag o ≡ 0 = ap tag e ∙ none in
     ⊎-elim (λ (h : tag o ≡ 1). omega arith) (λ (h : tag o ≡ 2). omega arith) other
 
--- Plan's repairs of the disks that a map has as erased.
-abbrev planOf : Size → List ℕ → List Entry
-planOf z m = repairs (sheetLayout z) (erasures m)
+module _ (z : Size) (B : ℕ) (a m sheet : List ℕ) (k : ℕ) where
+  -- What rebuild promises of its answer, and of the array, the map and the sheet after it.
+  abbrev pub Ends : Outcome → (b n s : List ℕ) → Type 0
+  Ends answer b n s =
+      let t = rebuildTurn z B a m sheet k in (answer ≡ t .answer) × ((b ≡ t .array) × ((n ≡ t .map) × (s ≡ t .sheet)))
 
--- What rebuild promises of its answer, and of the array and the sheet after it.
-abbrev pub Rebuilt : Size → ℕ → (a m sheet : List ℕ) → Outcome → (b s : List ℕ) → Type 0
-Rebuilt z B a m sheet answer b s =
-    (answer ≡ rebuildOutcome z B a m sheet) × ((b ≡ rebuildArray z B a m sheet) × (s ≡ rebuildSheet z B a m sheet))
+  ends-as : (t : Turn) → rebuildTurn z B a m sheet k ≡ t → Ends (t .answer) (t .array) (t .map) (t .sheet)
+  ends-as t e = (ap (λ (u : Turn). u .answer) (sym e), (ap (λ (u : Turn). u .array) (sym e), (ap (λ (u : Turn). u .map) (sym e), ap (λ (u : Turn). u .sheet) (sym e))))
 
--- ---- refused by the tests of the array
-pub refused : (z : Size) (B : ℕ) (a m sheet : List ℕ) (status : ℕ) → status ≡ refusal (arrayTests z B (length a)) → (status ≡ 0 → ⊥)
-    → Rebuilt z B a m sheet (Refused status) a sheet
-unfolding rebuildOutcome rebuildArray rebuildSheet choose rebuildRefusal rebuildTests
-refused z B a m sheet status e some =
-    let same : refusal (arrayTests z B (length a) ++ sheetTests z m (length sheet)) ≡ status =
-    refused-first _ _ (λ q. some (e ∙ q)) ∙ sym e in
-    rw (same, ne-eqb status 0 some) (refl, (refl, refl))
+  -- ---- refused by the tests
+  refused : (status : ℕ) → rebuildRefusal z B a m sheet k ≡ status → (status ≡ 0 → ⊥) → Ends (Refused status) a m sheet
+  refused status e some =
+      subst (λ (i : ℕ). Ends (Refused i) a m sheet) e (ends-as _ (rebuild-refused z B a m sheet k (λ q. some (sym e ∙ q))))
 
--- ---- after plan
+  -- What the first five tests refuse is refused.
+  buffers-refused : (bufferRefusal z B a m sheet ≡ 0 → ⊥) → rebuildRefusal z B a m sheet k ≡ bufferRefusal z B a m sheet
+  unfolding rebuildRefusal rebuildTests bufferRefusal
+  buffers-refused some = refused-first (bufferTests z B (length a) m (length sheet)) _ some
 
--- Where the array passes its tests, plan's tests are those that are left.
-plan-tests : (z : Size) (B : ℕ) (a m sheet : List ℕ) → ArrayFits z B (length a)
-    → rebuildRefusal z B a m sheet ≡ refusal (planTests z m (length sheet))
-unfolding rebuildRefusal rebuildTests planTests
-plan-tests z B a m sheet sized = array-passed z B (length a) sized _ ∙ sym (passes 1 (sizeFits z) _ (sized .size))
+  pub array-refused : (status : ℕ) → status ≡ refusal (arrayTests z B (length a)) → (status ≡ 0 → ⊥) → Ends (Refused status) a m sheet
+  unfolding bufferRefusal bufferTests
+  array-refused status e some =
+      let same : bufferRefusal z B a m sheet ≡ status = refused-first (arrayTests z B (length a)) _ (λ q. some (e ∙ q)) ∙ sym e in
+      refused status (buffers-refused (λ q. some (sym same ∙ q)) ∙ same) some
 
-module _ (z : Size) (B : ℕ) (a m sheet : List ℕ) (ok : refusal (arrayTests z B (length a)) ≡ 0) (answer : Outcome) (s : List ℕ)
-    (answer-is : answer ≡ planOutcome z m sheet) (sheet-is : s ≡ planSheet z m sheet) where
-  same-tests : rebuildRefusal z B a m sheet ≡ refusal (planTests z m (length sheet))
-  same-tests = plan-tests z B a m sheet (array-fits z B (length a) ok)
+  module _ (array-ok : refusal (arrayTests z B (length a)) ≡ 0) where
+    pub tests-left : bufferRefusal z B a m sheet ≡ refusal (sheetTests z m (length sheet))
+    unfolding bufferRefusal bufferTests
+    tests-left = array-passed z B (length a) (array-fits z B (length a) array-ok) _
 
-  -- Plan's refusals, and a fatal loss: the array stays.
-  pub as-plan : OneOf (1 ∷ 2 ∷ []) (tagOf outcome.the-type answer) → Rebuilt z B a m sheet answer a s
-  unfolding rebuildOutcome rebuildArray rebuildSheet choose loss planOutcome planSheet lossOutcome lossSheet
-  as-plan other = go (eqb (refusal (planTests z m (length sheet))) 0) refl (fatal (sheetLayout z) (erasures m)) refl
+    pub sheet-refused : (status : ℕ) → status ≡ refusal (sheetTests z m (length sheet)) → (status ≡ 0 → ⊥) → Ends (Refused status) a m sheet
+    sheet-refused status e some =
+        let same : bufferRefusal z B a m sheet ≡ status = tests-left ∙ sym e in
+        refused status (buffers-refused (λ q. some (sym same ∙ q)) ∙ same) some
+
+    pub no-repairs : refusal (sheetTests z m (length sheet)) ≡ 0 → k ≡ 0 → Ends (Refused 12) a m sheet
+    no-repairs sheet-ok none =
+        refused 12 (ap (rebuildRefusal z B a m sheet) none ∙ limit-refused z B a m sheet (tests-left ∙ sheet-ok)) (λ q. omega arith)
+
+-- ---- nothing is refused: a turn
+
+-- The tests are passed.
+pub record Passed (z : Size) (B : ℕ) (a m sheet : List ℕ) (k : ℕ) : Type 0 where
+  pub array : refusal (arrayTests z B (length a)) ≡ 0
+  pub sheetFits : refusal (sheetTests z m (length sheet)) ≡ 0
+  pub some : 0 < k
+
+module _ {z : Size} {B : ℕ} {a m sheet : List ℕ} {k : ℕ} (t : Passed z B a m sheet k) where
+  buffers-ok : bufferRefusal z B a m sheet ≡ 0
+  buffers-ok = tests-left z B a m sheet k (t .array) ∙ t .sheetFits
+
+  pub fitting : ArrayFits z B (length a) × (mapFits z m ≡ true) × (length sheet ≡ 98)
+  fitting = buffers-fit z B a m sheet buffers-ok
+
+  turns : rebuildTurn z B a m sheet k ≡ turnOf (sheetLayout z) narrow (whole B) k a m
+  turns = rebuild-turns z B a m sheet k (limit-passed z B a m sheet k (t .some) ∙ buffers-ok)
+
+  -- A fatal loss: the array and the map stay.
+  pub as-plan : (answer : Outcome) (s : List ℕ) → answer ≡ lossOutcome (sheetLayout z) (erasures m)
+      → s ≡ draftSheet (sheetLayout z) narrow (erasures m) k → OneOf (1 ∷ 2 ∷ []) (tagOf outcome.the-type answer)
+      → Ends z B a m sheet k answer a m s
+  unfolding turnOf lossTold lossOutcome lossSheet draftSheet
+  as-plan answer s answer-is sheet-is other = go (fatal (sheetLayout z) (erasures m)) refl
     where
-      go : (t : Bool) → eqb (refusal (planTests z m (length sheet))) 0 ≡ t → (f : Bool) → fatal (sheetLayout z) (erasures m) ≡ f
-          → Rebuilt z B a m sheet answer a s
-      go true q true p = (answer-is ∙ rw (same-tests, q, p), (rw (same-tests, q, p), sheet-is ∙ rw (same-tests, q, p)))
-      go true q false p =
-          absurd (other-kind (tagOf outcome.the-type) answer (Repairs (length (planOf z m))) other refl (answer-is ∙ rw (q, p)))
-      go false q f p = (answer-is ∙ rw (same-tests, q), (rw (same-tests, q), sheet-is ∙ rw (same-tests, q)))
+      go : (f : Bool) → fatal (sheetLayout z) (erasures m) ≡ f → Ends z B a m sheet k answer a m s
+      go true q = rw turns (rw q (answer-is ∙ (rw q), (refl, (refl, sheet-is ∙ (rw q)))))
+      go false q =
+          absurd (other-kind (tagOf outcome.the-type) answer (Repairs (length (repairs (sheetLayout z) (erasures m)))) other refl (answer-is ∙ (rw q)))
 
--- Plan answers with repairs: nothing is refused, and the loss is not fatal.
-pub record Planned (z : Size) (B : ℕ) (a m sheet s list : List ℕ) (count : ℕ) : Type 0 where
-  pub arrayFits : ArrayFits z B (length a)
-  pub passing : refusal (planTests z m (length sheet)) ≡ 0
+-- Plan answers with repairs: the loss is not fatal. At most k of them are made.
+pub record Planned (z : Size) (B : ℕ) (a m sheet : List ℕ) (k : ℕ) (list s : List ℕ) (count made : ℕ) : Type 0 where
+  pub tests : Passed z B a m sheet k
   pub fine : fatal (sheetLayout z) (erasures m) ≡ false
-  pub counted : count ≡ length (planOf z m)
-  pub answered : Repairs count ≡ lossOutcome (sheetLayout z) (erasures m)
-  pub written : s ≡ sheetOf narrow 1 (planOf z m)
-  pub entries : listed list (length (planOf z m)) ≡ planOf z m
+  pub counted : count ≡ length (repairs (sheetLayout z) (erasures m))
+  pub entries : listed list count ≡ repairs (sheetLayout z) (erasures m)
+  pub written : s ≡ sheetOf narrow 1 (turnRepairs (sheetLayout z) k m)
+  pub least : made ≡ min count k
 
-pub plan-repairs : (z : Size) (B : ℕ) (a m sheet : List ℕ) → refusal (arrayTests z B (length a)) ≡ 0
-    → (answer : Outcome) (s : List ℕ) → answer ≡ planOutcome z m sheet → s ≡ planSheet z m sheet
-    → (list : List ℕ) → (refusal (planTests z m (length sheet)) ≡ 0 → fatal (sheetLayout z) (erasures m) ≡ false
-    → listed list (length (planOf z m)) ≡ planOf z m)
-    → (count : ℕ) → answer ≡ Repairs count → Planned z B a m sheet s list count
-unfolding planOutcome planSheet lossOutcome lossSheet
-plan-repairs z B a m sheet ok answer s answer-is sheet-is list list-is count e =
-    go (eqb (refusal (planTests z m (length sheet))) 0) refl (fatal (sheetLayout z) (erasures m)) refl
+pub planned : {z : Size} {B : ℕ} {a m sheet : List ℕ} {k : ℕ} → Passed z B a m sheet k
+    → (answer : Outcome) (list s : List ℕ) → answer ≡ lossOutcome (sheetLayout z) (erasures m)
+    → s ≡ draftSheet (sheetLayout z) narrow (erasures m) k → Drafted (sheetLayout z) (erasures m) list
+    → (count : ℕ) → answer ≡ Repairs count → (made : ℕ) → made ≡ min count k → Planned z B a m sheet k list s count made
+unfolding lossOutcome draftSheet turnRepairs
+planned {z} {B} {a} {m} {sheet} {k} t answer list s answer-is sheet-is list-is count e made least = go (fatal (sheetLayout z) (erasures m)) refl
   where
-    go : (t : Bool) → eqb (refusal (planTests z m (length sheet))) 0 ≡ t → (f : Bool) → fatal (sheetLayout z) (erasures m) ≡ f
-        → Planned z B a m sheet s list count
-    go true q true p =
-        let found : answer ≡ Fatal (lost (sheetLayout z) (erasures m)) = answer-is ∙ rw (q, p) in
+    go : (f : Bool) → fatal (sheetLayout z) (erasures m) ≡ f → Planned z B a m sheet k list s count made
+    go true q =
+        let found : answer ≡ Fatal (lost (sheetLayout z) (erasures m)) = answer-is ∙ rw q in
         let clash : _≡_ {A = ℕ} 0 1 = cc in
         absurd (omega arith)
-    go true q false p =
-        let found : answer ≡ Repairs (length (planOf z m)) = answer-is ∙ rw (q, p) in
+    go false q =
+        let found : answer ≡ Repairs (length (repairs (sheetLayout z) (erasures m))) = answer-is ∙ rw q in
+        let counted : count ≡ length (repairs (sheetLayout z) (erasures m)) = cc in
         record {
-          arrayFits = array-fits z B (length a) ok;
-          passing = eqb-true _ 0 q;
-          fine = p;
-          counted = cc;
-          answered = sym e ∙ answer-is ∙ rw q;
-          written = sheet-is ∙ rw (q, p);
-          entries = list-is (eqb-true _ 0 q) p;
+          tests = t;
+          fine = q;
+          counted = counted;
+          entries = ap (listed list) counted ∙ list-is q;
+          written = sheet-is ∙ (rw q);
+          least = least;
         }
-    go false q f p =
-        let found : answer ≡ Refused (refusal (planTests z m (length sheet))) = answer-is ∙ rw q in
-        let clash : _≡_ {A = ℕ} 0 1 = cc in
-        absurd (omega arith)
 
-module _ {z : Size} {B : ℕ} {a m sheet s list : List ℕ} {count : ℕ} (p : Planned z B a m sheet s list count) where
-  -- The map and the sheet have passed their tests.
-  pub map-fits : mapFits z m ≡ true
-  unfolding planTests sheetTests
-  map-fits = passed 4 (mapFits z m) _ (omega arith) (passed 1 (sizeFits z) _ (omega arith) (p .passing) .1) .0
+module _ {z : Size} {B : ℕ} {a m sheet : List ℕ} {k : ℕ} {list s : List ℕ} {count made : ℕ} (p : Planned z B a m sheet k list s count made) where
+  pub array-fits-it : ArrayFits z B (length a)
+  array-fits-it = fitting (p .tests) .0
 
-  pub sheet-long : length s ≡ sheetBytes narrow
-  sheet-long = ap length (p .written) ∙ sheet-length narrow 1 (planOf z m)
+  pub map-fits-it : mapFits z m ≡ true
+  map-fits-it = fitting (p .tests) .1
 
   pub count-few : count ≤ 32
   count-few =
-      let few = grid-repairs-bound z (narrow .base) (rows-below z (p .arrayFits .size)) (p .arrayFits .size) (erasures m) (planOf z m)
+      let size = array-fits-it .size in
+      let few = grid-repairs-bound z (narrow .base) (rows-below z size) size (erasures m) (repairs (sheetLayout z) (erasures m))
       (repairs-peels (sheetLayout z) (erasures m)) in
       let e = p .counted in
       omega arith
 
-  -- The entries are plan's repairs.
-  plan-entries : listed list count ≡ planOf z m
-  plan-entries = ap (listed list) (p .counted) ∙ p .entries
+  pub made-few : made ≤ count
+  made-few = let e = p .least in omega arith
 
-  pub peels : Peels (sheetLayout z) (erasures m) (listed list count)
-  peels = subst (Peels (sheetLayout z) (erasures m)) (sym plan-entries) (repairs-peels (sheetLayout z) (erasures m))
+  pub clearing : clears (sheetLayout z) (erasures m) (listed list count) ≡ true
+  clearing = rw (p .entries) (repairs-clear (sheetLayout z) (erasures m) (p .fine))
 
-  none-refused : rebuildRefusal z B a m sheet ≡ 0
-  none-refused = plan-tests z B a m sheet (p .arrayFits) ∙ p .passing
+  pub sheet-long : length s ≡ sheetBytes narrow
+  sheet-long = ap length (p .written) ∙ sheet-length narrow 1 (turnRepairs (sheetLayout z) k m)
 
-  -- ---- after the repairs
-  module _ (b : List ℕ) (array-is : b ≡ restored (sheetLayout z) (whole B) a (erasures m) (listed list count)) where
-    -- All sums are zero: the array is restored.
-    pub agreed : fits (sheetLayout z) (whole B) a (listed list count) ≡ true → Rebuilt z B a m sheet (Repairs count) b s
-    unfolding rebuildOutcome rebuildArray rebuildSheet choose loss lossSheet repairedArray fits restored
-    agreed fit =
-        let c : fits (sheetLayout z) (whole B) a (planOf z m) ≡ true = ap (fits (sheetLayout z) (whole B) a) (sym plan-entries) ∙ fit in (
-          p .answered ∙ rw (none-refused, p .fine, c),
-          (array-is ∙ ap (restored (sheetLayout z) (whole B) a (erasures m)) plan-entries ∙ rw (none-refused, p .fine, c), p .written ∙ rw (none-refused, p .fine, c)),
-        )
+  -- Every repair that is made names a disk of the map.
+  pub in-map : (i : ℕ) → i < made → entryDisk list i < length m
+  in-map i h =
+      let inside =
+      on-disks z (narrow .base) (erasures m) list made (peels-made (sheetLayout z) m list count made made-few clearing) i h in
+      let long = map-length z m map-fits-it in
+      omega arith
 
-    -- The survivors contradict each other.
-    pub contradicted : fits (sheetLayout z) (whole B) a (listed list count) ≡ false → (t : List ℕ) → t ≡ blankSheet narrow → Rebuilt z B a m sheet (Refused 7) b t
-    unfolding rebuildOutcome rebuildArray rebuildSheet choose loss repairedArray fits restored
-    contradicted unfit t blank =
-        let c : fits (sheetLayout z) (whole B) a (planOf z m) ≡ false = ap (fits (sheetLayout z) (whole B) a) (sym plan-entries) ∙ unfit in (
-          rw (none-refused, p .fine, c),
-          (array-is ∙ ap (restored (sheetLayout z) (whole B) a (erasures m)) plan-entries ∙ rw (none-refused, p .fine, c), blank ∙ rw (none-refused, p .fine, c)),
-        )
+  -- The repairs made are the turn's.
+  made-entries : listed list made ≡ turnRepairs (sheetLayout z) k m
+  unfolding turnRepairs
+  made-entries = ap (listed list) (p .least) ∙ listed-take list count k ∙ ap (take k) (p .entries)
+
+  made-count : made ≡ length (turnRepairs (sheetLayout z) k m)
+  made-count = sym (listed-length list made) ∙ ap length made-entries
+
+  -- The survivors contradict each other.
+  pub contradicted : (r : Bool) → r ≡ not (contradicts (sheetLayout z) (whole B) a m (listed list made)) → r ≡ false
+      → (b t : List ℕ) → b ≡ cond r (rebuilt (sheetLayout z) (whole B) a (listed list made)) (zeroed (whole B) a (erasures m))
+      → t ≡ blankSheet narrow → Ends z B a m sheet k (Refused 7) b m t
+  unfolding turnOf contradiction
+  contradicted r found unfit b t zeros blank =
+      let c : contradicts (sheetLayout z) (whole B) a m (turnRepairs (sheetLayout z) k m) ≡ true =
+      ap (contradicts (sheetLayout z) (whole B) a m) (sym made-entries) ∙ not-false _ (sym found ∙ unfit) in
+      rw (turns (p .tests)) (rw (p .fine, c) (refl, (zeros ∙ (rw unfit), (refl, blank))))
+
+  -- The repairs are made.
+  pub made-them : (r : Bool) → r ≡ not (contradicts (sheetLayout z) (whole B) a m (listed list made)) → r ≡ true
+      → (b n : List ℕ) → b ≡ cond r (rebuilt (sheetLayout z) (whole B) a (listed list made)) (zeroed (whole B) a (erasures m))
+      → n ≡ mapAfter m (listed list made) → Ends z B a m sheet k (Repairs made) b n s
+  unfolding turnOf repairsMade
+  made-them r found fit b n array-is map-is =
+      let c : contradicts (sheetLayout z) (whole B) a m (turnRepairs (sheetLayout z) k m) ≡ false =
+      ap (contradicts (sheetLayout z) (whole B) a m) (sym made-entries) ∙ not-true _ (sym found ∙ fit) in
+      rw (turns (p .tests))
+      (rw (p .fine, c)
+      (ap Repairs made-count, (array-is ∙ (rw fit) ∙ ap (rebuilt (sheetLayout z) (whole B) a) made-entries, (map-is ∙ ap (mapAfter m) made-entries, p .written))))

@@ -11,7 +11,7 @@ ghost use Rattle.entries.specs.Listed.{listed};
 ghost use Rattle.sums.specs.Held.{Held};
 ghost use Rattle.restore.specs.Restored.{fits, restored};
 
-mod repair;
+pub mod repair;
 mod zero;
 
 use model::Size;

@@ -3,19 +3,26 @@
 use mathlib.Core.Path.{_≡_, refl, _∙_, ap, fun-ext, sym}
 use mathlib.Core.Bool.{Bool, true, false, true≢false}
 use mathlib.Core.Logic.{⊎-elim}
-use mathlib.Core.List.{List}
-use Prim.Native.Nat.{ℕ, _+_, _≤_, _<_}
+use mathlib.Core.List.{List, [], _∷_}
+use Prim.Native.Nat.{ℕ, zero, suc, _+_, _≤_, _<_}
 use native.Mathlib.Omega.{arith}
 use borrow.Author.Tests.{eq-eqb, ne-eqb, eqb-true, eqb-false, lt-ltb, ltb-true}
 use lib.Dec.{eqb, ltb}
 use lib.ListN.{length, getD, set, List·getD-eq-default}
-use lib.Seq.{getD-set-same, getD-set-other}
+use lib.Seq.{getD-set-other}
 use Rattle.stripes.specs.Erased.{erasures, without, below}
 use Rattle.stripes.specs.Fold.{count}
 use Rattle.stripes.proofs.Fold.{and-left, and-right, and-both, same-test, by-cases, lt-or-le, count-without}
 use Rattle.stripes.proofs.Peel.{without-at, without-other, without-sub, without-apart}
 
 -- ---- maps
+
+-- A byte that was set to 0; behind the end it counts as 0 anyway.
+pub zero-set : (m : List ℕ) (d : ℕ) → getD (set m d 0) d 0 ≡ 0
+zero-set [] d = refl
+zero-set (x ∷ xs) zero = refl
+zero-set (x ∷ xs) (suc d) = zero-set xs d
+
 module _ (m : List ℕ) (d : ℕ) where
   pub is-erased : getD m d 0 ≡ 1 → erasures m d ≡ true
   unfolding erasures
@@ -29,12 +36,12 @@ module _ (m : List ℕ) (d : ℕ) where
   pub past-end : length m ≤ d → erasures m d ≡ false
   past-end h = let none : getD m d 0 ≡ 0 = List·getD-eq-default m 0 {n = d} h in is-present (λ e. omega arith)
 
-  pub erasures-clear : d < length m → erasures (set m d 0) ≡ without (erasures m) d
+  pub erasures-clear : erasures (set m d 0) ≡ without (erasures m) d
   unfolding erasures
-  erasures-clear l =
+  erasures-clear =
       fun-ext (λ i.
       by-cases (λ (b : Bool). eqb i d ≡ b → erasures (set m d 0) i ≡ without (erasures m) d i) (eqb i d)
-      (λ q h. rw (eqb-true i d h) (ap (λ (x : ℕ). eqb x 1) (getD-set-same m d 0 0 l) ∙ sym (without-at (erasures m) d)))
+      (λ q h. rw (eqb-true i d h) (ap (λ (x : ℕ). eqb x 1) (zero-set m d) ∙ sym (without-at (erasures m) d)))
       (λ q h. ap (λ (x : ℕ). eqb x 1) (getD-set-other m d i 0 0 (eqb-false i d h)) ∙ sym (without-other (erasures m) d i (eqb-false i d h)))
       refl)
 

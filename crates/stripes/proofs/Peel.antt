@@ -251,7 +251,7 @@ module _ (L : Layout) where
   unfolding repairOf
   peel-peels = by-peel (λ k e w. Peels L e w) (λ e. tt) (λ k e n. tt) (λ k e w l up. (next-allowed L e l, up))
 
-  none-stuck : (e : ℕ → Bool) → count (L .disks) e ≡ 0 → Stuck L e
+  pub none-stuck : (e : ℕ → Bool) → count (L .disks) e ≡ 0 → Stuck L e
   none-stuck e z =
       other-stuck L e (λ d s l h k. absurd (true≢false (sym h ∙ count-zero-none (L .disks) e z d l)))
 

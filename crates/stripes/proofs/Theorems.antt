@@ -5,7 +5,7 @@ use mathlib.Core.Bool.{Bool, true, false}
 use mathlib.Core.Logic.{_↔_}
 use mathlib.Core.List.{List}
 use Prim.Native.Nat.{ℕ, _*_, _<_}
-use lib.ListN.{length}
+use lib.ListN.{length, take, drop}
 use Rattle.stripes.specs.Fold.{count}
 use Rattle.stripes.specs.System.{Layout, Ordered, TwoStripes, whole, Codeword, Bytes, consistent}
 use Rattle.stripes.specs.Erased.{Agree, Belongs, Ambiguous}
@@ -18,6 +18,7 @@ use Rattle.stripes.proofs.Degree.{two-ordered}
 use Rattle.stripes.proofs.Core.{ambiguous}
 use Rattle.stripes.proofs.Trace.{cycle-fatal, shown}
 use Rattle.stripes.proofs.Restore.{judge, restored-is, unique}
+use Rattle.stripes.proofs.Turns.{repairs-rest, fatal-rest}
 
 -- ---- where the stripes of a disk are listed in rising order
 module _ (L : Layout) (e : ℕ → Bool) where
@@ -27,6 +28,13 @@ module _ (L : Layout) (e : ℕ → Bool) where
 
   pub same-left : (w : List Entry) → Peels L e w → Stuck L (after e w) → after e w ≡ residual L e
   same-left w = order-free-all L e w
+
+  -- Plan's order has no memory: after its first k repairs it goes on with the others, and the loss stays fatal or not.
+  pub others-follow : (k : ℕ) → repairs L (after e (take k (repairs L e))) ≡ drop k (repairs L e)
+  others-follow k = repairs-rest L k e
+
+  pub stays-fatal : (k : ℕ) → fatal L (after e (take k (repairs L e))) ≡ fatal L e
+  stays-fatal k = fatal-rest L k e
 
   module _ (ordered : Ordered L) (fine : fatal L e ≡ false) where
     -- Every erased disk is repaired once, in plan's order.

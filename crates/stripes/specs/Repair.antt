@@ -5,7 +5,7 @@ use mathlib.Core.Bool.{Bool, true, false, cond, not, _&&_, _||_}
 use mathlib.Core.List.{List, _∷_, []}
 use Prim.Native.Nat.{ℕ, zero, suc, _<_, _≤_}
 use lib.Dec.{eqb, ltb}
-use lib.ListN.{length, getD, take}
+use lib.ListN.{length, getD, set, take}
 use Rattle.stripes.specs.Fold.{every, gate, count, lowest, bit}
 use Rattle.stripes.specs.System.{Layout, on, byte, sumOver, changed}
 use Rattle.stripes.specs.Erased.{without}
@@ -71,6 +71,11 @@ repairs L e = peel L (L .disks) e
 unfoldable pub after : (ℕ → Bool) → List Entry → ℕ → Bool
 after e [] = e
 after e (r ∷ rs) = after (without e (r .disk)) rs
+
+-- A map after a list of repairs: the bytes of the repaired disks are 0.
+unfoldable pub mapAfter : List ℕ → List Entry → List ℕ
+mapAfter m [] = m
+mapAfter m (r ∷ rs) = mapAfter (set m (r .disk) 0) rs
 
 -- What plan's order leaves erased, how many they are, and whether the loss is fatal.
 unfoldable pub residual : Layout → (ℕ → Bool) → ℕ → Bool

@@ -181,7 +181,7 @@ pub tallied-less : {L : Layout} {d low high : ℕ} → Crossed L d low high → 
     → counts₂ ≡ set counts₁ high (getD counts₁ high 0 - 1)
     → (erasures (set work d 0) ≡ without (erasures work) d) × Tallied L (set work d 0) stripes counts₂
 tallied-less {L} {d} x {work} t erased e₁ e₂ =
-    let clear = erasures-clear work d (omega (arith, x .disk, t .table .disksFit)) in (
+    let clear = erasures-clear work d in (
       clear,
       record {
         table = table-fewer (t .table) (length-set work d 0) (λ i h. without-sub (erasures work) d i (ap (λ (e : ℕ → Bool). e i) (sym clear) ∙ h));

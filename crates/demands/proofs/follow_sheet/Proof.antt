@@ -29,8 +29,9 @@ returns c =
       (
         array,
         (
-          λ usable.
-              let (answer, left) = follow-any (a .size) (a .block) (a .array .now) (a .map .now) (a .sheet .now) (a .sheet .now) refl small usable in
+          λ usable k some enough.
+              let (answer, left) =
+              follow-any (a .size) (a .block) (a .array .now) (a .map .now) (a .sheet .now) (a .sheet .now) refl small usable k some enough in
               (outcome ∙ answer, array ∙ left),
           (
             λ ok.

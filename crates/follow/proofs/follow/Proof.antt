@@ -12,7 +12,7 @@ use Rattle.model.specs.Grid.{mapFits}
 use Rattle.model.specs.Sheet.{narrow, sheetBytes}
 use Rattle.model.specs.Refusal.{refusal, arrayTests}
 use Rattle.model.specs.Plan.{sheetTests, sheetLayout}
-use Rattle.model.specs.Rebuild.{rebuildRefusal}
+use Rattle.model.specs.Rebuild.{bufferRefusal}
 use Rattle.model.proofs.Refusal.{array-fits}
 use Rattle.model.proofs.Accept.{sheet-fits}
 use Rattle.entries.specs.Listed.{listed}
@@ -37,7 +37,7 @@ mapped : (c : tie.Else2) → let a = c .before .before .before .before .before .
 mapped c = sheet-fits _ _ _ (tested c)
 
 passed : (c : tie.Else2) → let a = c .before .before .before .before .before .before .before .args in
-    rebuildRefusal (a .size) (a .block) (a .array .now) (a .map .now) (a .sheet .now) ≡ 0
+    bufferRefusal (a .size) (a .block) (a .array .now) (a .map .now) (a .sheet .now) ≡ 0
 passed c =
     let a = c .before .before .before .before .before .before .before .args in
     tests-left (a .size) (a .block) (a .array .now) (a .map .now) (a .sheet .now) (sized (c .before .before)) ∙ tested c

@@ -20,13 +20,16 @@ same-length c = search needs
 same-length-2 : tie.Need-same-length-2
 same-length-2 c = search needs
 
+same-length-3 : tie.Need-same-length-3
+same-length-3 c = search needs
+
 returns : tie.Need-returns
 unfolding rectangle
 returns c =
-    let (outcome, (array, sheet)) = c .before .before .before .before .before .before .rebuild .ensures in
+    let (outcome, (array, (map, sheet))) = c .before .before .before .before .before .before .before .before .rebuild .ensures in
     let (status, count) = c .report .ensures in
-    let before = c .before .before .before .before .before .before .before .before .before .before .before .before .args .count .now in
-    (status ∙ ap outcomeStatus outcome, (array, (sheet, count ∙ ap (λ (o : Outcome). outcomeCount o before) outcome)))
+    let before = c .before .before .before .before .before .before .before .before .before .before .before .before .before .before .before .args .count .now in
+    (status ∙ ap outcomeStatus outcome, (array, (map, (sheet, count ∙ ap (λ (o : Outcome). outcomeCount o before) outcome))))
 
 pub raid2d-rebuild-spec : {M : Type 1} → statement M
-raid2d-rebuild-spec = tie.close (tie.spec rebuild-requires report-requires same-length same-length-2 returns)
+raid2d-rebuild-spec = tie.close (tie.spec rebuild-requires report-requires same-length same-length-2 same-length-3 returns)

@@ -1,0 +1,16 @@
+-- `demands::turns::any_erased` meets its contract: a disk is found exactly if there is one.
+-- Assumes nothing.
+use mathlib.Core.Path.{_∙_, sym}
+use borrow.Author.Needs.{needs}
+use Rattle.demands.proofs.Ends.{some-erased}
+use Rattle.demands.proofs.turns.any_erased.Statement.{statement}
+use Rattle.demands.proofs.turns.any_erased.Tie as tie
+
+next-erased-requires : tie.Need-next-erased-requires
+next-erased-requires c κs = search needs
+
+returns : tie.Need-returns
+returns c = some-erased (c .before .before .args .map .now) (c .next-erased .ensures)
+
+pub any-erased-spec : {M : Type 1} → statement M
+any-erased-spec = tie.close (tie.spec next-erased-requires returns)

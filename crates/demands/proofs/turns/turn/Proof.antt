@@ -1,0 +1,130 @@
+-- `demands::turns::turn` meets its contract, at each of its three ends.
+-- Assumes nothing.
+use mathlib.Core.Path.{_≡_, _∙_, sym}
+use mathlib.Core.Bool.{true, false}
+use Prim.Native.Nat.{_≤_}
+use native.Mathlib.Omega.{arith}
+use borrow.Author.Needs.{needs}
+use Rattle.model.specs.Rebuild.{rebuildTurn}
+use Rattle.model.specs.declared.Outcome.the-variants.{Repairs}
+use Rattle.demands.proofs.Ends.{refused-last, few-made, repairs-summed}
+use Rattle.demands.proofs.turns.turn.Statement.{statement}
+use Rattle.demands.proofs.turns.turn.Tie as tie
+
+rebuild-requires : tie.Need-rebuild-requires
+rebuild-requires c κs = search needs
+
+add-turns : tie.Need-add-turns
+add-turns c = search needs
+
+enum-known-last : tie.Need-enum-known-last
+enum-known-last c = search needs
+
+same-length : tie.Need-same-length
+same-length c = search needs
+
+same-length-2 : tie.Need-same-length-2
+same-length-2 c = search needs
+
+same-length-3 : tie.Need-same-length-3
+same-length-3 c = search needs
+
+returns : tie.Need-returns
+returns c =
+    let a = c .before .before .before .before .before .before .before .before .before .before .before .before .before .before .before .args in
+    let (answer, (array, (map, sheet))) = c .before .before .before .before .before .before .before .before .rebuild .ensures in (
+      refused-last (a .size) (a .block) (a .array .now) (a .map .now) (a .sheet .now) (a .limit) (a .done) _ answer (c .match .keys2),
+      (array, (map, sheet)),
+    )
+
+-- The answer is a number of repairs.
+repaired : (c : tie.After-last) → let a = c .before .before .before .before .before .before .before .before .before .before .before .before .before .before .before .before .args in
+    Repairs (c .last .given .0 .0) ≡ rebuildTurn (a .size) (a .block) (a .array .now) (a .map .now) (a .sheet .now) (a .limit) .answer
+repaired c = sym (c .last .given .1) ∙ c .before .before .before .before .before .before .before .before .before .rebuild .ensures .0
+
+few : (c : tie.After-last) → c .last .given .0 .0 ≤ 32
+few c =
+    let a = c .before .before .before .before .before .before .before .before .before .before .before .before .before .before .before .before .args in
+    few-made (a .size) (a .block) (a .array .now) (a .map .now) (a .sheet .now) (a .limit) _ (repaired c)
+
+any-erased-requires : tie.Need-any-erased-requires
+any-erased-requires c κs = search needs
+
+add-t20 : tie.Need-add-t20
+add-t20 c =
+    let s = c .before .before .before .before .before .before .before .before .before .before .before .before .before .before .before .before .before .before .before .before .before in
+    let made = s .pre .1 .0 in
+    let room = s .pre .1 .1 in
+    let count = few (c .before .before .before .before .before) in
+    omega arith
+
+sub-t21 : tie.Need-sub-t21
+sub-t21 c = search needs
+
+same-length-4 : tie.Need-same-length-4
+same-length-4 c = search needs
+
+same-length-5 : tie.Need-same-length-5
+same-length-5 c = search needs
+
+same-length-6 : tie.Need-same-length-6
+same-length-6 c = search needs
+
+returns-2 : tie.Need-returns-2
+returns-2 c =
+    let a = c .before .before .before .before .before .before .before .before .before .before .before .before .before .before .before .before .before .before .before .before .before .before .args in
+    let (answer, (array, (map, sheet))) = c .before .before .before .before .before .before .before .before .before .before .before .before .before .before .before .rebuild .ensures in (
+      repairs-summed (a .size) (a .block) (a .array .now) (a .map .now) (a .sheet .now) (a .limit) _ (repaired (c .before .before .before .before .before .before)) (a .done) _ map true
+          (sym (c .before .before .if1 .taken) ∙ c .before .before .before .any-erased .ensures),
+      (array, (map, sheet)),
+    )
+
+add-t22 : tie.Need-add-t22
+add-t22 c =
+    let s = c .before .before .before .before .before .before .before .before .before .before .before .before .before .before .before .before .before .before .before .before .before in
+    let made = s .pre .1 .0 in
+    let room = s .pre .1 .1 in
+    let count = few (c .before .before .before .before .before) in
+    omega arith
+
+same-length-7 : tie.Need-same-length-7
+same-length-7 c = search needs
+
+same-length-8 : tie.Need-same-length-8
+same-length-8 c = search needs
+
+same-length-9 : tie.Need-same-length-9
+same-length-9 c = search needs
+
+returns-3 : tie.Need-returns-3
+returns-3 c =
+    let a = c .before .before .before .before .before .before .before .before .before .before .before .before .before .before .before .before .before .before .before .before .before .args in
+    let (answer, (array, (map, sheet))) = c .before .before .before .before .before .before .before .before .before .before .before .before .before .before .rebuild .ensures in (
+      repairs-summed (a .size) (a .block) (a .array .now) (a .map .now) (a .sheet .now) (a .limit) _ (repaired (c .before .before .before .before .before)) (a .done) _ map false
+          (sym (c .before .if1 .left) ∙ c .before .before .any-erased .ensures),
+      (array, (map, sheet)),
+    )
+
+pub turn-spec : {M : Type 1} → statement M
+turn-spec =
+    tie.close
+    (tie.spec
+    rebuild-requires
+    add-turns
+    enum-known-last
+    same-length
+    same-length-2
+    same-length-3
+    returns
+    any-erased-requires
+    add-t20
+    sub-t21
+    same-length-4
+    same-length-5
+    same-length-6
+    returns-2
+    add-t22
+    same-length-7
+    same-length-8
+    same-length-9
+    returns-3)

@@ -1,0 +1,35 @@
+-- What turns come to, one after another.
+-- Assumes nothing.
+use mathlib.Core.Path.{_≡_}
+use mathlib.Core.Bool.{cond}
+use mathlib.Core.List.{List, [], map}
+use Prim.Native.Nat.{ℕ, _+_, _*_, _-_}
+use lib.ListN.{length, drop}
+use Rattle.stripes.specs.System.{Layout}
+use Rattle.model.specs.Sheet.{Format, sheetBytes, sheetsIn}
+use Rattle.model.specs.Turn.{Turn, unfinished, lastOf, repairCount, madeBy}
+use Rattle.model.specs.declared.Outcome.the-variants.{Refused}
+use Rattle.demands.specs.declared.turns.Turns.{Turns}
+
+-- Before the first turn. Without a sheet there is none, and the answer is that of a sheet of the wrong length.
+abbrev pub start : (a m : List ℕ) → Turn
+start a m = record { answer = Refused 5; array = a; map = m; sheet = [] }
+
+-- The last answer, the number of turns and of repairs, and that no sheet is left to use.
+abbrev pub sumOf : (before : Turn) → List Turn → Turns
+sumOf before ts = record { last = lastOf before ts .answer; turns = length ts; made = madeBy ts; left = 0 }
+
+-- What they come to with one turn more, which uses one sheet.
+abbrev pub nextSum : Layout → Turns → Turn → Turns
+nextSum L d t =
+    record {
+      last = t .answer;
+      turns = d .turns + 1;
+      made = d .made + repairCount (t .answer);
+      left = cond (unfinished L t) (d .left - 1) 0;
+    }
+
+-- The sheets of the turns stand one after another at the front of the buffer, and what is behind them stays.
+pub record Written (f : Format) (before after : List ℕ) (ts : List Turn) : Type 0 where
+  pub sheets : sheetsIn f (length ts) after ≡ map (λ (t : Turn). t .sheet) ts
+  pub rest : drop (sheetBytes f * length ts) after ≡ drop (sheetBytes f * length ts) before
