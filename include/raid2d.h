@@ -92,12 +92,12 @@
  *
  * CONVENTIONS
  *
- * Numbers. rows, columns, block, disk and record may have any value of size_t:
- * each is tested as it is given and never shortened before its test. A number
- * or a length that is out of range is refused, by 0 where a function returns
- * no status, and does no harm. But 2 rows and 3 columns are another array than
- * 3 rows and 2 columns, of the same length: no call can see that the two were
- * swapped, and what it writes is then wrong.
+ * Numbers. rows, columns, block, disk, limit and record may have any value of
+ * size_t: each is tested as it is given and never shortened before its test. A
+ * number or a length that is out of range is refused, by 0 where a function
+ * returns no status, and does no harm. But 2 rows and 3 columns are another
+ * array than 3 rows and 2 columns, of the same length: no call can see that
+ * the two were swapped, and what it writes is then wrong.
  *
  * Buffers. Each pointer to bytes is followed by its length, but for the sheet
  * of the functions that read one. The caller sees to three things, which no
@@ -142,10 +142,10 @@ extern "C" {
 
 /* The version of this header, as three numbers, as one, and as a string. */
 #define RAID2D_VERSION_MAJOR   0
-#define RAID2D_VERSION_MINOR   5
-#define RAID2D_VERSION_PATCH   1
-#define RAID2D_VERSION_NUMBER  501
-#define RAID2D_VERSION_STRING  "0.5.1"
+#define RAID2D_VERSION_MINOR   6
+#define RAID2D_VERSION_PATCH   0
+#define RAID2D_VERSION_NUMBER  600
+#define RAID2D_VERSION_STRING  "0.6.0"
 
 /* The range of a side: of data rows, and of data columns. */
 #define RAID2D_SIDE_MIN  2
@@ -196,6 +196,7 @@ enum raid2d_status {
     RAID2D_ERR_DATA_LENGTH = 9,
     RAID2D_ERR_CHAIN = 10,
     RAID2D_ERR_REPAIRS = 11,
+    RAID2D_ERR_LIMIT = 12,
     RAID2D_NOT_SEALED = 64
 };
 
@@ -236,6 +237,8 @@ static inline const char *raid2d_strerror(uint32_t status)
         return "the sheet's kind is not 1, or its chain leads outside or back";
     case RAID2D_ERR_REPAIRS:
         return "a repair of the sheet is not allowed, or a disk is left over";
+    case RAID2D_ERR_LIMIT:
+        return "the limit of repairs is 0";
     case RAID2D_NOT_SEALED:
         return "the array is not sealed";
     default:
@@ -447,24 +450,42 @@ uint32_t raid2d_plan(size_t rows, size_t columns,
                      size_t *count);
 
 /*
- * raid2d_rebuild: restore the blocks of all erased disks.
+ * raid2d_rebuild: restore erased disks, at most so many in one turn.
  *
- * Makes the repairs of raid2d_plan, whatever the erased blocks hold, and then
- * checks all stripes. With RAID2D_OK the whole array is sealed: it is the only
- * sealed array with these survivors. A survivor that was damaged shows only
- * where the other survivors contradict it; with rows + columns + 1 disks
- * erased none can. The map is not cleared; the host does so when it takes the
- * disks as present again.
+ * Makes the first repairs of raid2d_plan, at most limit, whatever the erased
+ * blocks hold, and marks the disks repaired as present in the map. A turn
+ * after which no disk is erased, or before which none is, checks all stripes
+ * too. A limit of rows + columns + 1 or more, such as SIZE_MAX, leaves nothing
+ * for a second turn.
  *
- *   sheet      receives the repairs or the cycle
- *   count      receives the number of repairs or of disks in the residual, as
- *              from raid2d_plan
+ * Turns one after another, each on the array and the map that the one before
+ * left, make the repairs of raid2d_plan in its order. With f disks erased and
+ * a limit of k, survivors of a sealed array are restored in f / k turns,
+ * rounded up, or in one where no disk is erased, and each turn before the last
+ * makes k repairs. This holds if nothing else changes the map or the block of
+ * a present disk between the turns; raid2d_write between them is not covered.
+ *
+ * With RAID2D_OK and a map without erased disks the whole array is sealed: it
+ * is the only sealed array with the survivors that there were before the first
+ * turn. With RAID2D_OK and a map that still has some, nothing was checked. A
+ * survivor that was damaged shows only where the other survivors contradict
+ * it, and in the last turn only; with rows + columns + 1 disks erased at first
+ * none can.
+ *
+ *   map        as above; the bytes of the disks repaired become 0
+ *   sheet      receives the repairs of this turn, or the cycle; it is one for
+ *              raid2d_follow only if no disk is left erased
+ *   limit      the most repairs for this turn, any number from 1 on
+ *   count      receives the number of repairs made, or of disks in the
+ *              residual, as from raid2d_plan
  *
  *   Reads      the map, and the blocks of the disks that are not erased
- *   Writes     the blocks of the erased disks with RAID2D_OK and
- *              RAID2D_ERR_SURVIVORS; the whole sheet with these and with
- *              RAID2D_FATAL; *count with RAID2D_OK and RAID2D_FATAL
- *   Unchanged  the blocks of all other disks and the map, always
+ *   Writes     the blocks of the disks repaired with RAID2D_OK and
+ *              RAID2D_ERR_SURVIVORS, their bytes of the map with RAID2D_OK;
+ *              the whole sheet with these and with RAID2D_FATAL; *count with
+ *              RAID2D_OK and RAID2D_FATAL
+ *   Unchanged  the blocks of all other disks and their bytes of the map,
+ *              always
  *
  * Returns the first of these that applies:
  *
@@ -473,20 +494,25 @@ uint32_t raid2d_plan(size_t rows, size_t columns,
  *   RAID2D_ERR_ARRAY_LENGTH
  *   RAID2D_ERR_MAP
  *   RAID2D_ERR_SHEET_LENGTH
- *   RAID2D_FATAL             the loss is fatal, whatever the survivors hold;
- *                            sheet and *count are those of raid2d_plan, the
- *                            array is unchanged
- *   RAID2D_ERR_SURVIVORS     the survivors belong to no sealed array, also
- *                            where no disk is erased; the blocks of the
- *                            erased disks and the whole sheet are zero,
- *                            *count unchanged
- *   RAID2D_OK                the blocks of the erased disks are restored;
- *                            sheet and *count are those of raid2d_plan
+ *   RAID2D_ERR_LIMIT
+ *   RAID2D_FATAL             the loss is fatal, whatever the survivors hold
+ *                            and whatever the limit is; sheet and *count are
+ *                            those of raid2d_plan, array and map unchanged
+ *   RAID2D_ERR_SURVIVORS     all disks still erased were repaired, or none
+ *                            was erased, and a stripe's sum is not zero: the
+ *                            survivors belong to no sealed array; the blocks
+ *                            of this turn's disks and the whole sheet are
+ *                            zero, the map and *count unchanged, and what
+ *                            earlier turns restored stays as they left it
+ *   RAID2D_OK                the sheet lists the repairs of this turn, *count
+ *                            is their number: none and 0 where no disk is
+ *                            erased
  */
 uint32_t raid2d_rebuild(size_t rows, size_t columns, size_t block,
                         uint8_t *array, size_t array_len,
-                        const uint8_t *map, size_t map_len,
+                        uint8_t *map, size_t map_len,
                         uint8_t *sheet, size_t sheet_len,
+                        size_t limit,
                         size_t *count);
 
 /*
