@@ -3,7 +3,7 @@
  * docs/SPECIFICATION.md has them, without their indent and with an empty line
  * behind each:
  *
- *     CALL     rows N, columns N, block N, disk N, record N
+ *     CALL     rows N, columns N, block N, disk N, limit N, record N
  *     array    bytes that are lent; likewise map, data and sheet
  *     returns  N, count N
  *     array    bytes afterwards; what is not named here keeps its bytes
@@ -38,7 +38,7 @@ struct buffer {
 
 struct example {
     char call[16];
-    size_t rows, columns, block, disk, record;
+    size_t rows, columns, block, disk, limit, record;
     struct buffer buffers[BUFFERS];
     int returned; /* whether the line `returns` has been read */
     size_t result, out;
@@ -124,6 +124,7 @@ static void read_line(struct example *e, const char *line)
         e->columns = number(line, "columns", 0);
         e->block = number(line, "block", 0);
         e->disk = number(line, "disk", 0);
+        e->limit = number(line, "limit", 0);
         e->record = number(line, "record", 0);
         e->buffers[SHEET].len = RAID2D_SHEET_BYTES;
         memset(e->buffers[SHEET].bytes, ARBITRARY, RAID2D_SHEET_BYTES);
@@ -193,7 +194,7 @@ static size_t run(struct example *e, size_t *out)
         return raid2d_plan(rows, columns, map, map_len, sheet, sheet_len, out);
     if (strcmp(e->call, "rebuild") == 0)
         return raid2d_rebuild(rows, columns, block, array, array_len,
-                              map, map_len, sheet, sheet_len, out);
+                              map, map_len, sheet, sheet_len, e->limit, out);
     if (strcmp(e->call, "follow") == 0)
         return raid2d_follow(rows, columns, block, array, array_len,
                              map, map_len, sheet, sheet_len, out);

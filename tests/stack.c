@@ -67,10 +67,20 @@ static void plan(void)
                          &out);
 }
 
-static void rebuild(void)
+static void rebuild_some(size_t limit)
 {
     result = raid2d_rebuild(rows, columns, BLOCK, array, array_len, map,
-                            disks, sheet, sizeof sheet, &out);
+                            disks, sheet, sizeof sheet, limit, &out);
+}
+
+static void rebuild(void)
+{
+    rebuild_some(SIZE_MAX);
+}
+
+static void rebuild_one(void)
+{
+    rebuild_some(1);
 }
 
 static void follow(void)
@@ -184,6 +194,7 @@ static const struct run runs[] = {
     { "plan", plan, "the longest cycle", stairs, RAID2D_FATAL },
     { "plan", plan, "all disks erased", all_lost, RAID2D_FATAL },
     { "rebuild", rebuild, "a row and a column lost", cross, RAID2D_OK },
+    { "rebuild", rebuild_one, "one repair of the same", cross, RAID2D_OK },
     { "rebuild", rebuild, "the longest cycle", stairs, RAID2D_FATAL },
     { "rebuild", rebuild, "survivors that disagree", contradicted,
       RAID2D_ERR_SURVIVORS },

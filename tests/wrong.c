@@ -1,10 +1,11 @@
 /*
  * Stands before the archive: every call is passed on to it, with the one fault
  * that the environment variable WRONG names, or none. The faults are of the
- * kind that guard bytes, sums, samples and squares do not show: a byte that is
- * only read, or written as it was, single losses among millions, and rows that
- * are taken for columns. tests/wrong renames the archive's functions and sees
- * that the tests fail.
+ * kind that guard bytes, sums, samples, squares and rebuilds of all disks do not
+ * show: a byte that is only read, or written as it was, single losses among
+ * millions, rows that are taken for columns, and turns that do not end as they
+ * should. tests/wrong renames the archive's functions and sees that the tests
+ * fail.
  */
 #include <stdlib.h>
 #include <string.h>
@@ -30,8 +31,9 @@ uint32_t right_plan(size_t rows, size_t columns,
                     uint8_t *sheet, size_t sheet_len, size_t *count);
 uint32_t right_rebuild(size_t rows, size_t columns, size_t block,
                        uint8_t *array, size_t array_len,
-                       const uint8_t *map, size_t map_len,
-                       uint8_t *sheet, size_t sheet_len, size_t *count);
+                       uint8_t *map, size_t map_len,
+                       uint8_t *sheet, size_t sheet_len, size_t limit,
+                       size_t *count);
 uint32_t right_follow(size_t rows, size_t columns, size_t block,
                       uint8_t *array, size_t array_len,
                       const uint8_t *map, size_t map_len,
@@ -205,6 +207,189 @@ static uint32_t spoil_plan(uint32_t status, size_t rows, size_t columns,
     return status;
 }
 
+/* ---- Turns ---- */
+
+/* A call of rebuild. */
+struct turn {
+    size_t rows, columns, block;
+    uint8_t *array;
+    size_t array_len;
+    uint8_t *map;
+    size_t map_len;
+    uint8_t *sheet;
+    size_t sheet_len, limit;
+    size_t *count;
+};
+
+static uint32_t make(const struct turn *t)
+{
+    return right_rebuild(t->rows, t->columns, t->block, t->array, t->array_len,
+                         t->map, t->map_len, t->sheet, t->sheet_len, t->limit,
+                         t->count);
+}
+
+/* All lengths are right, so that copies can be made. */
+static int has_lengths(const struct turn *t)
+{
+    size_t bytes = right_array_bytes(t->rows, t->columns, t->block);
+
+    return bytes > 0 && t->array_len == bytes
+           && t->map_len == right_disks(t->rows, t->columns)
+           && t->sheet_len == RAID2D_SHEET_BYTES;
+}
+
+static int is_clear(const struct turn *t)
+{
+    size_t disk = 0;
+
+    while (disk < t->map_len && t->map[disk] == 0)
+        disk++;
+    return disk == t->map_len;
+}
+
+/* What comes of all repairs that are left, on a copy of the array, which is to
+   be freed. */
+struct rest {
+    uint32_t status;
+    uint8_t *array;
+    uint8_t sheet[RAID2D_SHEET_BYTES];
+    size_t count;
+};
+
+static struct rest rest_of(const struct turn *t)
+{
+    struct rest rest = { 0, malloc(t->array_len), { 0 }, 0 };
+    uint8_t map[RAID2D_DISKS(RAID2D_SIDE_MAX, RAID2D_SIDE_MAX)];
+
+    if (rest.array == NULL)
+        abort();
+    memcpy(rest.array, t->array, t->array_len);
+    memcpy(map, t->map, t->map_len);
+    rest.status = right_rebuild(t->rows, t->columns, t->block, rest.array,
+                                t->array_len, map, t->map_len, rest.sheet,
+                                sizeof rest.sheet, SIZE_MAX, &rest.count);
+    return rest;
+}
+
+/* Makes the last repairs of plan's order in place of the first, where they are
+   not all of them and the survivors agree. */
+static uint32_t make_last(const struct turn *t)
+{
+    struct rest rest = rest_of(t);
+    size_t k;
+
+    if (rest.status != 0 || t->limit == 0 || t->limit >= rest.count) {
+        free(rest.array);
+        return make(t);
+    }
+    memset(t->sheet, 0, t->sheet_len);
+    t->sheet[0] = RAID2D_SHEET_REPAIRS;
+    for (k = 1; k <= t->limit; k++) {
+        size_t record = rest.count - t->limit + k;
+        size_t disk = rest.sheet[3 * record - 1];
+
+        t->sheet[3 * k - 2] = (uint8_t)k;
+        t->sheet[3 * k - 1] = (uint8_t)disk;
+        t->sheet[3 * k] = rest.sheet[3 * record];
+        memcpy(t->array + disk * t->block, rest.array + disk * t->block,
+               t->block);
+        t->map[disk] = 0;
+    }
+    *t->count = t->limit;
+    free(rest.array);
+    return 0;
+}
+
+/* Refuses by 7 as the turn that clears the map does. Before are the map and
+   the count that this turn has found. */
+static uint32_t refuse(const struct turn *t, const uint8_t *before,
+                       size_t count)
+{
+    size_t disk;
+
+    for (disk = 0; disk < t->map_len; disk++)
+        if (before[disk] != t->map[disk])
+            memset(t->array + disk * t->block, 0, t->block);
+    memset(t->sheet, 0, t->sheet_len);
+    memcpy(t->map, before, t->map_len);
+    *t->count = count;
+    return 7;
+}
+
+/* What becomes of a turn that has made its repairs. */
+static uint32_t spoil_turn(const struct turn *t, const uint8_t *before,
+                           size_t count)
+{
+    struct rest rest;
+    size_t all;
+
+    if (wrong("rebuild lists all of plan's repairs"))
+        right_plan(t->rows, t->columns, before, t->map_len, t->sheet,
+                   t->sheet_len, &all);
+    if (wrong("rebuild leaves the map"))
+        memcpy(t->map, before, t->map_len);
+    if (wrong("rebuild checks in every turn")) {
+        rest = rest_of(t);
+        free(rest.array);
+        if (rest.status == 7)
+            return refuse(t, before, count);
+    }
+    if (wrong("clears a byte behind the map"))
+        t->map[t->map_len] = 0;
+    if (wrong("clears a byte before the map"))
+        t->map[-1] = 0;
+    return 0;
+}
+
+/* What becomes of the refusal of survivors that contradict each other. */
+static uint32_t spoil_refusal(const struct turn *t)
+{
+    if (wrong("rebuild checks no clear map") && is_clear(t)) {
+        t->sheet[0] = RAID2D_SHEET_REPAIRS;
+        *t->count = 0;
+        return 0;
+    }
+    if (wrong("rebuild clears the whole map on 7"))
+        memset(t->map, 0, t->map_len);
+    return 7;
+}
+
+/* The limit that a turn goes by. */
+static size_t limit_of(const struct turn *t)
+{
+    uint8_t sheet[RAID2D_SHEET_BYTES];
+    size_t count;
+
+    if (wrong("rebuild makes one repair too many") && t->limit > 0
+        && t->limit < SIZE_MAX)
+        return t->limit + 1;
+    if (wrong("rebuild shortens the limit to a byte"))
+        return (uint8_t)t->limit;
+    if (wrong("rebuild tests the limit behind the loss") && t->limit == 0
+        && right_plan(t->rows, t->columns, t->map, t->map_len, sheet,
+                      sizeof sheet, &count) == 6)
+        return 1;
+    return t->limit;
+}
+
+static uint32_t make_wrongly(struct turn t)
+{
+    uint8_t before[RAID2D_DISKS(RAID2D_SIDE_MAX, RAID2D_SIDE_MAX)];
+    size_t count = *t.count;
+    uint32_t status;
+
+    if (!has_lengths(&t))
+        return make(&t);
+    if (wrong("rebuild takes the last repairs"))
+        return make_last(&t);
+    memcpy(before, t.map, t.map_len);
+    t.limit = limit_of(&t);
+    status = make(&t);
+    if (status == 0)
+        return spoil_turn(&t, before, count);
+    return status == 7 ? spoil_refusal(&t) : status;
+}
+
 /* ---- The calls ---- */
 
 uint32_t raid2d_seal(size_t rows, size_t columns, size_t block,
@@ -317,13 +502,14 @@ uint32_t raid2d_plan(size_t rows, size_t columns,
 
 uint32_t raid2d_rebuild(size_t rows, size_t columns, size_t block,
                         uint8_t *array, size_t array_len,
-                        const uint8_t *map, size_t map_len,
-                        uint8_t *sheet, size_t sheet_len, size_t *count)
+                        uint8_t *map, size_t map_len,
+                        uint8_t *sheet, size_t sheet_len, size_t limit,
+                        size_t *count)
 {
     struct size size = passed_on("rebuild", rows, columns);
-    uint32_t status = right_rebuild(size.rows, size.columns, block, array,
-                                    array_len, map, map_len, sheet, sheet_len,
-                                    count);
+    struct turn turn = { size.rows, size.columns, block, array, array_len,
+                         map, map_len, sheet, sheet_len, limit, count };
+    uint32_t status = make_wrongly(turn);
 
     if (status == 0 && too_many("rebuild", rows, columns, *count))
         return 6;

@@ -1,121 +1,15 @@
 /*
  * What plan and rebuild make of a loss, and follow of plan's sheet, and the
  * bytes they leave: the order's cases with their exact bytes, and losses of
- * known shapes at every size.
+ * known shapes at every size. Rebuild repairs all of a loss in one turn here.
  */
 #include <string.h>
 
+#include "loss.h"
 #include "raid2d.h"
 #include "suite.h"
 
-/* No grid has more disks. */
-#define DISKS RAID2D_DISKS(RAID2D_SIDE_MAX, RAID2D_SIDE_MAX)
-
-/* ---- Losses ---- */
-
-/* Erases the disk in row r and column k, and puts arbitrary bytes there. The
-   bytes expected after the call stay. */
-static void lose(struct call *c, size_t r, size_t k)
-{
-    size_t disk = disk_at(c->size, r, k), block = c->size.block;
-
-    c->map.bytes[disk] = c->map.expected[disk] = 1;
-    fill(c->array.bytes + disk * block, block);
-}
-
-/* Row 0 and column 0: as many disks as can be restored. */
-static void lose_cross(struct call *c)
-{
-    size_t columns = c->size.columns, i;
-
-    for (i = 0; i < most_repairs(c->size); i++)
-        if (i <= columns)
-            lose(c, 0, i);
-        else
-            lose(c, i - columns, 0);
-}
-
-/* As many again: a stair from disk (0,0) to the superparity, by steps to the
-   right and down that are as even as can be: (0,0) (0,1) (1,1) (1,2) .. in a
-   square. The first step is to the right, the last one down. */
-static size_t stair_row(struct size s, size_t step)
-{
-    return step * s.rows / (s.rows + s.columns);
-}
-
-static size_t stair_column(struct size s, size_t step)
-{
-    return step - stair_row(s, step);
-}
-
-static void lose_stair(struct call *c)
-{
-    size_t i;
-
-    for (i = 0; i < most_repairs(c->size); i++)
-        lose(c, stair_row(c->size, i), stair_column(c->size, i));
-}
-
 /* ---- What is expected ---- */
-
-/* A sheet without records; then its record k. The number of record k stands
-   in record k-1, that of record 1 in the same distance from it, at byte 1. */
-static void expect_kind(struct call *c, uint8_t kind)
-{
-    memset(c->sheet.expected, 0, c->sheet.len);
-    c->sheet.expected[0] = kind;
-}
-
-static void expect_record(struct call *c, size_t k, size_t disk, size_t stripe)
-{
-    c->sheet.expected[3 * k - 2] = (uint8_t)k;
-    c->sheet.expected[3 * k - 1] = (uint8_t)disk;
-    c->sheet.expected[3 * k] = (uint8_t)stripe;
-}
-
-static size_t erased_on(const uint8_t *map, struct size s, size_t stripe)
-{
-    size_t last = stripe < 16 ? s.columns : s.rows, count = 0, k;
-
-    for (k = 0; k <= last; k++)
-        count += map[stripe < 16 ? disk_at(s, stripe, k)
-                                 : disk_at(s, k, stripe - 16)];
-    return count;
-}
-
-/* Plan's order: at each step the lowest disk that can be repaired, by its row
-   if that is allowed, else by its column. Returns the number of repairs. */
-static size_t expect_repairs(struct call *c)
-{
-    size_t across = c->size.columns + 1, disk = 0, count = 0;
-    uint8_t map[DISKS];
-
-    memcpy(map, c->map.bytes, c->map.len);
-    expect_kind(c, RAID2D_SHEET_REPAIRS);
-    while (disk < c->map.len) {
-        size_t row = disk / across, column = 16 + disk % across;
-        int by_row = erased_on(map, c->size, row) == 1;
-
-        if (map[disk] && (by_row || erased_on(map, c->size, column) == 1)) {
-            expect_record(c, ++count, disk, by_row ? row : column);
-            map[disk] = 0;
-            disk = 0;
-        } else {
-            disk++;
-        }
-    }
-    return count;
-}
-
-/* With 7 the erased blocks are zero. */
-static void expect_zero_blocks(struct call *c)
-{
-    size_t block = c->size.block, disk;
-
-    for (disk = 0; disk < c->map.len; disk++)
-        if (c->map.bytes[disk])
-            memset(c->array.expected + disk * block, 0, block);
-}
 
 /* Plan on the call's map answers this, with the sheet expected of the call. */
 static void expect_plan(const struct call *c, size_t status, size_t count,
@@ -147,37 +41,46 @@ static void expect_follow(const struct call *c, size_t status, size_t count,
     end_call(&follow);
 }
 
-/* Plan, rebuild and follow make these repairs, and the array is as expected. */
+/* Plan, rebuild and follow make these repairs, and the array is as expected.
+   Rebuild clears the map. */
 static void expect_restored(struct call *c, size_t repairs, const char *what)
 {
-    size_t count = expect_repairs(c);
+    struct repairs list = in_plans_order(c);
 
-    expect(count == repairs, "%s: %zu repairs for %zu", what, count, repairs);
+    expect(list.count == repairs, "%s: %zu repairs for %zu", what, list.count,
+           repairs);
+    expect_list(c, &list, 0, list.count);
     expect_plan(c, 0, repairs, what);
     expect_follow(c, 0, repairs, what);
+    memset(c->map.expected, 0, c->map.len);
     expect_run(c, 0, repairs, what);
 }
 
 /* Plan and rebuild call the loss fatal with the sheet expected of the call,
-   which is no list of repairs to follow. The array keeps its bytes. */
+   which is no list of repairs to follow. The array and the map keep their
+   bytes, also where one repair could be made and the limit is 1. */
 static void expect_fatal(struct call *c, size_t lost, const char *what)
 {
     memcpy(c->array.expected, c->array.bytes, c->array.len);
     expect_plan(c, 6, lost, what);
     expect_follow(c, 10, OUT_BEFORE, what);
     expect_run(c, 6, lost, what);
+    c->limit = 1;
+    fill(c->sheet.bytes, c->sheet.len);
+    expect_run(c, 6, lost, what);
 }
 
 /* Rebuild and follow find that the survivors belong to no sealed array. With
-   7 of rebuild the whole sheet is zero too. */
+   7 of rebuild the whole sheet is zero too, and the map keeps its bytes. */
 static void expect_contradiction(struct call *c, const char *what)
 {
-    size_t repairs = expect_repairs(c);
+    struct repairs list = in_plans_order(c);
 
-    expect_plan(c, 0, repairs, what);
+    expect_list(c, &list, 0, list.count);
+    expect_plan(c, 0, list.count, what);
     expect_zero_blocks(c);
     expect_follow(c, 7, OUT_BEFORE, what);
-    memset(c->sheet.expected, 0, c->sheet.len);
+    expect_kind(c, 0);
     expect_run(c, 7, OUT_BEFORE, what);
 }
 
@@ -372,14 +275,6 @@ static void lose_all(struct size s)
 
 /* ---- Contradictory survivors ---- */
 
-/* Changes a survivor, which then keeps the change. */
-static void damage(struct call *c, size_t r, size_t k, size_t place,
-                   uint8_t change)
-{
-    *cell(c->array.bytes, c->size, r, k, place) ^= change;
-    *cell(c->array.expected, c->size, r, k, place) ^= change;
-}
-
 /* With all disks present, rebuild finds what check finds. */
 static void contradiction_without_loss(struct size s)
 {
@@ -507,7 +402,9 @@ static void run_case(const struct worked_case *w)
     expect_follow(&c, w->status == 6 ? 10 : w->status,
                   w->status == 0 ? w->count : OUT_BEFORE, w->what);
     if (w->status == 7)
-        memset(c.sheet.expected, 0, c.sheet.len);
+        expect_kind(&c, 0);
+    if (w->status == 0)
+        memset(c.map.expected, 0, c.map.len);
     expect_run(&c, w->status, w->status == 7 ? OUT_BEFORE : w->count, w->what);
     end_call(&c);
 }

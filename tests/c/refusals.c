@@ -25,6 +25,7 @@ enum argument {
     MAP_LENGTH, MAP_BYTE,                  /* from look on */
     NO_DISK, ERASED,                       /* look only */
     SHEET_LENGTH, LOSS,                    /* plan, rebuild and follow */
+    LIMIT,                                 /* rebuild only */
     CHAIN, STEP,                           /* follow only */
     DAMAGE,                                /* rebuild and follow */
     ARGUMENTS
@@ -69,7 +70,8 @@ static const struct tests tests[] = {
                     { ARRAY_LENGTH, 0 }, { MAP_LENGTH, 0 }, { MAP_BYTE, 0 },
                     { NO_DISK, 0 }, { ERASED, 0 } } },
     { PLAN, 0, 6, { SIZE_TESTS, MAP_TESTS, { LOSS, 6 } } },
-    { REBUILD, 0, 9, { ARRAY_TESTS, MAP_TESTS, { LOSS, 6 }, { DAMAGE, 7 } } },
+    { REBUILD, 0, 10, { ARRAY_TESTS, MAP_TESTS, { LIMIT, 12 }, { LOSS, 6 },
+                        { DAMAGE, 7 } } },
     { FOLLOW, 0, 11, { ARRAY_TESTS, MAP_TESTS, { CHAIN, 10 }, { STEP, 11 },
                        { LOSS, 11 }, { DAMAGE, 7 } } }
 };
@@ -197,6 +199,14 @@ static struct values map_bytes(size_t map_len)
     return v;
 }
 
+/* The least limit, and the only wrong one. */
+static struct values limits(void)
+{
+    const struct values v = { 2, { 1, 0 } };
+
+    return v;
+}
+
 /* 0 for what is right, then the numbers of so many things that are wrong. */
 static struct values numbered(size_t wrong)
 {
@@ -242,6 +252,8 @@ static struct values values_of(enum argument argument,
         return no_disks(a->size);
     case SHEET_LENGTH:
         return lengths(RAID2D_SHEET_BYTES);
+    case LIMIT:
+        return limits();
     case CHAIN:
         return numbered(WRONG_CHAINS);
     case STEP:
@@ -353,6 +365,7 @@ static struct call call_with(enum function function, const struct arguments *a)
                              a->of[SHEET_LENGTH]);
 
     c.disk = function == WRITE ? a->of[PARITY_DISK] : a->of[NO_DISK];
+    c.limit = a->of[LIMIT];
     if (a->of[ERASED] && c.disk < c.map.len)
         c.map.bytes[c.disk] = 1;
     if (function == PLAN || function == REBUILD || function == FOLLOW)

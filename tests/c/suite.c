@@ -188,6 +188,7 @@ struct call new_call(enum function function, struct size size,
     c.function = function;
     c.size = size;
     c.disk = 0;
+    c.limit = SIZE_MAX;
     c.array = lend(array_len, GUARD);
     c.map = lend(map_len, GUARD);
     c.data = lend(data_len, GUARD);
@@ -316,7 +317,7 @@ static size_t call_library(struct call *c, size_t *out)
     case REBUILD:
         return raid2d_rebuild(rows, columns, block, c->array.bytes,
                               c->array.len, c->map.bytes, c->map.len,
-                              c->sheet.bytes, c->sheet.len, out);
+                              c->sheet.bytes, c->sheet.len, c->limit, out);
     default:
         return raid2d_follow(rows, columns, block, c->array.bytes,
                              c->array.len, c->map.bytes, c->map.len,
@@ -334,7 +335,8 @@ static void set_access(const struct call *c,
         return;
     if (f == CHECK || f == LOOK || f == PLAN)
         set(&c->array.fenced);
-    set(&c->map.fenced);
+    if (f != REBUILD)
+        set(&c->map.fenced);
     set(&c->data.fenced);
     if (f != PLAN && f != REBUILD)
         set(&c->sheet.fenced);
@@ -364,12 +366,12 @@ void expect_run(struct call *c, size_t result, size_t out, const char *what)
     memcpy(&actual_out, c->out.bytes, sizeof actual_out);
     memcpy(c->out.expected, &out, sizeof out);
     expect(actual == result && lent_is_as_expected(&c->out) && bytes,
-           "%s: %s with %zu rows, %zu columns, block %zu, disk %zu, lengths "
-           "%zu (array), %zu (map), %zu (data), %zu (sheet): result %zu for "
-           "%zu, out-parameter %zu for %zu, bytes %s",
+           "%s: %s with %zu rows, %zu columns, block %zu, disk %zu, limit %zu, "
+           "lengths %zu (array), %zu (map), %zu (data), %zu (sheet): result "
+           "%zu for %zu, out-parameter %zu for %zu, bytes %s",
            what, names[c->function], c->size.rows, c->size.columns,
-           c->size.block, c->disk, c->array.len, c->map.len, c->data.len,
-           c->sheet.len, actual, result, actual_out, out,
+           c->size.block, c->disk, c->limit, c->array.len, c->map.len,
+           c->data.len, c->sheet.len, actual, result, actual_out, out,
            bytes ? "as expected" : "NOT as expected");
 }
 
@@ -441,6 +443,7 @@ int main(int argc, char **argv)
     test_refusals();
     test_answers();
     test_losses();
+    test_turns();
     test_sheets();
     printf("%lu passed, %lu failed\n", passed, failed);
     return failed == 0 ? 0 : 1;

@@ -48,7 +48,7 @@ enum function { SEAL, CHECK, WRITE, LOOK, PLAN, REBUILD, FOLLOW };
 struct call {
     enum function function;
     struct size size;
-    size_t disk;
+    size_t disk, limit;
     struct lent array, map, data, sheet, out;
 };
 
@@ -58,7 +58,7 @@ struct call {
 
 /* A call lent buffers of these lengths. The array, the data and the sheet are
    filled with arbitrary bytes, the same in every run; the map says that all
-   disks are present. */
+   disks are present. The disk is 0 and the limit is the largest. */
 struct call new_call(enum function function, struct size size,
                      size_t array_len, size_t map_len, size_t data_len,
                      size_t sheet_len);
@@ -112,6 +112,7 @@ void test_fields(void);
 void test_refusals(void);
 void test_answers(void);
 void test_losses(void);
+void test_turns(void);
 void test_sheets(void);
 
 #endif

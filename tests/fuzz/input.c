@@ -18,6 +18,13 @@ static const size_t blocks[] = {
     SIZE_MAX / 2 + 2, SIZE_MAX
 };
 
+/* Limits that are enough for every loss; most of them are 0 or 1 if they were
+   shortened. */
+static const size_t limits[] = {
+    255, 256, 257, (size_t)1 << 16, (size_t)1 << 31 << 1,
+    ((size_t)1 << 31 << 1) + 1, SIZE_MAX / 2 + 1, SIZE_MAX
+};
+
 struct numbers numbers_from(uint32_t seed)
 {
     struct numbers r;
@@ -63,6 +70,20 @@ static size_t block_of(uint8_t code)
     return blocks[(code - BLOCK_CODES - 1) % (sizeof blocks / sizeof *blocks)];
 }
 
+static size_t limit_of(uint8_t code)
+{
+    if (code <= LIMIT_CODES)
+        return code;
+    return limits[(code - LIMIT_CODES - 1) % (sizeof limits / sizeof *limits)];
+}
+
+static enum call call_of(uint8_t flags)
+{
+    if (flags & FLAG_REBUILD)
+        return REBUILD;
+    return flags & FLAG_FOLLOW ? FOLLOW : PLAN;
+}
+
 /* The length that is asked for, changed by a signed byte and never below 0. */
 static size_t changed_length(size_t length, uint8_t by)
 {
@@ -97,7 +118,7 @@ void read_input(struct input *in, const uint8_t *data, size_t size)
     uint8_t all[INPUT_MAX] = {0};
 
     memcpy(all, data, size < INPUT_MAX ? size : INPUT_MAX);
-    in->follow = (all[AT_FLAGS] & FLAG_FOLLOW) != 0;
+    in->call = call_of(all[AT_FLAGS]);
     in->behind = (all[AT_FLAGS] & FLAG_BEHIND) != 0;
     in->pass_null = (all[AT_FLAGS] & FLAG_NULL) != 0;
     read_lengths(in, all);
@@ -106,6 +127,7 @@ void read_input(struct input *in, const uint8_t *data, size_t size)
     in->seed = all[AT_SEED] | (uint32_t)all[AT_SEED + 1] << 8 |
                (uint32_t)all[AT_SEED + 2] << 16 |
                (uint32_t)all[AT_SEED + 3] << 24;
+    in->limit = limit_of(all[AT_LIMIT]);
     memset(in->sheet, 0, sizeof in->sheet);
     memcpy(in->sheet, all + AT_SHEET, AT_MAP - AT_SHEET);
     memset(in->map, 0, sizeof in->map);

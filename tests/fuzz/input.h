@@ -1,10 +1,11 @@
 /*
- * An input of the fuzzer: a call of raid2d_plan or raid2d_follow in a few
- * hundred bytes.
+ * An input of the fuzzer: a call of raid2d_plan or raid2d_follow, or turns of
+ * raid2d_rebuild, in a few hundred bytes.
  *
  *   byte 0       bit 0: follow, else plan. Bit 1: what is lent begins right
  *                behind a page without access, else it ends right before one.
- *                Bit 2: NULL is passed for what is empty.
+ *                Bit 2: NULL is passed for what is empty. Bit 3: rebuild,
+ *                whatever bit 0 is.
  *   bytes 1..3   rows, columns and block: small numbers as they are, others
  *                by a table
  *   bytes 4..6   how much longer the array, the map and the sheet are than
@@ -12,7 +13,9 @@
  *   byte 7       what the array holds: one of enum contents
  *   byte 8       the disk that is damaged
  *   bytes 9..12  the seed of all arbitrary bytes
- *   98 bytes     the sheet that follow reads
+ *   98 bytes     the sheet that follow reads. Rebuild reads none: the first of
+ *                them is its limit, small numbers as they are, others by a
+ *                table
  *   the rest     the map
  *
  * Bytes that are missing are zero, so every byte string is an input.
@@ -37,11 +40,14 @@ enum {
     AT_DISK = 8,
     AT_SEED = 9,
     AT_SHEET = 13,
+    AT_LIMIT = AT_SHEET,
     AT_MAP = AT_SHEET + 98,
     INPUT_MAX = AT_MAP + 18 * 18
 };
 
-enum { FLAG_FOLLOW = 1, FLAG_BEHIND = 2, FLAG_NULL = 4 };
+enum { FLAG_FOLLOW = 1, FLAG_BEHIND = 2, FLAG_NULL = 4, FLAG_REBUILD = 8 };
+
+enum call { PLAN, FOLLOW, REBUILD };
 
 /* The array is sealed; or one byte of one disk is changed; or two disks of a
    row, of a column, or four in the corners of a rectangle are changed by the
@@ -51,8 +57,8 @@ enum contents {
     ARBITRARY, CONTENTS
 };
 
-/* Numbers up to these stand for themselves in bytes 1 to 3. */
-enum { SIDE_CODES = 17, BLOCK_CODES = 64 };
+/* Numbers up to these stand for themselves in bytes 1 to 3, and for a limit. */
+enum { SIDE_CODES = 17, BLOCK_CODES = 64, LIMIT_CODES = 40 };
 
 /* The most bytes that an input can ask for. */
 enum {
@@ -62,7 +68,8 @@ enum {
 };
 
 struct input {
-    int follow, behind, pass_null;
+    enum call call;
+    int behind, pass_null;
     struct grid grid;   /* as it is passed */
     struct grid small;  /* the same, with small numbers for great ones */
     size_t block;
@@ -71,6 +78,7 @@ struct input {
     enum contents contents;
     size_t disk;
     uint32_t seed;
+    size_t limit;
     uint8_t sheet[SHEET_LEN_MAX];
     uint8_t map[MAP_LEN_MAX];
 };

@@ -1,6 +1,6 @@
 /*
- * The model: what plan and follow must answer. Written from the order's words,
- * and from nothing of the library.
+ * The model: what plan, follow and rebuild must answer. Written from the
+ * order's words, and from nothing of the library.
  */
 #include <string.h>
 
@@ -17,7 +17,8 @@ enum {
     FATAL = 6,
     CONTRADICTION = 7,
     BROKEN_CHAIN = 10,
-    NOT_ALLOWED = 11
+    NOT_ALLOWED = 11,
+    WRONG_LIMIT = 12
 };
 
 /* ---- the grid */
@@ -285,7 +286,24 @@ const char *judge_plan(const struct planned *p)
     return judge_outcome(p);
 }
 
-/* ---- follow */
+/* ---- follow and rebuild */
+
+/* The refusals with which both begin. */
+static uint32_t refusal(struct grid g, size_t block, size_t array_len,
+                        const uint8_t *map, size_t map_len, size_t sheet_len)
+{
+    if (!grid_fits(g))
+        return WRONG_SIDE;
+    if (block < 1 || block > 4096)
+        return WRONG_BLOCK;
+    if (array_len != disks_of(g) * block)
+        return WRONG_ARRAY;
+    if (!map_fits(g, map, map_len))
+        return WRONG_MAP;
+    if (sheet_len != SHEET_BYTES)
+        return WRONG_SHEET;
+    return DONE;
+}
 
 int read_chain(const uint8_t *sheet, uint8_t order[RECORDS])
 {
@@ -388,18 +406,11 @@ uint32_t model_follow(struct grid g, size_t block,
                       size_t *count)
 {
     uint8_t order[RECORDS];
+    uint32_t status = refusal(g, block, array_len, map, map_len, sheet_len);
     int steps, i;
 
-    if (!grid_fits(g))
-        return WRONG_SIDE;
-    if (block < 1 || block > 4096)
-        return WRONG_BLOCK;
-    if (array_len != disks_of(g) * block)
-        return WRONG_ARRAY;
-    if (!map_fits(g, map, map_len))
-        return WRONG_MAP;
-    if (sheet_len != SHEET_BYTES)
-        return WRONG_SHEET;
+    if (status != DONE)
+        return status;
     steps = read_chain(sheet, order);
     if (steps < 0)
         return BROKEN_CHAIN;
@@ -412,5 +423,49 @@ uint32_t model_follow(struct grid g, size_t block,
         return CONTRADICTION;
     }
     *count = (size_t)steps;
+    return DONE;
+}
+
+/* The sheet lists the first of planned repairs, so many of them. */
+static void list_first(uint8_t *sheet, const uint8_t *planned, size_t made)
+{
+    size_t end = made == 0 ? 1 : record_at(made) + 2;
+
+    memset(sheet, 0, SHEET_BYTES);
+    memcpy(sheet, planned, end);
+}
+
+uint32_t model_rebuild(struct grid g, size_t block,
+                       uint8_t *array, size_t array_len,
+                       uint8_t *map, size_t map_len,
+                       uint8_t *sheet, size_t sheet_len,
+                       size_t limit, size_t *count)
+{
+    uint8_t left[DISKS_MAX], planned[SHEET_BYTES];
+    uint32_t status = refusal(g, block, array_len, map, map_len, sheet_len);
+    size_t repairs, made, k;
+
+    if (status != DONE)
+        return status;
+    if (limit == 0)
+        return WRONG_LIMIT;
+    memcpy(left, map, map_len);
+    repairs = plan_repairs(g, left, planned);
+    if (count_erased(left, map_len) > 0) {
+        *count = count_erased(left, map_len);
+        return FATAL;
+    }
+    made = limit < repairs ? limit : repairs;
+    for (k = 1; k <= made; k++)
+        make_repair(g, block, array, planned + record_at(k));
+    if (made == repairs && !is_sealed(g, block, array)) {
+        zero_erased(block, array, map, map_len);
+        memset(sheet, 0, SHEET_BYTES);
+        return CONTRADICTION;
+    }
+    for (k = 1; k <= made; k++)
+        map[planned[record_at(k)]] = 0;
+    list_first(sheet, planned, made);
+    *count = made;
     return DONE;
 }

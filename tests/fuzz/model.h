@@ -1,6 +1,6 @@
 /*
- * What plan and follow must answer, in plain C, written from the order alone:
- * its rules, its numbers and its formats. Only the words are those of
+ * What plan, follow and rebuild must answer, in plain C, written from the order
+ * alone: its rules, its numbers and its formats. Only the words are those of
  * include/raid2d.h. It goes disk by disk and byte by byte.
  */
 #ifndef MODEL_H
@@ -80,6 +80,16 @@ uint32_t model_follow(struct grid g, size_t block,
                       const uint8_t *map, size_t map_len,
                       const uint8_t *sheet, size_t sheet_len,
                       size_t *count);
+
+/*
+ * What raid2d_rebuild must do in one turn, with its parameters. For a fatal
+ * loss the sheet is left alone, since which loop it shows is free.
+ */
+uint32_t model_rebuild(struct grid g, size_t block,
+                       uint8_t *array, size_t array_len,
+                       uint8_t *map, size_t map_len,
+                       uint8_t *sheet, size_t sheet_len,
+                       size_t limit, size_t *count);
 
 /* A call of raid2d_plan: what it was lent, and what it left and returned. */
 struct planned {

@@ -1,8 +1,8 @@
 /*
  * Changes inputs in ways that keep most of them near to a valid call: a loss
- * that can be repaired or just not, with a sheet that lists its repairs, and
- * from there one small fault or another. The general mutator of the fuzzer has
- * its turn too.
+ * that can be repaired or just not, with a sheet that lists its repairs or a
+ * limit for its turns, and from there one small fault or another. The general
+ * mutator of the fuzzer has its turn too.
  */
 #include <string.h>
 
@@ -360,6 +360,51 @@ static void change_sheet(struct draft *d)
     }
 }
 
+/* ---- turns */
+
+/* A limit of few repairs, or of a part of the loss, or that is just enough for
+   it, or nearly; else any. */
+static uint8_t draw_limit(struct draft *d)
+{
+    size_t erased = count_erased(d->map, d->disks);
+
+    switch (draw(&d->random, 4)) {
+    case 0:
+        return (uint8_t)draw(&d->random, 4);
+    case 1:
+        return (uint8_t)(1 + draw(&d->random, (uint32_t)erased + 1));
+    case 2:
+        return (uint8_t)(erased + draw(&d->random, 3) - 1);
+    default:
+        return (uint8_t)draw(&d->random, 256);
+    }
+}
+
+static int is_rebuild(const struct draft *d)
+{
+    return (d->bytes[AT_FLAGS] & FLAG_REBUILD) != 0;
+}
+
+/* What a call needs beside the loss: rebuild a limit, others plan's sheet. */
+static void fit_to_loss(struct draft *d)
+{
+    if (is_rebuild(d))
+        d->bytes[AT_LIMIT] = draw_limit(d);
+    else
+        plan_sheet(d);
+}
+
+/* Another limit, or other survivors. */
+static void change_turns(struct draft *d)
+{
+    if (one_in(d, 2)) {
+        d->bytes[AT_LIMIT] = draw_limit(d);
+    } else {
+        d->bytes[AT_CONTENTS] = (uint8_t)draw(&d->random, CONTENTS);
+        d->bytes[AT_DISK] = (uint8_t)draw(&d->random, (uint32_t)d->disks);
+    }
+}
+
 /* ---- the rest of an input */
 
 static void change_map(struct draft *d)
@@ -372,7 +417,7 @@ static void change_map(struct draft *d)
     else
         *byte ^= 1;
     if (one_in(d, 3))
-        plan_sheet(d);
+        fit_to_loss(d);
 }
 
 /* A length byte: mostly right, else a little off, else anything. */
@@ -417,13 +462,15 @@ static uint8_t draw_side(struct draft *d)
     return (uint8_t)(2 + draw(&d->random, one_in(d, 2) ? 3 : 14));
 }
 
-/* A new input: right lengths, a loss, and mostly a sheet for it. */
+/* A new input: right lengths, a loss, and a sheet or a limit for it. */
 static void draw_input(struct draft *d)
 {
     size_t i;
 
     memset(d->bytes, 0, AT_MAP);
     d->bytes[AT_FLAGS] = (uint8_t)draw(&d->random, 4) | !one_in(d, 4);
+    if (one_in(d, 3))
+        d->bytes[AT_FLAGS] |= FLAG_REBUILD;
     d->bytes[AT_ROWS] = draw_side(d);
     d->bytes[AT_COLUMNS] = draw_side(d);
     d->bytes[AT_BLOCK] = (uint8_t)(1 + draw(&d->random, one_in(d, 2) ? 4 : 40));
@@ -432,10 +479,10 @@ static void draw_input(struct draft *d)
         d->bytes[i] = (uint8_t)draw(&d->random, 256);
     read_grid(d);
     draw_loss(d);
-    if (one_in(d, 2))
+    if (!is_rebuild(d) && one_in(d, 2))
         draw_sheet(d);
     else
-        plan_sheet(d);
+        fit_to_loss(d);
 }
 
 static void change(struct draft *d)
@@ -446,10 +493,10 @@ static void change(struct draft *d)
         break;
     case 1:
         draw_loss(d);
-        plan_sheet(d);
+        fit_to_loss(d);
         break;
     case 2:
-        plan_sheet(d);
+        fit_to_loss(d);
         break;
     case 3:
         draw_sheet(d);
@@ -466,7 +513,10 @@ static void change(struct draft *d)
         swap_sides(d);
         break;
     default:
-        change_sheet(d);
+        if (is_rebuild(d))
+            change_turns(d);
+        else
+            change_sheet(d);
     }
 }
 

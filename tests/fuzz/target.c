@@ -1,7 +1,7 @@
 /*
- * Makes the call that an input stands for, through the archive, and compares
- * all it returns and leaves with the model. A difference is printed and ends
- * the program, as a wrong access does by itself.
+ * Makes the call or the turns that an input stands for, through the archive,
+ * and compares all that is returned and left with the model. A difference is
+ * printed and ends the program, as a wrong access does by itself.
  */
 #include <stdio.h>
 #include <stdlib.h>
@@ -17,8 +17,9 @@ int LLVMFuzzerTestOneInput(const uint8_t *data, size_t size);
 /* What is lent; the same memory in every call. */
 static struct lent array, map, sheet, count;
 
-/* The array as the model leaves it. */
+/* The array, the map and the sheet as the model leaves them. */
 static uint8_t *model_array;
+static uint8_t model_map[MAP_LEN_MAX], model_sheet[SHEET_LEN_MAX];
 
 /* What the count holds before each call: no byte of it is zero. */
 #define COUNT_BEFORE (SIZE_MAX / 255 * 0x5a)
@@ -38,16 +39,29 @@ static void make_all_room(void)
     }
 }
 
-static void lend_all(const struct input *in)
+static void set_count(void)
 {
     size_t before = COUNT_BEFORE;
 
+    memcpy(count.bytes, &before, sizeof before);
+}
+
+/* All but the array. */
+static void lend_all(const struct input *in)
+{
     lend(&map, in->map_len, in->behind);
     memcpy(map.bytes, in->map, in->map_len);
     lend(&sheet, in->sheet_len, in->behind);
     memcpy(sheet.bytes, in->sheet, in->sheet_len);
-    lend(&count, sizeof before, in->behind);
-    memcpy(count.bytes, &before, sizeof before);
+    lend(&count, sizeof(size_t), in->behind);
+    set_count();
+}
+
+static void lend_array(const struct input *in)
+{
+    lend(&array, in->array_len, in->behind);
+    fill_array(in, array.bytes);
+    memcpy(model_array, array.bytes, in->array_len);
 }
 
 /* What is passed for lent bytes. */
@@ -87,9 +101,7 @@ static const char *try_follow(const struct input *in)
     uint32_t status;
 
     lend_all(in);
-    lend(&array, in->array_len, in->behind);
-    fill_array(in, array.bytes);
-    memcpy(model_array, array.bytes, in->array_len);
+    lend_array(in);
     status = model_follow(in->grid, in->block, model_array, in->array_len,
                           in->map, in->map_len, in->sheet, in->sheet_len,
                           &expected);
@@ -115,26 +127,114 @@ static uint32_t call_plan(const struct input *in)
     return status;
 }
 
-/* What is wrong with plan. Its sheet holds arbitrary bytes before the call. */
-static const char *try_plan(const struct input *in)
+/* The sheet of plan or rebuild holds arbitrary bytes before a call, and the
+   model's the same. */
+static void fill_sheets(const struct input *in, uint32_t turn)
 {
-    uint8_t before[SHEET_LEN_MAX];
+    fill_arbitrary(in->seed + turn, model_sheet, in->sheet_len);
+    memcpy(sheet.bytes, model_sheet, in->sheet_len);
+}
+
+/* What is wrong with a status, a count and a sheet that are to be plan's. */
+static const char *judge_as_plan(const struct input *in, uint32_t status)
+{
     struct planned p;
 
-    lend_all(in);
-    lend(&array, 0, in->behind);
-    fill_arbitrary(in->seed, before, in->sheet_len);
-    memcpy(sheet.bytes, before, in->sheet_len);
     p.grid = in->grid;
     p.map = in->map;
     p.map_len = in->map_len;
-    p.sheet_before = before;
+    p.sheet_before = model_sheet;
     p.sheet = sheet.bytes;
     p.sheet_len = in->sheet_len;
     p.count_before = COUNT_BEFORE;
-    p.status = call_plan(in);
     p.count = count_now();
+    p.status = status;
     return judge_plan(&p);
+}
+
+/* What is wrong with plan. */
+static const char *try_plan(const struct input *in)
+{
+    lend_all(in);
+    lend(&array, 0, in->behind);
+    fill_sheets(in, 0);
+    return judge_as_plan(in, call_plan(in));
+}
+
+static uint32_t call_rebuild(const struct input *in)
+{
+    return raid2d_rebuild(in->grid.rows, in->grid.columns, in->block,
+                          passed(in, &array), in->array_len,
+                          passed(in, &map), in->map_len,
+                          passed(in, &sheet), in->sheet_len,
+                          in->limit, (size_t *)(void *)count.bytes);
+}
+
+/* What is wrong with the sheet of a fatal loss. */
+static const char *try_loop(const struct input *in)
+{
+    uint8_t planned[SHEET_BYTES];
+    size_t lost;
+
+    raid2d_plan(in->grid.rows, in->grid.columns, in->map, in->map_len,
+                planned, sizeof planned, &lost);
+    if (memcmp(sheet.bytes, planned, sizeof planned) != 0)
+        return "rebuild's loop is not that of plan";
+    return judge_as_plan(in, RAID2D_FATAL);
+}
+
+/* What is wrong with one turn of rebuild, which should end with *status. */
+static const char *try_turn(const struct input *in, uint32_t *status)
+{
+    size_t expected = COUNT_BEFORE;
+
+    *status = model_rebuild(in->grid, in->block, model_array, in->array_len,
+                            model_map, in->map_len, model_sheet,
+                            in->sheet_len, in->limit, &expected);
+    if (call_rebuild(in) != *status)
+        return "rebuild's status is another one";
+    if (count_now() != expected)
+        return "rebuild's count is another one";
+    if (memcmp(array.bytes, model_array, in->array_len) != 0)
+        return "rebuild leaves another array";
+    if (memcmp(map.bytes, model_map, in->map_len) != 0)
+        return "rebuild leaves another map";
+    if (*status == RAID2D_FATAL)
+        return try_loop(in);
+    if (memcmp(sheet.bytes, model_sheet, in->sheet_len) != 0)
+        return "rebuild leaves another sheet";
+    return NULL;
+}
+
+/* What is wrong with rebuild's turns, up to one that is refused or after which
+   no disk is erased. */
+static const char *try_rebuild(const struct input *in)
+{
+    const char *wrong;
+    uint32_t status, turn = 0;
+
+    lend_all(in);
+    lend_array(in);
+    memcpy(model_map, in->map, in->map_len);
+    do {
+        fill_sheets(in, turn++);
+        set_count();
+        wrong = try_turn(in, &status);
+    } while (wrong == NULL && status == RAID2D_OK &&
+             count_erased(model_map, in->map_len) > 0);
+    return wrong;
+}
+
+static const char *try_call(const struct input *in)
+{
+    switch (in->call) {
+    case REBUILD:
+        return try_rebuild(in);
+    case FOLLOW:
+        return try_follow(in);
+    default:
+        return try_plan(in);
+    }
 }
 
 /* What must hold after every call: guards, and what is only read. */
@@ -143,9 +243,10 @@ static const char *try_rest(const struct input *in)
     if (!guards_hold(&array) || !guards_hold(&map) || !guards_hold(&sheet) ||
         !guards_hold(&count))
         return "a byte beside a lent buffer has changed";
-    if (memcmp(map.bytes, in->map, in->map_len) != 0)
+    if (in->call != REBUILD && memcmp(map.bytes, in->map, in->map_len) != 0)
         return "the map has changed";
-    if (in->follow && memcmp(sheet.bytes, in->sheet, in->sheet_len) != 0)
+    if (in->call == FOLLOW &&
+        memcmp(sheet.bytes, in->sheet, in->sheet_len) != 0)
         return "follow has changed the sheet";
     return NULL;
 }
@@ -157,7 +258,7 @@ int LLVMFuzzerTestOneInput(const uint8_t *data, size_t size)
 
     make_all_room();
     read_input(&in, data, size);
-    wrong = in.follow ? try_follow(&in) : try_plan(&in);
+    wrong = try_call(&in);
     if (wrong == NULL)
         wrong = try_rest(&in);
     if (wrong != NULL) {

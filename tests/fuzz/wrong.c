@@ -1,6 +1,6 @@
 /*
- * A stand-in for the archive that is wrong on purpose: the model's plan and
- * follow, with the one fault that the environment variable WRONG names, or
+ * A stand-in for the archive that is wrong on purpose: the model's plan, follow
+ * and rebuild, with the one fault that the environment variable WRONG names, or
  * none. tests/fuzz/wrong sees that the fuzzer finds each. It takes the faults'
  * names from the calls of `wrong` below.
  */
@@ -56,6 +56,18 @@ static struct grid grid_of_plan(size_t rows, size_t columns)
     if (wrong("plan tests the columns only"))
         g.rows = untested(rows);
     if (wrong("plan tests the rows only"))
+        g.columns = untested(columns);
+    return g;
+}
+
+/* The size as rebuild tests it. */
+static struct grid grid_of_rebuild(size_t rows, size_t columns)
+{
+    struct grid g = {rows, columns};
+
+    if (wrong("rebuild tests the columns only"))
+        g.rows = untested(rows);
+    if (wrong("rebuild tests the rows only"))
         g.columns = untested(columns);
     return g;
 }
@@ -456,4 +468,222 @@ uint32_t raid2d_plan(size_t rows, size_t columns,
     if (sheet_len != SHEET_BYTES)
         return 5;
     return plan_with_fault(grid_to_plan_in(g), map, map_len, sheet, count);
+}
+
+/* ---- rebuild */
+
+/* A turn with arguments that are not refused, and what plan says of its loss
+   before it. */
+struct turn {
+    struct grid grid;
+    size_t block;
+    uint8_t *array;
+    size_t array_len;
+    uint8_t *map;
+    size_t map_len;
+    uint8_t *sheet;
+    size_t limit;
+    size_t *count;
+    uint8_t map_before[DISKS_MAX], planned[SHEET_BYTES];
+    size_t repairs, lost;
+};
+
+static void plan_turn(struct turn *t)
+{
+    uint8_t left[DISKS_MAX];
+
+    memcpy(t->map_before, t->map, t->map_len);
+    memcpy(left, t->map, t->map_len);
+    t->repairs = plan_repairs(t->grid, left, t->planned);
+    t->lost = count_erased(left, t->map_len);
+}
+
+/* The limit as rebuild takes it. */
+static size_t limit_of_turn(const struct turn *t)
+{
+    size_t limit = t->limit;
+
+    if (wrong("shortens the limit to a byte"))
+        return (uint8_t)limit;
+    if (wrong("shortens the limit to 32 bits"))
+        return (uint32_t)limit;
+    if (wrong("takes a limit of 0 for 1") && limit == 0)
+        return 1;
+    if (wrong("gives 12 after 6") && limit == 0 && t->lost > 0)
+        return 1;
+    if (wrong("makes one repair too many") && limit > 0 && limit < t->repairs)
+        return limit + 1;
+    if (wrong("makes one repair too few") && limit > 1 && limit < t->repairs)
+        return limit - 1;
+    return limit;
+}
+
+/* Makes the last of plan's repairs in place of the first. */
+static uint32_t take_last(struct turn *t)
+{
+    size_t first = t->repairs - t->limit + 1, k;
+
+    memset(t->sheet, 0, SHEET_BYTES);
+    memcpy(t->sheet, t->planned, 2);
+    for (k = 1; k <= t->limit; k++) {
+        const uint8_t *record = t->planned + record_at(first + k - 1);
+
+        make_repair(t->grid, t->block, t->array, record);
+        t->map[record[0]] = 0;
+        memcpy(t->sheet + record_at(k), record, 2);
+        t->sheet[record_at(k) + 2] = (uint8_t)(k < t->limit ? k + 1 : 0);
+    }
+    *t->count = t->limit;
+    return 0;
+}
+
+/* A stripe without an erased disk is not sealed. */
+static int seems_contradicted(const struct turn *t)
+{
+    size_t stripe, disk;
+
+    for (stripe = 0; stripe < STRIPES; stripe++) {
+        for (disk = 0; disk < t->map_len; disk++)
+            if (t->map[disk] == 1 && on_stripe(t->grid, disk, stripe))
+                break;
+        if (disk == t->map_len &&
+            !stripe_is_sealed(t->grid, t->block, t->array, stripe))
+            return 1;
+    }
+    return 0;
+}
+
+/* What is wrong after a turn that made its repairs. */
+static uint32_t spoil_made(struct turn *t)
+{
+    int left = count_erased(t->map, t->map_len) > 0;
+
+    if (wrong("checks in every turn") && seems_contradicted(t))
+        return 7;
+    if (wrong("leaves the map"))
+        memcpy(t->map, t->map_before, t->map_len);
+    if (wrong("leaves the map while disks are erased") && left)
+        memcpy(t->map, t->map_before, t->map_len);
+    if (wrong("clears the whole map"))
+        memset(t->map, 0, t->map_len);
+    if (wrong("lists all of plan's repairs"))
+        memcpy(t->sheet, t->planned, SHEET_BYTES);
+    if (wrong("ends a turn's list with a number") && left)
+        t->sheet[record_at(*t->count) + 2] = (uint8_t)(*t->count + 1);
+    if (wrong("counts all of plan's repairs"))
+        *t->count = t->repairs;
+    return 0;
+}
+
+/* What is wrong after a turn that found a contradiction. */
+static uint32_t spoil_undone(struct turn *t)
+{
+    if (wrong("clears the map with 7"))
+        memset(t->map, 0, t->map_len);
+    if (wrong("leaves the sheet's kind with 7"))
+        t->sheet[0] = 1;
+    if (wrong("rebuild counts with 7"))
+        *t->count = 0;
+    if (wrong("rebuild zeroes the array with 7"))
+        memset(t->array, 0, t->array_len);
+    if (wrong("rebuild leaves a block with 7") && t->repairs > 0)
+        make_repair(t->grid, t->block, t->array, t->planned + record_at(1));
+    if (wrong("skips the check of a clear map") && t->repairs == 0)
+        return 0;
+    if (wrong("skips the check of a last turn") && t->limit == t->repairs)
+        return 0;
+    return 7;
+}
+
+/* Takes the last erased disk off a map if the loss is then still fatal. */
+static void drop_last(struct grid g, uint8_t *map)
+{
+    uint8_t left[DISKS_MAX], unused[SHEET_BYTES];
+    size_t last = disks_of(g) - 1;
+
+    while (map[last] == 0)
+        last--;
+    memcpy(left, map, disks_of(g));
+    left[last] = 0;
+    plan_repairs(g, left, unused);
+    map[last] = count_erased(left, disks_of(g)) == 0;
+}
+
+/* What is wrong after a turn that found the loss fatal. Count and sheet are
+   plan's. */
+static uint32_t spoil_fatal(struct turn *t)
+{
+    struct grid g = t->grid;
+    size_t unused;
+
+    raid2d_plan(g.rows, g.columns, t->map_before, t->map_len, t->sheet,
+                SHEET_BYTES, t->count);
+    if (wrong("clears the map with 6"))
+        memset(t->map, 0, t->map_len);
+    if (wrong("makes a fatal loss's repairs first") && t->limit <= t->repairs)
+        return 0;
+    if (wrong("rebuild shows another loop than plan")) {
+        drop_last(g, t->map_before);
+        raid2d_plan(g.rows, g.columns, t->map_before, t->map_len, t->sheet,
+                    SHEET_BYTES, &unused);
+    }
+    return 6;
+}
+
+static uint32_t rebuild_with_fault(struct turn *t)
+{
+    uint32_t status;
+
+    plan_turn(t);
+    t->limit = limit_of_turn(t);
+    if (wrong("takes the last of plan's repairs") && t->lost == 0 &&
+        t->limit > 0 && t->limit < t->repairs)
+        return take_last(t);
+    status = model_rebuild(t->grid, t->block, t->array, t->array_len,
+                           t->map, t->map_len, t->sheet, SHEET_BYTES,
+                           t->limit, t->count);
+    if (status == 0)
+        return spoil_made(t);
+    if (status == 7)
+        return spoil_undone(t);
+    return status == 6 ? spoil_fatal(t) : status;
+}
+
+/* The refusal that comes before that of the limit, 12 if there is none: with a
+   limit of 0 the model tests all else and changes nothing. */
+static uint32_t refusal_before_limit(struct turn *t, size_t sheet_len)
+{
+    uint32_t status;
+
+    if (wrong("tests the limit before the sheet's length") && t->limit == 0)
+        sheet_len = SHEET_BYTES;
+    if (wrong("rebuild takes any longer sheet") && sheet_len > SHEET_BYTES)
+        sheet_len = SHEET_BYTES;
+    status = model_rebuild(t->grid, t->block, t->array, t->array_len,
+                           t->map, t->map_len, t->sheet, sheet_len, 0,
+                           t->count);
+    if (wrong("tests rebuild's map before its array") && status == 3 &&
+        t->map_len != disks_of(t->grid))
+        return 4;
+    if (wrong("tests rebuild's sheet before its map") && status == 4 &&
+        sheet_len != SHEET_BYTES)
+        return 5;
+    return status;
+}
+
+uint32_t raid2d_rebuild(size_t rows, size_t columns, size_t block,
+                        uint8_t *array, size_t array_len,
+                        uint8_t *map, size_t map_len,
+                        uint8_t *sheet, size_t sheet_len,
+                        size_t limit, size_t *count)
+{
+    struct turn t = {grid_of_rebuild(rows, columns), block, array, array_len,
+                     map, map_len, sheet, limit, count, {0}, {0}, 0, 0};
+    uint32_t status = refusal_before_limit(&t, sheet_len);
+
+    if (status != 12)
+        return status;
+    if (wrong("rebuild swaps rows and columns"))
+        t.grid = swapped(t.grid);
+    return rebuild_with_fault(&t);
 }

@@ -141,6 +141,14 @@ pub fn sheet(random: &mut Random) -> Vec<u8> {
     random.bytes(length)
 }
 
+/// A limit of repairs: enough for all of them half of the time, and now and then none, or a number that is less or none
+/// where it is shortened.
+pub fn limit(random: &mut Random) -> usize {
+    let some = random.between(1, RECORDS);
+    let good = random.pick(&[some, usize::MAX]);
+    number(random, good, &[0, 1 << 8, 1 << 16, 1 << 32, 1 << 63])
+}
+
 /// A list of repairs for the map, now and then with something wrong or of a wrong length.
 pub fn repairs(random: &mut Random, grid: Grid, map: &[u8]) -> Vec<u8> {
     let steps = sheets::any_order(random, grid, map);

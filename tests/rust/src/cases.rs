@@ -3,24 +3,25 @@
 
 use crate::inputs::{grids_up_to, BLOCK_MAX, LARGEST};
 use crate::losses::{map_of, map_of_bits, rectangles, sets_up_to};
-use crate::model::{BROKEN, FATAL};
+use crate::model::{BROKEN, FATAL, NO_REPAIRS};
 use crate::outcome::Outcome;
+use crate::rebuild::AT_ONCE;
 use crate::sheet::SHEET;
 use crate::size::{Grid, Size};
 use crate::{ffi, model, Run};
 
-/// A sealed array.
+/// An array of known bytes, sealed but where it is called damaged.
 #[derive(Clone, Copy)]
-struct Sealed<'a> {
+struct Known<'a> {
     size: Size,
     array: &'a [u8],
 }
 
 /// The paper's sealed array A.
-const A: Sealed<'static> = Sealed { size: Size::new(2, 2, 1), array: &[1, 2, 3, 4, 8, 12, 5, 10, 15] };
+const A: Known<'static> = Known { size: Size::new(2, 2, 1), array: &[1, 2, 3, 4, 8, 12, 5, 10, 15] };
 /// Data 1 2 4 / 8 16 32, and the same with rows for columns.
-const WIDE: Sealed<'static> = Sealed { size: Size::new(2, 3, 1), array: &[1, 2, 4, 7, 8, 16, 32, 56, 9, 18, 36, 63] };
-const HIGH: Sealed<'static> = Sealed { size: Size::new(3, 2, 1), array: &[1, 8, 9, 2, 16, 18, 4, 32, 36, 7, 56, 63] };
+const WIDE: Known<'static> = Known { size: Size::new(2, 3, 1), array: &[1, 2, 4, 7, 8, 16, 32, 56, 9, 18, 36, 63] };
+const HIGH: Known<'static> = Known { size: Size::new(3, 2, 1), array: &[1, 8, 9, 2, 16, 18, 4, 32, 36, 7, 56, 63] };
 
 type Found = Result<Outcome, String>;
 
@@ -35,15 +36,15 @@ fn seal(run: &mut Run, case: &str, size: Size, array: &[u8], status: usize, afte
 }
 
 /// Seals to the known array, which is then found sealed.
-fn seals(run: &mut Run, case: &str, known: Sealed, array: &[u8]) {
+fn seals(run: &mut Run, case: &str, known: Known, array: &[u8]) {
     seal(run, case, known.size, array, 0, known.array);
     let (found, model) = (|| ffi::check(known.size, known.array), model::check(known.size, known.array));
     stated(run, &format!("{case}, checked"), Outcome::reading(0, None), found, model);
 }
 
 /// Writes 9 to a disk of the known array.
-fn write(run: &mut Run, case: &str, known: Sealed, disk: usize, status: usize, after: &[u8]) {
-    let Sealed { size, array } = known;
+fn write(run: &mut Run, case: &str, known: Known, disk: usize, status: usize, after: &[u8]) {
+    let Known { size, array } = known;
     let expected = Outcome::writing(status, after.to_vec());
     stated(run, case, expected, || ffi::write(size, array, disk, &[9]), model::write(size, array, disk, &[9]));
 }
@@ -78,14 +79,32 @@ fn lost(size: Size, array: &[u8], map: &[u8]) -> Vec<u8> {
     lost
 }
 
-/// The same of rebuild.
-fn rebuild(run: &mut Run, case: &str, size: Size, array: &[u8], map: &[u8], expected: Outcome) {
+/// The same of rebuild with a limit.
+fn rebuild(run: &mut Run, case: &str, size: Size, array: &[u8], map: &[u8], limit: usize, expected: Outcome) {
     let lost = lost(size, array, map);
-    let mut model = model::rebuild(size, &lost, map, &OLD);
+    let mut model = model::rebuild(size, &lost, map, &OLD, limit);
     if expected.answer == FATAL {
-        model.written[1] = expected.written[1].clone();
+        model.written[2] = expected.written[2].clone();
     }
-    stated(run, &format!("{case}, rebuild"), expected, || ffi::rebuild(size, &lost, map, &OLD), model);
+    let case = format!("{case}, rebuild, limit {limit}");
+    stated(run, &case, expected, || ffi::rebuild(size, &lost, map, &OLD, limit), model);
+}
+
+/// A turn of rebuild on the known array that leaves these of the marked cards, and lists the repairs of the others.
+fn turn(run: &mut Run, case: &str, known: Known, marked: &[usize], limit: usize, left: &[usize], begins: &[u8]) {
+    let Known { size, array } = known;
+    let (before, after) = (map_of(size.grid, marked), map_of(size.grid, left));
+    let written = vec![lost(size, array, &after), after, sheet(begins)];
+    let expected = Outcome { answer: 0, out: Some(marked.len() - left.len()), written };
+    rebuild(run, case, size, array, &before, limit, expected);
+}
+
+/// A limit of no repairs is refused by 12, which leaves all as it was.
+fn no_repairs(run: &mut Run, case: &str, known: Known, marked: &[usize]) {
+    let Known { size, array } = known;
+    let map = map_of(size.grid, marked);
+    let written = vec![lost(size, array, &map), map.clone(), OLD.to_vec()];
+    rebuild(run, case, size, array, &map, 0, Outcome { answer: NO_REPAIRS, out: None, written });
 }
 
 /// The same of follow on plan's sheet: the loop of a fatal loss is refused by 10, and otherwise it does as rebuild.
@@ -95,22 +114,24 @@ fn follow(run: &mut Run, case: &str, size: Size, array: &[u8], map: &[u8], begin
     stated(run, &format!("{case}, follow"), expected, || ffi::follow(size, &lost, map, &sheet), model);
 }
 
-fn restored(run: &mut Run, case: &str, known: Sealed, marked: &[usize], begins: &[u8]) {
-    let Sealed { size, array } = known;
+fn restored(run: &mut Run, case: &str, known: Known, marked: &[usize], begins: &[u8]) {
+    let Known { size, array } = known;
     let (map, out) = (map_of(size.grid, marked), Some(marked.len()));
     plan(run, case, size.grid, &map, 0, marked.len(), begins);
-    let written = vec![array.to_vec(), sheet(begins)];
-    rebuild(run, case, size, array, &map, Outcome { answer: 0, out, written });
+    turn(run, case, known, marked, AT_ONCE, &[], begins);
     follow(run, case, size, array, &map, begins, Outcome { answer: 0, out, written: vec![array.to_vec()] });
 }
 
-fn fatal(run: &mut Run, case: &str, known: Sealed, marked: &[usize], begins: &[u8]) {
-    let Sealed { size, array } = known;
+fn fatal(run: &mut Run, case: &str, known: Known, marked: &[usize], begins: &[u8]) {
+    let Known { size, array } = known;
     let (map, out) = (map_of(size.grid, marked), Some(marked.len()));
     let kept = lost(size, array, &map);
     plan(run, case, size.grid, &map, FATAL, marked.len(), begins);
-    let written = vec![kept.clone(), sheet(begins)];
-    rebuild(run, case, size, array, &map, Outcome { answer: FATAL, out, written });
+    let rebuilt = Outcome { answer: FATAL, out, written: vec![kept.clone(), map.clone(), sheet(begins)] };
+    for limit in [1, marked.len(), AT_ONCE] {
+        rebuild(run, case, size, array, &map, limit, rebuilt.clone());
+    }
+    no_repairs(run, case, known, marked);
     follow(run, case, size, array, &map, begins, Outcome::writing(BROKEN, kept));
 }
 
@@ -123,9 +144,36 @@ fn losses(run: &mut Run) {
     restored(run, "6", A, &[0, 4, 8], &[1, 1, 0, 0, 2, 4, 1, 3, 8, 2, 0]);
     restored(run, "7", A, &[0, 1, 2, 3, 6], &[1, 1, 1, 17, 2, 2, 18, 3, 0, 0, 4, 3, 1, 5, 6, 2, 0]);
     let (contradictory, zeroed) = ([1, 2, 3, 4, 8, 12, 5, 10, 14], vec![0, 2, 3, 4, 8, 12, 5, 10, 14]);
-    let (map, written) = (map_of(A.size.grid, &[0]), vec![zeroed.clone(), sheet(&[])]);
-    rebuild(run, "8", A.size, &contradictory, &map, Outcome { answer: 7, out: None, written });
+    let map = map_of(A.size.grid, &[0]);
+    let written = vec![zeroed.clone(), map.clone(), sheet(&[])];
+    rebuild(run, "8", A.size, &contradictory, &map, AT_ONCE, Outcome { answer: 7, out: None, written });
     follow(run, "8", A.size, &contradictory, &map, &[1, 1, 0, 0, 0], Outcome::writing(7, zeroed));
+}
+
+/// Case 3 in turns, and once more with 9 for 8 on card 4, which row 1 contradicts: only the turn that restores the last
+/// card finds it, and zeroes no more than its own cards.
+fn turns(run: &mut Run) {
+    let damaged = Known { array: &[1, 2, 3, 4, 9, 12, 5, 10, 15], ..A };
+    for known in [A, damaged] {
+        turn(run, "3 in turns", known, &[0, 2, 6], 1, &[0, 6], &[1, 1, 2, 18, 0]);
+        turn(run, "3 in turns", known, &[0, 6], 1, &[6], &[1, 1, 0, 0, 0]);
+        turn(run, "3 in turns", known, &[0, 2, 6], 2, &[6], &[1, 1, 2, 18, 2, 0, 0, 0]);
+        no_repairs(run, "3 in turns", known, &[0, 2, 6]);
+    }
+    for limit in [1, 2, 1 << 32] {
+        turn(run, "3 in turns, the last", A, &[6], limit, &[], &[1, 1, 6, 2, 0]);
+        turn(run, "3 in turns, nothing left", A, &[], limit, &[], &[1]);
+    }
+    for (marked, zeroed) in [
+        (vec![0, 2, 6], [0, 2, 0, 4, 9, 12, 0, 10, 15]),
+        (vec![0, 6], [0, 2, 3, 4, 9, 12, 0, 10, 15]),
+        (vec![6], [1, 2, 3, 4, 9, 12, 0, 10, 15]),
+        (vec![], [1, 2, 3, 4, 9, 12, 5, 10, 15]),
+    ] {
+        let map = map_of(A.size.grid, &marked);
+        let expected = Outcome { answer: 7, out: None, written: vec![zeroed.to_vec(), map.clone(), sheet(&[])] };
+        rebuild(run, "3 in turns, contradicted", A.size, damaged.array, &map, 3, expected);
+    }
 }
 
 /// The like of cases 1, 3, 4, 7, 9 and 11 on a grid of two rows and three columns.
@@ -157,9 +205,13 @@ fn higher_than_wide(run: &mut Run) {
 /// Cases 10 and 11 for plan, rebuild and follow: sizes, a map byte of 2.
 fn refused(run: &mut Run, case: &str, size: Size, map: &[u8], status: usize) {
     let array = vec![7; map.len() * size.block];
-    let expected = Outcome { answer: status, out: None, written: vec![array.clone(), OLD.to_vec()] };
-    let model = model::rebuild(size, &array, map, &OLD);
-    stated(run, &format!("{case}, rebuild"), expected, || ffi::rebuild(size, &array, map, &OLD), model);
+    for limit in [AT_ONCE, 0] {
+        let written = vec![array.clone(), map.to_vec(), OLD.to_vec()];
+        let expected = Outcome { answer: status, out: None, written };
+        let model = model::rebuild(size, &array, map, &OLD, limit);
+        let case = format!("{case}, rebuild, limit {limit}");
+        stated(run, &case, expected, || ffi::rebuild(size, &array, map, &OLD, limit), model);
+    }
     let expected = Outcome::writing(status, array.clone());
     let model = model::follow(size, &array, map, &OLD);
     stated(run, &format!("{case}, follow"), expected, || ffi::follow(size, &array, map, &OLD), model);
@@ -212,7 +264,7 @@ fn largest(run: &mut Run) {
     let data = |disk: usize, place: usize| (7 * disk + 13 * place + disk * place / 64) as u8;
     let array = sealed_by_hand(size, data);
     let parities: Vec<u8> = (0..size.disks()).map(|disk| u8::from(disk % 16 == 15 || disk >= 240)).collect();
-    seals(run, "10, the largest array", Sealed { size, array: &array }, &lost(size, &array, &parities));
+    seals(run, "10, the largest array", Known { size, array: &array }, &lost(size, &array, &parities));
     let block = vec![9; size.block];
     let after = sealed_by_hand(size, |disk, place| if disk == 238 { 9 } else { data(disk, place) });
     let (found, model) = (|| ffi::write(size, &array, 238, &block), model::write(size, &array, 238, &block));
@@ -223,7 +275,7 @@ fn largest(run: &mut Run) {
     for (step, (disk, stripe)) in (1..).zip(columns.chain(rows)) {
         begins.extend([disk, stripe, if step < 31 { step + 1 } else { 0 }].map(|number: usize| number as u8));
     }
-    restored(run, "10, the largest array", Sealed { size, array: &after }, &cross, &begins);
+    restored(run, "10, the largest array", Known { size, array: &after }, &cross, &begins);
 }
 
 /// Case 10: blocks that are too short or too long.
@@ -283,6 +335,7 @@ fn limit(run: &mut Run) {
 pub fn run(run: &mut Run) {
     seals(run, "1", A, &[1, 2, 99, 4, 8, 7, 6, 5, 4]);
     losses(run);
+    turns(run);
     write(run, "9", A, 0, 0, &[9, 2, 11, 4, 8, 12, 13, 10, 7]);
     wider_than_high(run);
     higher_than_wide(run);

@@ -3,9 +3,10 @@
 
 use crate::inputs::{random_grid, sealed_array, LARGEST};
 use crate::random::Random;
+use crate::rebuild::{self, AT_ONCE};
 use crate::sheet::SHEET;
 use crate::size::{Grid, Size};
-use crate::{cores, follow, losses, plan, rebuild, Run};
+use crate::{cores, follow, losses, plan, turns, Run};
 
 /// Random losses of four disks, and as many of other numbers, in parts.
 const PARTS: usize = 20;
@@ -13,12 +14,17 @@ const PART: usize = 1_000;
 /// Maps of a small grid that make a part, and that share an array.
 const MAPS: usize = 4_096;
 const SHARING: usize = 64;
+/// One loss in so many is also rebuilt in turns.
+const IN_TURNS: usize = 4;
 
-/// Plan, rebuild and follow for one map, on a sealed array and on a damaged one.
+/// Plan, rebuild and follow for one map, on a sealed array and on a damaged one. Some are rebuilt in turns too.
 pub fn loss(run: &mut Run, size: Size, sealed: &[u8], map: &[u8]) {
     let sheet = run.random.bytes(SHEET);
     plan::compare(&mut run.tally, size.grid, map, &sheet);
     rebuild::sealed_and_damaged(run, size, sealed, map);
+    if run.random.one_in(IN_TURNS) {
+        turns::any_limit(run, size, sealed, map);
+    }
     follow::sealed_and_damaged(run, size, sealed, map);
 }
 
@@ -62,7 +68,7 @@ fn all_threes(run: &mut Run, grid: Grid) {
             plan::compare(&mut run.tally, grid, &map, &sheet);
             let mut array = sealed.clone();
             losses::forget(&mut run.random, size, &mut array, &map);
-            rebuild::compare(&mut run.tally, size, &array, &map, &sheet);
+            rebuild::compare(&mut run.tally, size, &array, &map, &sheet, AT_ONCE);
         });
     });
     run.tally.report(&name, &[0]);

@@ -3,9 +3,10 @@
 
 use crate::inputs::{random_grid, sealed_array};
 use crate::random::Random;
+use crate::rebuild::{self, AT_ONCE};
 use crate::sheet::place_of;
 use crate::size::Size;
-use crate::{arguments, follow, losses, plan, rebuild, sheets, Run};
+use crate::{arguments, follow, losses, plan, sheets, Run};
 
 /// How often each set of faults is tried, each time with other values.
 const TURNS: usize = 10;
@@ -95,9 +96,12 @@ pub fn run(run: &mut Run) {
                 }
             }
             plan::compare(&mut run.tally, a.size.grid, &a.map, &a.sheet);
-            rebuild::compare(&mut run.tally, a.size, &a.array, &a.map, &a.sheet);
+            // 12, by the limit, which is rebuild's alone.
+            for limit in [AT_ONCE, 0] {
+                rebuild::compare(&mut run.tally, a.size, &a.array, &a.map, &a.sheet, limit);
+            }
             follow::compare(&mut run.tally, a.size, &a.array, &a.map, &a.sheet);
         }
     }
-    run.tally.report("every set of refusals", &[0, 1, 2, 3, 4, 5, 6, 7, 10, 11]);
+    run.tally.report("every set of refusals", &[0, 1, 2, 3, 4, 5, 6, 7, 10, 11, 12]);
 }

@@ -36,8 +36,9 @@ extern "C" {
                        count: *mut usize) -> u32;
     pub fn raid2d_rebuild(rows: usize, columns: usize, block: usize,
                           array: *mut u8, array_len: usize,
-                          map: *const u8, map_len: usize,
+                          map: *mut u8, map_len: usize,
                           sheet: *mut u8, sheet_len: usize,
+                          limit: usize,
                           count: *mut usize) -> u32;
     pub fn raid2d_follow(rows: usize, columns: usize, block: usize,
                          array: *mut u8, array_len: usize,
@@ -121,7 +122,7 @@ pub fn plan(grid: Grid, map: &[u8], sheet: &[u8]) -> Result<Outcome, String> {
     Ok(Outcome { answer: status as usize, out: count.value()?, written: vec![sheet.written()?] })
 }
 
-pub fn rebuild(size: Size, array: &[u8], map: &[u8], sheet: &[u8]) -> Result<Outcome, String> {
+pub fn rebuild(size: Size, array: &[u8], map: &[u8], sheet: &[u8], limit: usize) -> Result<Outcome, String> {
     let Size { grid: Grid { rows, columns }, block } = size;
     let mut array = Lent::new("array", array);
     let mut map = Lent::new("map", map);
@@ -131,10 +132,9 @@ pub fn rebuild(size: Size, array: &[u8], map: &[u8], sheet: &[u8]) -> Result<Out
     let (map_at, map_len) = (map.pointer(), map.len());
     let (sheet_at, sheet_len, count_at) = (sheet.pointer(), sheet.len(), count.pointer());
     let status = unsafe {
-        raid2d_rebuild(rows, columns, block, array_at, array_len, map_at, map_len, sheet_at, sheet_len, count_at)
+        raid2d_rebuild(rows, columns, block, array_at, array_len, map_at, map_len, sheet_at, sheet_len, limit, count_at)
     };
-    map.only_read()?;
-    let written = vec![array.written()?, sheet.written()?];
+    let written = vec![array.written()?, map.written()?, sheet.written()?];
     Ok(Outcome { answer: status as usize, out: count.value()?, written })
 }
 

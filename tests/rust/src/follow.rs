@@ -2,6 +2,7 @@
 
 use crate::model::{BROKEN, FATAL, NOT_ALLOWED};
 use crate::outcome::Outcome;
+use crate::rebuild::AT_ONCE;
 use crate::sheet::SHEET;
 use crate::size::Size;
 use crate::tally::{show, Tally};
@@ -31,7 +32,7 @@ fn as_rebuild(rebuilt: &Outcome, fatal: usize) -> Outcome {
 /// Plan's own sheet, whose loop for a fatal loss is no list of repairs; then any allowed order with its records anywhere,
 /// and the same with something wrong.
 fn several_sheets(run: &mut Run, size: Size, array: &[u8], map: &[u8]) {
-    let rebuilt = model::rebuild(size, array, map, &[0; SHEET]);
+    let rebuilt = model::rebuild(size, array, map, &[0; SHEET], AT_ONCE);
     let input = || words(size, array, map, "of plan");
     run.tally.compare(input, &as_rebuild(&rebuilt, BROKEN), || {
         let planned = ffi::plan(size.grid, map, &[0; SHEET])?.written.remove(0);

@@ -3,6 +3,7 @@
 
 use crate::guard::Out;
 use crate::outcome::Outcome;
+use crate::rebuild::AT_ONCE;
 use crate::sheet::SHEET;
 use crate::{ffi, Run};
 
@@ -28,17 +29,21 @@ fn refused(run: &mut Run, call: &str, status: usize, found: usize, out: Out) {
 /// Plan, rebuild and follow with a buffer that has 2^32 bytes more than it should.
 fn maps_and_sheets(run: &mut Run, at: *mut u8) {
     let (len, sheet_len) = ((1 << 32) + RIGHT, (1 << 32) + SHEET);
-    let (mut array, map, mut sheet) = (ARRAY, MAP.as_ptr(), [7; SHEET]);
-    let (array, sheet) = (array.as_mut_ptr(), sheet.as_mut_ptr());
+    let (mut array, mut map, mut sheet) = (ARRAY, MAP, [7; SHEET]);
+    let (array, map, sheet) = (array.as_mut_ptr(), map.as_mut_ptr(), sheet.as_mut_ptr());
     let mut out: [Out; 8] = std::array::from_fn(|_| Out::new());
     let counts = out.each_mut().map(|out| out.pointer());
     let found = unsafe {
         [
             ("plan, map", 4, ffi::raid2d_plan(2, 3, at, len, sheet, SHEET, counts[0])),
             ("plan, sheet", 5, ffi::raid2d_plan(2, 3, map, RIGHT, at, sheet_len, counts[1])),
-            ("rebuild, array", 3, ffi::raid2d_rebuild(2, 3, 1, at, len, map, RIGHT, sheet, SHEET, counts[2])),
-            ("rebuild, map", 4, ffi::raid2d_rebuild(2, 3, 1, array, RIGHT, at, len, sheet, SHEET, counts[3])),
-            ("rebuild, sheet", 5, ffi::raid2d_rebuild(2, 3, 1, array, RIGHT, map, RIGHT, at, sheet_len, counts[4])),
+            ("rebuild, array", 3, ffi::raid2d_rebuild(2, 3, 1, at, len, map, RIGHT, sheet, SHEET, AT_ONCE, counts[2])),
+            ("rebuild, map", 4, ffi::raid2d_rebuild(2, 3, 1, array, RIGHT, at, len, sheet, SHEET, AT_ONCE, counts[3])),
+            (
+                "rebuild, sheet",
+                5,
+                ffi::raid2d_rebuild(2, 3, 1, array, RIGHT, map, RIGHT, at, sheet_len, AT_ONCE, counts[4]),
+            ),
             ("follow, array", 3, ffi::raid2d_follow(2, 3, 1, at, len, map, RIGHT, sheet, SHEET, counts[5])),
             ("follow, map", 4, ffi::raid2d_follow(2, 3, 1, array, RIGHT, at, len, sheet, SHEET, counts[6])),
             ("follow, sheet", 5, ffi::raid2d_follow(2, 3, 1, array, RIGHT, map, RIGHT, at, sheet_len, counts[7])),

@@ -34,6 +34,7 @@ mod sheets;
 mod size;
 mod steps;
 mod tally;
+mod turns;
 mod write;
 
 use random::Random;
@@ -91,7 +92,7 @@ const CALLS: [Call; 7] = [
         contents: rebuild::contents,
         refusals: rebuild::refusals,
         draws: 60_000,
-        answers: &[0, 1, 2, 3, 4, 5, 6, 7],
+        answers: &[0, 1, 2, 3, 4, 5, 6, 7, 12],
     },
     Call {
         name: "follow",
@@ -136,7 +137,7 @@ fn is_set(variable: &str) -> bool {
 
 fn gate(run: &mut Run, rounds: usize) {
     cases::run(run);
-    run.tally.report("paper's cases", &[0, 1, 2, 4, 6, 7, 8, 10]);
+    run.tally.report("paper's cases", &[0, 1, 2, 4, 6, 7, 8, 10, 12]);
     fields::run(run);
     run.tally.report("lengths and fields", &[0]);
     huge::run(run);
@@ -145,6 +146,7 @@ fn gate(run: &mut Run, rounds: usize) {
     }
     faults::run(run);
     steps::run(run);
+    turns::run(run, rounds);
     exhaustive::run(run, rounds);
 }
 

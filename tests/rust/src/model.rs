@@ -5,19 +5,21 @@
 
 use crate::equations::{sums_of_survivors, Equations};
 use crate::outcome::Outcome;
-use crate::sheet;
+use crate::sheet::{self, Record};
 use crate::size::{Grid, Size};
 
 /// The status of a call that refuses nothing.
-const SUCCESS: usize = 0;
+pub const SUCCESS: usize = 0;
 /// The status of a loss that is fatal.
 pub const FATAL: usize = 6;
 /// The status of survivors that belong to no sealed array.
-const CONTRADICTORY: usize = 7;
+pub const CONTRADICTORY: usize = 7;
 /// The status of a sheet that is not a chain of repairs.
 pub const BROKEN: usize = 10;
 /// The status of repairs that are not allowed or leave a disk erased.
 pub const NOT_ALLOWED: usize = 11;
+/// The status of a limit of no repairs.
+pub const NO_REPAIRS: usize = 12;
 /// What check answers for an array that is not sealed. Paper 01 gives no number; the C interface does.
 const NOT_SEALED: usize = 64;
 /// Column c is stripe 16 + c.
@@ -207,9 +209,9 @@ pub fn erased_disks(map: &[u8]) -> Vec<usize> {
 struct Loss {
     fatal: bool,
     equations: Equations,
-    /// The number of repairs, or of lost disks.
-    count: usize,
-    sheet: Vec<u8>,
+    /// The repairs that can be made, in plan's order, and the number of the disks that are then lost.
+    repairs: Vec<Record>,
+    lost: usize,
 }
 
 impl Loss {
@@ -222,10 +224,15 @@ impl Loss {
         // Demand 3 and the limit of repairs say so. A model that contradicts itself would be nothing to compare with.
         assert_eq!(fatal, !lost.is_empty(), "rank and repairs differ, {grid}, map {map:?}");
         assert!(repairs.len() <= grid.most_repairs(), "too many repairs, {grid}, map {map:?}");
-        if fatal {
-            return Loss { fatal, equations, count: lost.len(), sheet: sheet::ANY_LOOP.to_vec() };
+        Loss { fatal, equations, repairs, lost: lost.len() }
+    }
+
+    /// The status of plan, its count and its sheet. Which loop a fatal loss shows is free.
+    fn planned(&self) -> (usize, Option<usize>, Vec<u8>) {
+        if self.fatal {
+            return (FATAL, Some(self.lost), sheet::ANY_LOOP.to_vec());
         }
-        Loss { fatal, equations, count: erased.len(), sheet: sheet::of_repairs(&repairs) }
+        (SUCCESS, Some(self.repairs.len()), sheet::of_repairs(&self.repairs))
     }
 }
 
@@ -238,8 +245,8 @@ pub fn plan(grid: Grid, map: &[u8], sheet: &[u8]) -> Outcome {
     if refusal != SUCCESS {
         return Outcome { answer: refusal, out: None, written: vec![sheet.to_vec()] };
     }
-    let loss = Loss::new(grid, map);
-    Outcome { answer: if loss.fatal { FATAL } else { SUCCESS }, out: Some(loss.count), written: vec![loss.sheet] }
+    let (answer, out, listed) = Loss::new(grid, map).planned();
+    Outcome { answer, out, written: vec![listed] }
 }
 
 /// The array with other blocks on the erased disks.
@@ -251,34 +258,64 @@ fn with_erased(block: usize, array: &[u8], map: &[u8], erased: &[u8]) -> Vec<u8>
     changed
 }
 
-/// The sealed array to which the survivors belong. With 7 the erased blocks and the whole sheet are zero.
-pub fn rebuild(size: Size, array: &[u8], map: &[u8], sheet: &[u8]) -> Outcome {
-    let refusal = restore_refusal(size, array, map, sheet);
-    if refusal != SUCCESS {
-        return Outcome { answer: refusal, out: None, written: vec![array.to_vec(), sheet.to_vec()] };
-    }
-    let loss = Loss::new(size.grid, map);
-    if loss.fatal {
-        return Outcome { answer: FATAL, out: Some(loss.count), written: vec![array.to_vec(), loss.sheet] };
-    }
-    match loss.equations.solve(sums_of_survivors(size, array, map)) {
-        Some(erased) => {
-            let restored = with_erased(size.block, array, map, &erased);
-            Outcome { answer: SUCCESS, out: Some(loss.count), written: vec![restored, loss.sheet] }
-        }
-        None => {
-            let zeroed = with_erased(size.block, array, map, &vec![0; array.len()]);
-            Outcome { answer: CONTRADICTORY, out: None, written: vec![zeroed, vec![0; sheet::SHEET]] }
-        }
-    }
-}
-
 /// Sets the block of a disk to the sum of the other disks of a stripe.
 fn repair(size: Size, array: &mut [u8], disk: usize, stripe: usize) {
     let mut others = stripe_disks(size.grid, stripe);
     others.retain(|&other| other != disk);
     let bytes = sum(array, size.block, &others);
     set_block(array, size.block, disk, &bytes);
+}
+
+/// A turn that leaves disks erased: these repairs are made, and nothing is checked.
+fn unchecked_turn(size: Size, array: &[u8], map: &[u8], repairs: &[Record]) -> Outcome {
+    let (mut restored, mut left) = (array.to_vec(), map.to_vec());
+    for &(disk, stripe) in repairs {
+        repair(size, &mut restored, disk, stripe);
+        left[disk] = 0;
+    }
+    let written = vec![restored, left, sheet::of_repairs(repairs)];
+    Outcome { answer: SUCCESS, out: Some(repairs.len()), written }
+}
+
+/// A turn after which no disk is erased: the sealed array to which the survivors belong, found without any repair. With 7
+/// the erased blocks and the whole sheet are zero, and the map stays.
+fn clearing_turn(size: Size, array: &[u8], map: &[u8], loss: &Loss) -> Outcome {
+    match loss.equations.solve(sums_of_survivors(size, array, map)) {
+        Some(erased) => {
+            let (answer, out, listed) = loss.planned();
+            let restored = with_erased(size.block, array, map, &erased);
+            Outcome { answer, out, written: vec![restored, vec![0; map.len()], listed] }
+        }
+        None => {
+            let zeroed = with_erased(size.block, array, map, &vec![0; array.len()]);
+            Outcome { answer: CONTRADICTORY, out: None, written: vec![zeroed, map.to_vec(), vec![0; sheet::SHEET]] }
+        }
+    }
+}
+
+/// One turn: the first repairs of plan's order, at most so many.
+pub fn rebuild(size: Size, array: &[u8], map: &[u8], sheet: &[u8], limit: usize) -> Outcome {
+    let kept = |answer: usize, out: Option<usize>, sheet: Vec<u8>| Outcome {
+        answer,
+        out,
+        written: vec![array.to_vec(), map.to_vec(), sheet],
+    };
+    let refusal = restore_refusal(size, array, map, sheet);
+    if refusal != SUCCESS {
+        return kept(refusal, None, sheet.to_vec());
+    }
+    if limit == 0 {
+        return kept(NO_REPAIRS, None, sheet.to_vec());
+    }
+    let loss = Loss::new(size.grid, map);
+    if loss.fatal {
+        let (answer, out, listed) = loss.planned();
+        return kept(answer, out, listed);
+    }
+    if limit < loss.repairs.len() {
+        return unchecked_turn(size, array, map, &loss.repairs[..limit]);
+    }
+    clearing_turn(size, array, map, &loss)
 }
 
 /// The repairs of a sheet made one after another. With 7 the erased blocks are zero.

@@ -1,31 +1,38 @@
-//! Rebuild: the erased blocks are restored, or the loss is fatal, or the survivors belong to no sealed array.
+//! Rebuild: erased blocks are restored, or the loss is fatal, or the survivors belong to no sealed array.
 
+use crate::inputs::sealed_array;
 use crate::model::FATAL;
 use crate::outcome::Outcome;
 use crate::plan::judged;
 use crate::sheet::SHEET;
 use crate::size::{Grid, Size};
 use crate::tally::{show, Tally};
-use crate::{arguments, ffi, losses, model, Run};
+use crate::{arguments, ffi, losses, model, turns, Run};
+
+/// A limit that leaves nothing for a second turn.
+pub const AT_ONCE: usize = usize::MAX;
 
 /// Rebuild shows plan's loop.
 fn with_plans_sheet(grid: Grid, map: &[u8], sheet: &[u8], found: Outcome) -> Result<Outcome, String> {
-    if found.answer == FATAL && found.written[1] != ffi::plan(grid, map, sheet)?.written[0] {
+    if found.answer == FATAL && found.written.last() != ffi::plan(grid, map, sheet)?.written.last() {
         return Err("the loop is not that of plan".to_string());
     }
     Ok(found)
 }
 
-pub fn compare(tally: &mut Tally, size: Size, array: &[u8], map: &[u8], sheet: &[u8]) {
+/// Compares one turn. What the library has answered and left is handed back, none where it touched what is not lent.
+pub fn compare(tally: &mut Tally, size: Size, array: &[u8], map: &[u8], sheet: &[u8], limit: usize) -> Option<Outcome> {
     let input = || {
         let (array, map, sheet) = (show(array), show(map), show(sheet));
-        format!("rebuild, {size}, map {map}, sheet {sheet}, array {array}")
+        format!("rebuild, {size}, limit {limit}, map {map}, sheet {sheet}, array {array}")
     };
-    let expected = model::rebuild(size, array, map, sheet);
+    let expected = model::rebuild(size, array, map, sheet, limit);
+    let mut left = None;
     tally.compare(input, &expected, || {
-        let found = ffi::rebuild(size, array, map, sheet)?;
+        let found = left.insert(ffi::rebuild(size, array, map, sheet, limit)?).clone();
         judged(size.grid, map, &expected, with_plans_sheet(size.grid, map, sheet, found)?)
     });
+    left
 }
 
 /// A sealed array that has lost the disks of the map, then the same with damages.
@@ -33,13 +40,17 @@ pub fn sealed_and_damaged(run: &mut Run, size: Size, sealed: &[u8], map: &[u8]) 
     let mut array = sealed.to_vec();
     losses::forget(&mut run.random, size, &mut array, map);
     let sheet = run.random.bytes(SHEET);
-    compare(&mut run.tally, size, &array, map, &sheet);
+    compare(&mut run.tally, size, &array, map, &sheet, AT_ONCE);
     losses::damage(&mut run.random, size, &mut array);
-    compare(&mut run.tally, size, &array, map, &sheet);
+    compare(&mut run.tally, size, &array, map, &sheet, AT_ONCE);
 }
 
+/// At once with a loss of each kind, and in turns with one of many disks that can be restored.
 pub fn contents(run: &mut Run, size: Size) {
     losses::of_each_kind(run, size, sealed_and_damaged);
+    let map = losses::map(&mut run.random, size.grid, 2);
+    let sealed = sealed_array(&mut run.random, size);
+    turns::any_limit(run, size, &sealed, &map);
 }
 
 /// Arguments good and bad.
@@ -47,5 +58,6 @@ pub fn refusals(run: &mut Run) {
     let drawn = arguments::mostly_sealed(&mut run.random);
     let map = arguments::map(&mut run.random, drawn.made_for.grid);
     let sheet = arguments::sheet(&mut run.random);
-    compare(&mut run.tally, drawn.passed, &drawn.bytes, &map, &sheet);
+    let limit = arguments::limit(&mut run.random);
+    compare(&mut run.tally, drawn.passed, &drawn.bytes, &map, &sheet, limit);
 }

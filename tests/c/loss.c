@@ -1,0 +1,139 @@
+/*
+ * Losses of known shapes, plan's order and what is expected: loss.h has what
+ * each function is for.
+ */
+#include <string.h>
+
+#include "loss.h"
+
+/* ---- Losses ---- */
+
+void lose(struct call *c, size_t r, size_t k)
+{
+    size_t disk = disk_at(c->size, r, k), block = c->size.block;
+
+    c->map.bytes[disk] = c->map.expected[disk] = 1;
+    fill(c->array.bytes + disk * block, block);
+}
+
+void lose_cross(struct call *c)
+{
+    size_t columns = c->size.columns, i;
+
+    for (i = 0; i < most_repairs(c->size); i++)
+        if (i <= columns)
+            lose(c, 0, i);
+        else
+            lose(c, i - columns, 0);
+}
+
+size_t stair_row(struct size s, size_t step)
+{
+    return step * s.rows / (s.rows + s.columns);
+}
+
+size_t stair_column(struct size s, size_t step)
+{
+    return step - stair_row(s, step);
+}
+
+void lose_most_of_stair(struct call *c)
+{
+    size_t i;
+
+    for (i = 0; i < most_repairs(c->size) - 1; i++)
+        lose(c, stair_row(c->size, i), stair_column(c->size, i));
+}
+
+void lose_stair(struct call *c)
+{
+    lose_most_of_stair(c);
+    lose(c, c->size.rows, c->size.columns);
+}
+
+void damage(struct call *c, size_t r, size_t k, size_t place, uint8_t change)
+{
+    *cell(c->array.bytes, c->size, r, k, place) ^= change;
+    *cell(c->array.expected, c->size, r, k, place) ^= change;
+}
+
+/* ---- Plan's order ---- */
+
+size_t disk_on(struct size s, size_t stripe, size_t k)
+{
+    return stripe < 16 ? disk_at(s, stripe, k) : disk_at(s, k, stripe - 16);
+}
+
+size_t disks_on(struct size s, size_t stripe)
+{
+    return (stripe < 16 ? s.columns : s.rows) + 1;
+}
+
+static size_t erased_on(const uint8_t *map, struct size s, size_t stripe)
+{
+    size_t count = 0, k;
+
+    for (k = 0; k < disks_on(s, stripe); k++)
+        count += map[disk_on(s, stripe, k)];
+    return count;
+}
+
+struct repairs in_plans_order(const struct call *c)
+{
+    size_t across = c->size.columns + 1, disk = 0;
+    struct repairs list = { 0, { { 0, 0 } } };
+    uint8_t map[DISKS];
+
+    memcpy(map, c->map.bytes, c->map.len);
+    while (disk < c->map.len) {
+        size_t row = disk / across, column = 16 + disk % across;
+        int by_row = erased_on(map, c->size, row) == 1;
+
+        if (map[disk] && (by_row || erased_on(map, c->size, column) == 1)) {
+            list.number[list.count].disk = disk;
+            list.number[list.count++].stripe = by_row ? row : column;
+            map[disk] = 0;
+            disk = 0;
+        } else {
+            disk++;
+        }
+    }
+    return list;
+}
+
+/* ---- What is expected ---- */
+
+void expect_kind(struct call *c, uint8_t kind)
+{
+    memset(c->sheet.expected, 0, c->sheet.len);
+    c->sheet.expected[0] = kind;
+}
+
+/* The number of record k stands in record k-1, that of record 1 in the same
+   distance from it, at byte 1. */
+void expect_record(struct call *c, size_t k, size_t disk, size_t stripe)
+{
+    c->sheet.expected[3 * k - 2] = (uint8_t)k;
+    c->sheet.expected[3 * k - 1] = (uint8_t)disk;
+    c->sheet.expected[3 * k] = (uint8_t)stripe;
+}
+
+void expect_list(struct call *c, const struct repairs *list, size_t from,
+                 size_t to)
+{
+    size_t k;
+
+    expect_kind(c, RAID2D_SHEET_REPAIRS);
+    for (k = from; k < to; k++)
+        expect_record(c, k - from + 1, list->number[k].disk,
+                      list->number[k].stripe);
+}
+
+void expect_zero_blocks(struct call *c)
+{
+    size_t block = c->size.block, disk;
+
+    for (disk = 0; disk < c->map.len; disk++)
+        if (c->map.bytes[disk])
+            memset(c->array.expected + disk * block, 0, block);
+}

@@ -1,0 +1,64 @@
+/*
+ * Losses of known shapes, plan's order of their repairs, and what is expected
+ * of the sheet and the blocks: what the tests of plan, rebuild and follow
+ * share.
+ */
+#ifndef LOSS_H
+#define LOSS_H
+
+#include "raid2d.h"
+#include "suite.h"
+
+/* No grid has more disks. */
+#define DISKS RAID2D_DISKS(RAID2D_SIDE_MAX, RAID2D_SIDE_MAX)
+
+/* Erases the disk in row r and column k, and puts arbitrary bytes there. The
+   bytes expected after the call stay. */
+void lose(struct call *c, size_t r, size_t k);
+
+/* Row 0 and column 0: as many disks as can be restored. */
+void lose_cross(struct call *c);
+
+/* As many again: a stair from disk (0,0) to the superparity, by steps to the
+   right and down that are as even as can be: (0,0) (0,1) (1,1) (1,2) .. in a
+   square. The first step is to the right, the last one down. */
+void lose_stair(struct call *c);
+
+/* The same without the superparity: no disk of the last row is erased. */
+void lose_most_of_stair(struct call *c);
+
+/* The disk that a stair reaches after so many steps. */
+size_t stair_row(struct size s, size_t step);
+size_t stair_column(struct size s, size_t step);
+
+/* Changes a survivor, which then keeps the change. */
+void damage(struct call *c, size_t r, size_t k, size_t place, uint8_t change);
+
+/* Disk number k of a stripe, and how many disks the stripe has. */
+size_t disk_on(struct size s, size_t stripe, size_t k);
+size_t disks_on(struct size s, size_t stripe);
+
+/* Repairs in their order. */
+struct repairs {
+    size_t count;
+    struct {
+        size_t disk, stripe;
+    } number[RAID2D_SHEET_RECORDS];
+};
+
+/* Plan's order for the loss of a call: at each step the lowest disk that can
+   be repaired, by its row if that is allowed, else by its column. */
+struct repairs in_plans_order(const struct call *c);
+
+/* A sheet without records; then its record k. */
+void expect_kind(struct call *c, uint8_t kind);
+void expect_record(struct call *c, size_t k, size_t disk, size_t stripe);
+
+/* A sheet that lists the repairs from one number up to another. */
+void expect_list(struct call *c, const struct repairs *list, size_t from,
+                 size_t to);
+
+/* The erased blocks are zero, as with 7. */
+void expect_zero_blocks(struct call *c);
+
+#endif
