@@ -64,9 +64,11 @@ static void copy_bytes(const uint8_t *bytes, size_t length)
         return 0;                                                                                                     \
     }                                                                                                                 \
     uint32_t peer##_rebuild(size_t rows, size_t columns, size_t block, uint8_t *array, size_t array_len,              \
-                            const uint8_t *map, size_t map_len, uint8_t *sheet, size_t sheet_len, size_t *count)      \
+                            uint8_t *map, size_t map_len, uint8_t *sheet, size_t sheet_len, size_t limit,             \
+                            size_t *count)                                                                            \
     {                                                                                                                 \
-        (void)rows, (void)columns, (void)block, (void)map, (void)map_len, (void)sheet, (void)sheet_len, (void)count;  \
+        (void)rows, (void)columns, (void)block, (void)map, (void)map_len;                                             \
+        (void)sheet, (void)sheet_len, (void)limit, (void)count;                                                       \
         move(array, array_len);                                                                                       \
         return 0;                                                                                                     \
     }

@@ -2,6 +2,7 @@
 #include "maps.h"
 
 #include <stdio.h>
+#include <string.h>
 
 #define COUNT(table) (sizeof(table) / sizeof *(table))
 
@@ -79,10 +80,11 @@ static void prepare_plan(struct input *input, size_t variant)
 }
 
 /* A sealed array with random bytes in the erased blocks. In two variants of three survivors are damaged: one byte, or
-   two equal ones in one column, which show only in rows. */
+   two equal ones in one column, which show only in rows. All repairs are made in variant 0, in others up to a limit. */
 static void prepare_rebuild(struct input *input, size_t variant)
 {
     size_t disk = variant % input->disks, below = (disk + input->size.columns + 1) % input->disks;
+    input->limit = variant == 0 ? SIZE_MAX : 1 + variant / 3 % (input->size.rows + input->size.columns + 1);
     prepare_plan(input, variant);
     fill_sealed(input);
     input_spoil(input);
@@ -135,10 +137,16 @@ static void run_plan(const struct peer *peer, struct input *input)
                                SHEET_BYTES, &input->count);
 }
 
-static void run_rebuild(const struct peer *peer, struct input *input)
+void run_turn(const struct peer *peer, struct input *input, size_t limit)
 {
     input->status = peer->rebuild(input->size.rows, input->size.columns, input->size.block, input->array, input->bytes,
-                                  input->map, input->disks, input->sheet, SHEET_BYTES, &input->count);
+                                  input->lent, input->disks, input->sheet, SHEET_BYTES, limit, &input->count);
+}
+
+static void run_rebuild(const struct peer *peer, struct input *input)
+{
+    memcpy(input->lent, input->map, input->disks);
+    run_turn(peer, input, input->limit);
 }
 
 const struct call calls[CALLS] = {

@@ -27,6 +27,9 @@ enum { SIZES_MAX = 24 };
 
 extern const struct call calls[CALLS];
 
+/* One rebuild with this limit on the lent map as it is, which the call REBUILD of the table copies anew. */
+void run_turn(const struct peer *peer, struct input *input, size_t limit);
+
 /* Whether a peer takes part in a call at a size. */
 int takes_part(const struct peer *peer, const struct call *call, struct size size);
 

@@ -11,16 +11,17 @@
 static const size_t UNTOUCHED = 4242;
 static const uint8_t UNTOUCHED_BYTE = 42;
 
-/* The array before the calls, and after the library's; and the library's sheet. */
+/* The array before the calls, and after the library's; and the library's sheet and the map as it leaves it. */
 struct expected {
     uint8_t *before, *after;
-    uint8_t sheet[SHEET_BYTES];
+    uint8_t sheet[SHEET_BYTES], map[DISKS_MAX];
 };
 
 static void run_from(const struct call *call, const struct peer *peer, struct input *input, const uint8_t *before)
 {
     memcpy(input->array, before, input->bytes);
     memset(input->sheet, UNTOUCHED_BYTE, SHEET_BYTES);
+    memset(input->lent, UNTOUCHED_BYTE, input->disks);
     input->stripe = input->count = UNTOUCHED;
     call->run(peer, input);
 }
@@ -33,13 +34,15 @@ static int sheet_is_right(const struct input *input, const uint8_t *sheet)
     return memcmp(input->sheet, sheet, SHEET_BYTES) == 0;
 }
 
-/* Whether one peer gives what the library gave on the same input: the results in `given`, the array and the sheet. */
+/* Whether one peer gives what the library gave on the same input: the results in `given`, the array, the map and the
+   sheet. */
 static int agrees(const struct call *call, const struct peer *peer, struct input *input, const struct input *given,
                   const struct expected *expected)
 {
     run_from(call, peer, input, expected->before);
     return input->status == given->status && input->stripe == given->stripe && input->count == given->count
-        && memcmp(input->array, expected->after, input->bytes) == 0 && sheet_is_right(input, expected->sheet);
+        && memcmp(input->array, expected->after, input->bytes) == 0
+        && memcmp(input->lent, expected->map, input->disks) == 0 && sheet_is_right(input, expected->sheet);
 }
 
 static void print_difference(const struct call *call, struct size size, const char *what, const char *peer)
@@ -57,6 +60,7 @@ static int input_agrees(const struct call *call, struct input *input, struct exp
     run_from(call, &peers[LIBRARY], input, expected->before);
     memcpy(expected->after, input->array, input->bytes);
     memcpy(expected->sheet, input->sheet, SHEET_BYTES);
+    memcpy(expected->map, input->lent, input->disks);
     given = *input;
     if (!sheet_is_right(input, expected->sheet)) {
         print_difference(call, input->size, "no loop from", peers[LIBRARY].name);
@@ -99,7 +103,7 @@ int peers_agree(void)
 {
     int agree = 1;
     struct input input;
-    struct expected expected = {largest_array(), largest_array(), {0}};
+    struct expected expected = {largest_array(), largest_array(), {0}, {0}};
     input_open(&input);
     for (size_t c = 0; c < CALLS; c++)
         for (size_t s = 0; s < calls[c].size_count; s++)

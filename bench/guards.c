@@ -50,13 +50,20 @@ int warn(ratio_table ratios)
     return warnings;
 }
 
-int judge(struct size size, const char *what, double ratio, double most)
+void print_ratio(struct size size, const char *what, double ratio)
 {
     char title[TITLE_MAX];
     put_title(title, &calls[REBUILD], size);
     printf("%-28s %-28s %6.2f\n", title, what, ratio);
+}
+
+int judge(struct size size, const char *what, double ratio, double most)
+{
+    char title[TITLE_MAX];
+    print_ratio(size, what, ratio);
     if (ratio <= most)
         return 0;
+    put_title(title, &calls[REBUILD], size);
     printf("WARNING: %s: %s is %.3f; the limit is %.2f\n", title, what, ratio, most);
     return 1;
 }

@@ -10,7 +10,10 @@ typedef double ratio_table[CALLS][SIZES_MAX][PEERS];
 /* Prints a line that begins with WARNING for each limit that is passed, and says how many. */
 int warn(ratio_table ratios);
 
-/* Prints a ratio of two times of rebuild's work at a size, and warns where it is above a limit: 1 then, else 0. */
+/* Prints a ratio of two times of rebuild's work at a size. */
+void print_ratio(struct size size, const char *what, double ratio);
+
+/* The same, and warns where it is above a limit: 1 then, else 0. */
 int judge(struct size size, const char *what, double ratio, double most);
 
 #endif

@@ -17,7 +17,8 @@ enum {
     DATA_DISTANCE = LARGEST + 2048 + 64,
     MAP_DISTANCE = DATA_DISTANCE + BLOCK_MAX + 64,
     SHEET_DISTANCE = MAP_DISTANCE + DISKS_MAX + 64,
-    SPACE = SHEET_DISTANCE + SHEET_BYTES
+    LENT_DISTANCE = SHEET_DISTANCE + 128 + 64,
+    SPACE = LENT_DISTANCE + DISKS_MAX
 };
 
 uint8_t *largest_array(void)
@@ -36,6 +37,7 @@ void input_open(struct input *input)
     input->data = input->array + DATA_DISTANCE;
     input->map = input->array + MAP_DISTANCE;
     input->sheet = input->array + SHEET_DISTANCE;
+    input->lent = input->array + LENT_DISTANCE;
 }
 
 void input_close(struct input *input)
@@ -73,6 +75,7 @@ void input_resize(struct input *input, struct size size)
     input->disks = (size.rows + 1) * (size.columns + 1);
     input->bytes = input->disks * size.block;
     input->disk = 0;
+    input->limit = SIZE_MAX;
     input_fill(input);
     draw_map(size.map, size.rows, size.columns, input->map);
 }

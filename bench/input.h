@@ -18,6 +18,9 @@ struct input {
     /* Bytes in the array, and in the map. */
     size_t bytes, disks;
     uint8_t *array, *map;
+    /* The copy of the map that rebuild is lent, in which it marks its repairs, and its limit. */
+    uint8_t *lent;
+    size_t limit;
     /* The new block of a write, and its disk. */
     uint8_t *data;
     size_t disk;
@@ -31,7 +34,7 @@ struct input {
 void input_open(struct input *input);
 void input_close(struct input *input);
 
-/* Takes a size, fills the array and the new block with random bytes, and draws the map. */
+/* Takes a size, fills the array and the new block with random bytes, and draws the map. The limit is the largest. */
 void input_resize(struct input *input, struct size size);
 void input_fill(struct input *input);
 

@@ -64,9 +64,9 @@ static void repair(uint8_t *first, size_t step, size_t count, size_t own, size_t
     xor_gen((int)count, (int)block, blocks);
 }
 
-uint32_t isal_rebuild(size_t rows, size_t columns, size_t block, uint8_t *array, size_t array_len, const uint8_t *map,
-                      size_t map_len, uint8_t *sheet, size_t sheet_len, size_t *count)
+uint32_t isal_rebuild(size_t rows, size_t columns, size_t block, uint8_t *array, size_t array_len, uint8_t *map,
+                      size_t map_len, uint8_t *sheet, size_t sheet_len, size_t limit, size_t *count)
 {
     return rebuild_by(tuned_plan, repair, isal_check, rows, columns, block, array, array_len, map, map_len, sheet,
-                      sheet_len, count);
+                      sheet_len, limit, count);
 }

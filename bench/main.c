@@ -6,6 +6,7 @@
 #include "repairs.h"
 #include "speed.h"
 #include "timing.h"
+#include "turns.h"
 
 #include <stdio.h>
 
@@ -15,6 +16,7 @@ static void print_head(void)
     printf("Medians of %d samples, peers in turn in one process. Buffers are warm and not cleared.\n", SAMPLES);
     puts("Sizes are data rows x data columns, and B, the bytes in a block.");
     puts("Peers test no argument. Check is timed on a sealed array, rebuild with row 0 and column 0 erased.");
+    puts("Rebuild makes all repairs in one turn, and clears its map: so a copy of the map is timed with each call.");
     puts("Plan: the plain loops look at all disks again for each repair, the other peers keep counters for stripes.");
     if (calls[SEAL].has(&peers[ISAL]))
         puts("ISA-L: xor_gen and xor_check as it chooses them for this machine, where B is a multiple of 32.");
@@ -54,7 +56,7 @@ int main(void)
     static ratio_table ratios;
     struct input input;
     int warnings;
-    if (!peers_agree() || !follow_agrees()) {
+    if (!peers_agree() || !follow_agrees() || !turns_agree()) {
         puts("Nothing is timed.");
         return 1;
     }
@@ -66,6 +68,8 @@ int main(void)
     warnings = compare_places(&input);
     puts("");
     warnings += compare_follow(&input);
+    puts("");
+    warnings += compare_turns(&input);
     puts("");
     print_speeds(&input);
     input_close(&input);

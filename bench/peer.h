@@ -16,8 +16,8 @@ typedef uint32_t write_call(size_t rows, size_t columns, size_t block, uint8_t *
                             const uint8_t *data, size_t data_len);
 typedef uint32_t plan_call(size_t rows, size_t columns, const uint8_t *map, size_t map_len, uint8_t *sheet,
                            size_t sheet_len, size_t *count);
-typedef uint32_t rebuild_call(size_t rows, size_t columns, size_t block, uint8_t *array, size_t array_len,
-                              const uint8_t *map, size_t map_len, uint8_t *sheet, size_t sheet_len, size_t *count);
+typedef uint32_t rebuild_call(size_t rows, size_t columns, size_t block, uint8_t *array, size_t array_len, uint8_t *map,
+                              size_t map_len, uint8_t *sheet, size_t sheet_len, size_t limit, size_t *count);
 
 struct peer {
     const char *name;

@@ -172,30 +172,38 @@ pub unsafe extern "C" fn rust_rebuild(
     block: usize,
     array: *mut u8,
     array_len: usize,
-    map: *const u8,
+    map: *mut u8,
     map_len: usize,
     sheet: *mut u8,
     sheet_len: usize,
+    limit: usize,
     count: *mut usize,
 ) -> u32 {
     let array = from_raw_parts_mut(array, array_len);
-    let map = from_raw_parts(map, map_len);
+    let map = from_raw_parts_mut(map, map_len);
     let sheet = from_raw_parts_mut(sheet, sheet_len);
-    let made = match plan(rows + 1, columns + 1, map, sheet) {
-        Planned::Repairs(made) => made,
+    let planned = match plan(rows + 1, columns + 1, map, sheet) {
+        Planned::Repairs(planned) => planned,
         Planned::Fatal(lost) => {
             *count = lost;
             return FATAL;
         }
     };
+    let made = planned.min(limit);
     for record in sheet[2..].chunks_exact(3).take(made) {
         repair(array, rows, columns, block, record[0].into(), record[1].into());
     }
-    if lowest_stripe(array, rows, columns, block).is_some() {
+    if made == planned && lowest_stripe(array, rows, columns, block).is_some() {
         let disks = array.chunks_exact_mut(block).zip(map);
-        disks.filter(|(_, &erased)| erased != 0).for_each(|(disk, _)| disk.fill(0));
+        disks.filter(|(_, erased)| **erased != 0).for_each(|(disk, _)| disk.fill(0));
         sheet.fill(0);
         return CONTRADICTORY;
+    }
+    for record in sheet[2..].chunks_exact(3).take(made) {
+        map[usize::from(record[0])] = 0;
+    }
+    if made < planned {
+        sheet[3 * made + 1..].fill(0);
     }
     *count = made;
     0

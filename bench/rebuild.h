@@ -28,17 +28,23 @@ static inline uint32_t contradictory(size_t block, uint8_t *array, const uint8_t
     return CONTRADICTORY;
 }
 
+/* The first repairs of the plan. Stripes are checked where these are all. */
 static inline uint32_t rebuild_by(plan_call *plan, repair_function *repair, check_call *check, size_t rows,
-                                  size_t columns, size_t block, uint8_t *array, size_t array_len, const uint8_t *map,
-                                  size_t map_len, uint8_t *sheet, size_t sheet_len, size_t *count)
+                                  size_t columns, size_t block, uint8_t *array, size_t array_len, uint8_t *map,
+                                  size_t map_len, uint8_t *sheet, size_t sheet_len, size_t limit, size_t *count)
 {
-    size_t made, stripe;
-    uint32_t status = plan(rows, columns, map, map_len, sheet, sheet_len, &made);
+    size_t planned, stripe;
+    uint32_t status = plan(rows, columns, map, map_len, sheet, sheet_len, &planned);
+    size_t made = status != 0 || planned < limit ? planned : limit;
     if (status == 0) {
         for (size_t k = 0; k < made; k++)
             repair_by(repair, rows, columns, block, array, disk_of(sheet, k), stripe_of(sheet, k));
-        if (check(rows, columns, block, array, array_len, &stripe) != SEALED)
+        if (made == planned && check(rows, columns, block, array, array_len, &stripe) != SEALED)
             return contradictory(block, array, map, map_len, sheet, sheet_len);
+        for (size_t k = 0; k < made; k++)
+            map[disk_of(sheet, k)] = 0;
+        if (made < planned)
+            cut_list(sheet, sheet_len, made);
     }
     *count = made;
     return status;

@@ -22,6 +22,12 @@ static inline void put_record(uint8_t *sheet, size_t k, size_t disk, size_t stri
     sheet[3 * k + 3] = (uint8_t)stripe;
 }
 
+/* Only the first `count` records stay on the chain. */
+static inline void cut_list(uint8_t *sheet, size_t sheet_len, size_t count)
+{
+    memset(sheet + 3 * count + 1, 0, sheet_len - (3 * count + 1));
+}
+
 static inline size_t disk_of(const uint8_t *sheet, size_t k)
 {
     return sheet[3 * k + 2];
