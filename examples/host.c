@@ -3,10 +3,11 @@
  *
  * It draws the numbers of disks and stripes, fills an array while the
  * superparity is not there yet, writes a block, loses disks and gets them
- * back, follows a list of repairs that came from elsewhere, meets a survivor
- * that was changed behind its back, and in the end a loss that nothing brings
- * back. `make example` builds and runs it, and
- * examples/host.expected has what it prints.
+ * back, follows a list of repairs that came from elsewhere, repairs two disks
+ * at a time where the power is often cut, meets a survivor that was changed
+ * behind its back, and in the end a loss that nothing brings back.
+ * `make example` builds and runs it, and examples/host.expected has what it
+ * prints.
  *
  * It is C99 and C++. Whatever it gets back is compared with what was stored:
  * the exit status is 0 only if all went as it should.
@@ -141,13 +142,6 @@ static void lose(const size_t *disks, size_t count)
     }
 }
 
-/* The library only reads the map: the host decides when the disks count as
-   present again. */
-static void all_present(void)
-{
-    memset(map, 0, sizeof map);
-}
-
 /* ---- The calls, each with its outcome in words. */
 
 /* Stripes below RAID2D_COLUMN_STRIPE are rows, the others are columns. */
@@ -169,6 +163,18 @@ static void print_repairs(const uint8_t *list)
         printf("  disk %zu by ", raid2d_sheet_disk(list, k));
         print_stripe(raid2d_sheet_stripe(list, k));
     }
+}
+
+/* The disks that are erased. */
+static void print_left(void)
+{
+    size_t disk, count = 0;
+
+    printf("  left:");
+    for (disk = 0; disk < RAID2D_DISKS(ROWS, COLUMNS); disk++)
+        if (map[disk])
+            printf(count++ > 0 ? ", %zu" : " %zu", disk);
+    printf(count > 0 ? "\n" : " none, and all stripes are checked\n");
 }
 
 static void seal(void)
@@ -232,20 +238,24 @@ static void plan(void)
         print_repairs(sheet);
 }
 
+/* At most so many repairs. The library marks the disks repaired as present in
+   the map. */
+static uint32_t repair(size_t limit, size_t *count)
+{
+    return raid2d_rebuild(ROWS, COLUMNS, BLOCK, array, sizeof array,
+                          map, sizeof map, sheet, sizeof sheet, limit, count);
+}
+
 /* Rebuild makes its own plan: a host that does not want to see it first needs
-   no other call. */
+   no other call. With the largest limit one turn is enough. */
 static void rebuild(void)
 {
     size_t count = 0;
-    uint32_t status = raid2d_rebuild(ROWS, COLUMNS, BLOCK, array, sizeof array,
-                                     map, sizeof map, sheet, sizeof sheet,
-                                     &count);
+    uint32_t status = repair(SIZE_MAX, &count);
 
     printf("rebuild: %s, %zu repairs\n", raid2d_strerror(status), count);
     expect(status == RAID2D_OK, "rebuild");
     expect(all_is_there(), "what rebuild has restored");
-    if (status == RAID2D_OK)
-        all_present();
 }
 
 /* ---- The story, one chapter after another. */
@@ -332,7 +342,8 @@ static void follow(uint32_t expected)
         print_repairs(notes);
 }
 
-/* For a while disk 6 is out as well, of which the list knows nothing. */
+/* For a while disk 6 is out as well, of which the list knows nothing. Follow
+   only reads the map: the host decides when the disks count as present. */
 static void follow_notes(void)
 {
     printf("\n5. The same disks fail again. A list of repairs comes from"
@@ -345,27 +356,59 @@ static void follow_notes(void)
     map[6] = 0;
     follow(RAID2D_OK);
     expect(all_is_there(), "what follow has restored");
-    all_present();
+    memset(map, 0, sizeof map);
+}
+
+/* A turn of two repairs at most, and then a cut. What the next turn needs is
+   the array and the map: a host stores the blocks repaired, and after them the
+   map. If the cut comes between the two, the turn is made again and gives the
+   same blocks. The sheet is for whoever wants to see it. */
+static void make_turn(size_t turn)
+{
+    size_t count = 0;
+    uint32_t status = repair(2, &count);
+
+    printf("turn %zu: %s\n", turn, raid2d_strerror(status));
+    expect(status == RAID2D_OK && count == (turn < 3 ? 2 : 1), "a turn");
+    if (status == RAID2D_OK)
+        print_repairs(sheet);
+    print_left();
+    memset(sheet, '?', sizeof sheet);
+}
+
+/* Five disks by two: the third turn makes the last repair and checks all
+   stripes. */
+static void repair_between_cuts(void)
+{
+    static const size_t failed[] = { 5, 6, 7, 8, 9 };
+    size_t turn;
+
+    printf("\n6. Row 1 fails, disks 5 to 9. Between cuts of the power two"
+           " disks are repaired.\n");
+    lose(failed, 5);
+    for (turn = 1; turn <= 3; turn++)
+        make_turn(turn);
+    expect(all_is_there(), "what the turns have restored");
 }
 
 /* A sum over a wrong block gives a wrong block. So rebuild checks all stripes
-   after the repairs, and rather gives zeros than something made up. */
+   after the last repair, and rather gives zeros than something made up. The
+   disk stays erased in the map. */
 static void meet_a_changed_survivor(void)
 {
     static const size_t failed[] = { 0 };
     size_t count = 0;
     uint32_t status;
 
-    printf("\n6. A bit of disk 6 flips, and nobody says so. Then disk 0"
+    printf("\n7. A bit of disk 6 flips, and nobody says so. Then disk 0"
            " fails.\n");
     block_of(6)[0] ^= 1;
     expect(check() == RAID2D_NOT_SEALED, "check of a changed block");
     lose(failed, 1);
-    status = raid2d_rebuild(ROWS, COLUMNS, BLOCK, array, sizeof array,
-                            map, sizeof map, sheet, sizeof sheet, &count);
+    status = repair(SIZE_MAX, &count);
     printf("rebuild: %s\n", raid2d_strerror(status));
     expect(status == RAID2D_ERR_SURVIVORS, "rebuild from a changed block");
-    expect(block_of(0)[0] == 0, "zeros in place of a block made up");
+    expect(block_of(0)[0] == 0 && map[0] == 1, "zeros on an erased disk");
     printf("Disk 6 is taken as failed too.\n");
     map[6] = 1;
     rebuild();
@@ -457,7 +500,7 @@ static void change_along_loop(void)
         block_of(disk)[0] ^= loop[disk];
 }
 
-/* A fatal loss leaves the array as it is. */
+/* A fatal loss leaves the array and the map as they are. */
 static void fail_to_rebuild(void)
 {
     static uint8_t kept[sizeof array];
@@ -465,8 +508,7 @@ static void fail_to_rebuild(void)
     uint32_t status;
 
     memcpy(kept, array, sizeof array);
-    status = raid2d_rebuild(ROWS, COLUMNS, BLOCK, array, sizeof array,
-                            map, sizeof map, sheet, sizeof sheet, &count);
+    status = repair(SIZE_MAX, &count);
     printf("rebuild: %s, %zu disks cannot be repaired\n\n",
            raid2d_strerror(status), count);
     expect(status == RAID2D_FATAL && count == 6, "rebuild of a fatal loss");
@@ -479,7 +521,7 @@ static void meet_a_fatal_loss(void)
     static const size_t failed[] = { 0, 3, 6, 8, 10, 11, 19 };
     static uint8_t before[sizeof array];
 
-    printf("\n7. Disks 0, 3, 6, 8, 10, 11 and 19 fail.\n");
+    printf("\n8. Disks 0, 3, 6, 8, 10, 11 and 19 fail.\n");
     memcpy(before, array, sizeof array);
     lose(failed, 7);
     fail_to_rebuild();
@@ -503,6 +545,7 @@ int main(void)
     add_superparity();
     lose_disk_with_parities();
     follow_notes();
+    repair_between_cuts();
     meet_a_changed_survivor();
     meet_a_fatal_loss();
     return failures == 0 ? 0 : 1;
