@@ -71,6 +71,8 @@
  *                  each stripe touched holds exactly two of them. It begins
  *                  with its lowest-numbered disk. Each fatal loss has a cycle,
  *                  and no other loss has one.
+ *   turn           One call of raid2d_rebuild: it makes the next repairs of
+ *                  plan's order, as many as its limit allows.
  *   sheet          A list of repairs or a cycle, in RAID2D_SHEET_BYTES bytes.
  *                  A chain of records leads through it, each with a disk, a
  *                  stripe and the number of the next. raid2d_sheet_first and
@@ -453,28 +455,33 @@ uint32_t raid2d_plan(size_t rows, size_t columns,
  * raid2d_rebuild: restore erased disks, at most so many in one turn.
  *
  * Makes the first repairs of raid2d_plan, at most limit, whatever the erased
- * blocks hold, and marks the disks repaired as present in the map. A turn
- * after which no disk is erased, or before which none is, checks all stripes
- * too. A limit of rows + columns + 1 or more, such as SIZE_MAX, leaves nothing
- * for a second turn.
+ * blocks hold, and marks the disks repaired as present in the map. If its
+ * repairs leave no disk erased, or none was erased, it checks all stripes too.
+ * A limit of rows + columns + 1 or more, such as SIZE_MAX, leaves nothing for
+ * a second turn.
  *
  * Turns one after another, each on the array and the map that the one before
- * left, make the repairs of raid2d_plan in its order. With f disks erased and
- * a limit of k, survivors of a sealed array are restored in f / k turns,
- * rounded up, or in one where no disk is erased, and each turn before the last
- * makes k repairs. This holds if nothing else changes the map or the block of
- * a present disk between the turns; raid2d_write between them is not covered.
+ * left, make the repairs of raid2d_plan in its order. If the loss is not fatal
+ * and the survivors belong to a sealed array, it is restored when the map is
+ * clear: with f disks erased and a limit of k in f / k turns, rounded up, or
+ * in one where no disk is erased, and each turn before the last makes k
+ * repairs. This holds if nothing else changes the map or the block of a
+ * present disk between the turns; raid2d_write between them is not covered.
  *
  * With RAID2D_OK and a map without erased disks the whole array is sealed: it
  * is the only sealed array with the survivors that there were before the first
  * turn. With RAID2D_OK and a map that still has some, nothing was checked. A
  * survivor that was damaged shows only where the other survivors contradict
  * it, and in the last turn only; with rows + columns + 1 disks erased at first
- * none can.
+ * none can. So a host that repairs in turns keeps a copy of the map from
+ * before the first: if the last turn returns RAID2D_ERR_SURVIVORS, the blocks
+ * that the turns before it wrote may be wrong, though the map has their disks
+ * as present.
  *
  *   map        as above; the bytes of the disks repaired become 0
- *   sheet      receives the repairs of this turn, or the cycle; it is one for
- *              raid2d_follow only if no disk is left erased
+ *   sheet      receives the repairs of this turn, or the cycle; raid2d_follow
+ *              takes it only with the map from before this turn, and only if
+ *              the turn left no disk erased
  *   limit      the most repairs for this turn, any number from 1 on
  *   count      receives the number of repairs made, or of disks in the
  *              residual, as from raid2d_plan
@@ -498,12 +505,11 @@ uint32_t raid2d_plan(size_t rows, size_t columns,
  *   RAID2D_FATAL             the loss is fatal, whatever the survivors hold
  *                            and whatever the limit is; sheet and *count are
  *                            those of raid2d_plan, array and map unchanged
- *   RAID2D_ERR_SURVIVORS     all disks still erased were repaired, or none
- *                            was erased, and a stripe's sum is not zero: the
- *                            survivors belong to no sealed array; the blocks
- *                            of this turn's disks and the whole sheet are
- *                            zero, the map and *count unchanged, and what
- *                            earlier turns restored stays as they left it
+ *   RAID2D_ERR_SURVIVORS     the repairs of this turn leave no disk erased, or
+ *                            none was erased, and a stripe's sum is not zero:
+ *                            the survivors belong to no sealed array; the
+ *                            blocks of this turn's disks and the whole sheet
+ *                            are zero, the map and *count unchanged
  *   RAID2D_OK                the sheet lists the repairs of this turn, *count
  *                            is their number: none and 0 where no disk is
  *                            erased
@@ -520,10 +526,10 @@ uint32_t raid2d_rebuild(size_t rows, size_t columns, size_t block,
  *
  * Makes the repairs of a sheet in the order of its chain, whatever the erased
  * blocks hold, and then checks all stripes. Any list will do in which each
- * repair is allowed at its turn and after which no disk is erased: it need
+ * repair is allowed at its step and after which no disk is erased: it need
  * not be that of raid2d_plan, its chain may visit the records in any order,
  * and bytes off the chain are ignored. The array is then what raid2d_rebuild
- * makes of it. A fatal loss has no such list, so that it gets RAID2D_ERR_CHAIN
+ * makes of it in one turn. A fatal loss has no such list, so that it gets RAID2D_ERR_CHAIN
  * or RAID2D_ERR_REPAIRS and never RAID2D_FATAL. The sheet is judged as a whole
  * before any block is changed. The map is not cleared.
  *
@@ -547,7 +553,7 @@ uint32_t raid2d_rebuild(size_t rows, size_t columns, size_t block,
  *   RAID2D_ERR_CHAIN         the kind is not 1, the number of the first record
  *                            or, on the chain, of a next one is above 32, or a
  *                            record is reached twice
- *   RAID2D_ERR_REPAIRS       a repair is not allowed at its turn: its disk is
+ *   RAID2D_ERR_REPAIRS       a repair is not allowed at its step: its disk is
  *                            not in the grid, is not erased or was repaired
  *                            before, its stripe does not go through the disk,
  *                            or another disk of the stripe is still erased; or

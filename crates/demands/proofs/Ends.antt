@@ -30,12 +30,12 @@ use Rattle.model.specs.declared.Outcome.the-variants.{Repairs, Fatal, Refused}
 use Rattle.model.proofs.Outcome as outcome
 use Rattle.model.proofs.Refusal.{given-refused}
 use Rattle.model.proofs.Accept.{rebuild-fits, buffers-fit}
-use Rattle.model.proofs.Demand3.{rebuild-turns, rebuild-refused}
+use Rattle.model.proofs.Demand3.{rebuild-accepted, rebuild-refused}
 use Rattle.model.proofs.Grid.{rows-below, layout-disks, map-length}
 use Rattle.model.proofs.Limits.{grid-repairs-bound}
 use Rattle.model.proofs.Sheets.{sheet-length}
 use Rattle.model.proofs.Turns.{turn-length, turn-map}
-use Rattle.demands.specs.Sum.{nextSum}
+use Rattle.demands.specs.Total.{nextTotal}
 use Rattle.demands.specs.declared.turns.Turns.{Turns}
 use Rattle.tally.specs.Tally.{nextErased}
 use Rattle.tally.proofs.Scanned.{next-erased, next-passed}
@@ -70,7 +70,7 @@ module _ (z : Size) (B : ℕ) (a m s : List ℕ) (k : ℕ) where
 
   -- A turn that is refused is the last.
   pub refused-last : (d : Turns) (o : Outcome) → o ≡ t .answer → OneOf (1 ∷ 2 ∷ []) (tagOf outcome.the-type o)
-      → record { last = o; turns = d .turns + 1; made = d .made; left = 0 } ≡ nextSum (sheetLayout z) d t
+      → record { last = o; turns = d .turns + 1; made = d .made; left = 0 } ≡ nextTotal (sheetLayout z) d t
   unfolding unfinished
   refused-last d o is other =
       let (no-number, none) = not-repairs o other in
@@ -92,7 +92,7 @@ module _ (z : Size) (B : ℕ) (a m s : List ℕ) (k : ℕ) where
 
       refusing : (b : Bool) → eqb (rebuildRefusal z B a m s k) 0 ≡ b → length (t .sheet) ≡ 98
       refusing true q =
-          rw (rebuild-turns z B a m s k (eqb-true (rebuildRefusal z B a m s k) 0 q))
+          rw (rebuild-accepted z B a m s k (eqb-true (rebuildRefusal z B a m s k) 0 q))
           (ended (fatal (sheetLayout z) (erasures m)) (contradicts (sheetLayout z) (whole B) a m (turnRepairs (sheetLayout z) k m)) refl)
       refusing false q = ap (λ (u : Turn). length (u .sheet)) (rebuild-refused z B a m s k (eqb-false (rebuildRefusal z B a m s k) 0 q)) ∙ long
 
@@ -101,7 +101,7 @@ module _ (z : Size) (B : ℕ) (a m s : List ℕ) (k : ℕ) where
   array-kept = go (eqb (rebuildRefusal z B a m s k) 0) refl
     where
       go : (b : Bool) → eqb (rebuildRefusal z B a m s k) 0 ≡ b → length (t .array) ≡ length a
-      go true q = rw (rebuild-turns z B a m s k (eqb-true (rebuildRefusal z B a m s k) 0 q)) (turn-length (sheetLayout z) narrow (whole B) k a m)
+      go true q = rw (rebuild-accepted z B a m s k (eqb-true (rebuildRefusal z B a m s k) 0 q)) (turn-length (sheetLayout z) narrow (whole B) k a m)
       go false q = ap (λ (u : Turn). length (u .array)) (rebuild-refused z B a m s k (eqb-false (rebuildRefusal z B a m s k) 0 q))
 
   pub map-kept : length (t .map) ≡ length m
@@ -111,7 +111,7 @@ module _ (z : Size) (B : ℕ) (a m s : List ℕ) (k : ℕ) where
       go true q =
           let ok = eqb-true (rebuildRefusal z B a m s k) 0 q in
           let fits = buffers-fit z B a m s (rebuild-fits z B a m s k ok .0) .1 in
-          rw (rebuild-turns z B a m s k ok)
+          rw (rebuild-accepted z B a m s k ok)
           (map-length z (turnOf (sheetLayout z) narrow (whole B) k a m .map) (turn-map (sheetLayout z) narrow (whole B) k a m z fits)
           ∙ sym (map-length z m fits))
       go false q = ap (λ (u : Turn). length (u .map)) (rebuild-refused z B a m s k (eqb-false (rebuildRefusal z B a m s k) 0 q))
@@ -133,7 +133,7 @@ module _ (z : Size) (B : ℕ) (a m s : List ℕ) (k : ℕ) where
     pub map-fits : mapFits z (t .map) ≡ true
     map-fits =
         let (buffers, some) = rebuild-fits z B a m s k (taken c is) in
-        rw (rebuild-turns z B a m s k (taken c is)) (turn-map (sheetLayout z) narrow (whole B) k a m z (buffers-fit z B a m s buffers .1))
+        rw (rebuild-accepted z B a m s k (taken c is)) (turn-map (sheetLayout z) narrow (whole B) k a m z (buffers-fit z B a m s buffers .1))
 
     -- the repairs are few,
     pub few-made : c ≤ 32
@@ -141,7 +141,7 @@ module _ (z : Size) (B : ℕ) (a m s : List ℕ) (k : ℕ) where
     few-made = go (fatal (sheetLayout z) (erasures m)) refl (contradicts (sheetLayout z) (whole B) a m (turnRepairs (sheetLayout z) k m)) refl
       where
         given : Repairs c ≡ turnOf (sheetLayout z) narrow (whole B) k a m .answer
-        given = is ∙ ap (λ (u : Turn). u .answer) (rebuild-turns z B a m s k (taken c is))
+        given = is ∙ ap (λ (u : Turn). u .answer) (rebuild-accepted z B a m s k (taken c is))
 
         go : (f : Bool) → fatal (sheetLayout z) (erasures m) ≡ f
             → (g : Bool) → contradicts (sheetLayout z) (whole B) a m (turnRepairs (sheetLayout z) k m) ≡ g → c ≤ 32
@@ -169,10 +169,10 @@ module _ (z : Size) (B : ℕ) (a m s : List ℕ) (k : ℕ) where
         let long : length (t .map) ≡ sheetLayout z .disks = map-length z (t .map) map-fits ∙ sym (layout-disks z (narrow .base)) in
         rw (sym (ap accepted is), map-is, long) (positive (count (sheetLayout z .disks) (erasures (t .map))))
 
-    pub repairs-summed : (d : Turns) (n : List ℕ) → n ≡ t .map → (b : Bool) → b ≡ ltb 0 (count (length n) (erasures n))
-        → record { last = Repairs c; turns = d .turns + 1; made = d .made + c; left = cond b (d .left - 1) 0 } ≡ nextSum (sheetLayout z) d t
+    pub repairs-counted : (d : Turns) (n : List ℕ) → n ≡ t .map → (b : Bool) → b ≡ ltb 0 (count (length n) (erasures n))
+        → record { last = Repairs c; turns = d .turns + 1; made = d .made + c; left = cond b (d .left - 1) 0 } ≡ nextTotal (sheetLayout z) d t
     unfolding repairCount
-    repairs-summed d n map-is b more =
+    repairs-counted d n map-is b more =
         let same : b ≡ unfinished (sheetLayout z) t = more ∙ sym (goes-on map-is) in
         λ i. record { last = is i; turns = d .turns + 1; made = d .made + repairCount (is i); left = cond (same i) (d .left - 1) 0 }
 

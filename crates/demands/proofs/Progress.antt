@@ -16,7 +16,7 @@ use Rattle.model.specs.Turn.{Turn, unfinished, turnsBy, lastOf, repairCount, ma
 use Rattle.model.specs.Rebuild.{rebuildTurn, rebuildTurns}
 use Rattle.model.specs.declared.Size.{Size}
 use Rattle.demands.proofs.Ends.{sheet-kept, array-kept, map-kept, few-counted}
-use Rattle.demands.specs.Sum.{start, sumOf, nextSum, Written}
+use Rattle.demands.specs.Total.{start, turnsIn, totalOf, nextTotal, Written}
 use Rattle.demands.specs.declared.turns.Turns.{Turns}
 
 -- ---- sheets in a buffer
@@ -111,7 +111,7 @@ sheet-snoc [] t = refl
 sheet-snoc (u ∷ us) t = ap (λ (ss : List (List ℕ)). u .sheet ∷ ss) (sheet-snoc us t)
 
 -- Each uses a sheet.
-pub fewer : (L : Layout) (d e : Turns) (t : Turn) → e ≡ nextSum L d t → 0 < d .left → e .left < d .left
+pub fewer : (L : Layout) (d e : Turns) (t : Turn) → e ≡ nextTotal L d t → 0 < d .left → e .left < d .left
 fewer L d e t is some = rw (ap (λ (x : Turns). x .left) is) (go (unfinished L t) (d .left) some)
   where
     go : (b : Bool) (j : ℕ) → 0 < j → cond b (j - 1) 0 < j
@@ -121,7 +121,7 @@ fewer L d e t is some = rw (ap (λ (x : Turns). x .left) is) (go (unfinished L t
 module _ (z : Size) (B k : ℕ) (a₀ m₀ s₀ : List ℕ) where
   -- All of them.
   abbrev pub all : List Turn
-  all = rebuildTurns z B k (sheetsIn narrow (length s₀ / 98) s₀) a₀ m₀
+  all = turnsIn z B k s₀ a₀ m₀
 
   -- The turns ts are made, and those that follow are to be made on what they left.
   pub record Progress (ts : List Turn) (d : Turns) (a m s : List ℕ) : Type 0 where
@@ -156,7 +156,7 @@ module _ (z : Size) (B k : ℕ) (a₀ m₀ s₀ : List ℕ) where
   -- After the last.
   abbrev Sums : List Turn → Turns → (a m s : List ℕ) → Type 0
   Sums ts d a m s =
-      (d ≡ sumOf (start a₀ m₀) ts) × ((a ≡ lastOf (start a₀ m₀) ts .array) × ((m ≡ lastOf (start a₀ m₀) ts .map) × Written narrow s₀ s ts))
+      (d ≡ totalOf (start a₀ m₀) ts) × ((a ≡ lastOf (start a₀ m₀) ts .array) × ((m ≡ lastOf (start a₀ m₀) ts .map) × Written narrow s₀ s ts))
 
   pub ends : (ts : List Turn) (d : Turns) (a m s : List ℕ) → Progress ts d a m s → d .left ≡ 0 → Sums all d a m s
   unfolding sheetsIn turnsBy
@@ -210,7 +210,7 @@ module _ (z : Size) (B k : ℕ) (a₀ m₀ s₀ : List ℕ) where
 
     -- What follows it.
     then : rebuildTurns z B k (sheetsIn narrow (d .left) (drop (98 * length ts) s₀)) a m
-        ≡ t ∷ rebuildTurns z B k (sheetsIn narrow (nextSum (sheetLayout z) d t .left) (drop (98 * suc (length ts)) s₀)) (t .array) (t .map)
+        ≡ t ∷ rebuildTurns z B k (sheetsIn narrow (nextTotal (sheetLayout z) d t .left) (drop (98 * suc (length ts)) s₀)) (t .array) (t .map)
     then =
         let some-left : d .left ≡ suc (d .left - 1) = omega arith in
         let behind : drop 98 (drop (98 * length ts) s₀) ≡ drop (98 * suc (length ts)) s₀ = one-more s₀ in
@@ -218,7 +218,7 @@ module _ (z : Size) (B k : ℕ) (a₀ m₀ s₀ : List ℕ) where
         ∙ first-of (d .left - 1) (drop (98 * length ts) s₀) a m
         ∙ (rw (behind, sym same-sheet) refl)
 
-    goes-own : (e : Turns) → e ≡ nextSum (sheetLayout z) d t → (b n s₂ : List ℕ) → b ≡ t .array → n ≡ t .map
+    goes-own : (e : Turns) → e ≡ nextTotal (sheetLayout z) d t → (b n s₂ : List ℕ) → b ≡ t .array → n ≡ t .map
         → s₂ ≡ take at s ++ (t .sheet ++ drop (at + 98) s) → Progress (ts ++ (t ∷ [])) e b n s₂
     goes-own e is b n s₂ array map written =
         let snoc : length (ts ++ (t ∷ [])) ≡ suc (length ts) = length-append ts (t ∷ []) ∙ add-one (length ts) in
@@ -265,12 +265,12 @@ module _ (z : Size) (B k : ℕ) (a₀ m₀ s₀ : List ℕ) where
 
     -- With the sheet as the part of the buffer that is lent.
     pub goes : (own : List ℕ) → own ≡ take 98 (drop at s) → let u = rebuildTurn z B a m own k in
-        (e : Turns) → e ≡ nextSum (sheetLayout z) d u → (b n s₂ : List ℕ) → b ≡ u .array → n ≡ u .map
+        (e : Turns) → e ≡ nextTotal (sheetLayout z) d u → (b n s₂ : List ℕ) → b ≡ u .array → n ≡ u .map
         → s₂ ≡ take at s ++ (u .sheet ++ drop (at + 98) s) → Progress (ts ++ (u ∷ [])) e b n s₂
     goes own is =
         subst
         (λ (l : List ℕ).
         let u = rebuildTurn z B a m l k in
-        (e : Turns) → e ≡ nextSum (sheetLayout z) d u → (b n s₂ : List ℕ) → b ≡ u .array → n ≡ u .map
+        (e : Turns) → e ≡ nextTotal (sheetLayout z) d u → (b n s₂ : List ℕ) → b ≡ u .array → n ≡ u .map
         → s₂ ≡ take at s ++ (u .sheet ++ drop (at + 98) s) → Progress (ts ++ (u ∷ [])) e b n s₂)
         (sym is) goes-own

@@ -6,19 +6,24 @@ use Prim.Native.Nat.{ℕ, zero, suc, _+_, _*_, _-_, _/_, _≤_}
 use native.Mathlib.Omega.{arith}
 use lib.ListN.{length, take, drop, length-take, length-drop}
 use lib.Seq.{length-take-le}
+use mathlib.Core.Bool.{false}
+use Rattle.stripes.specs.Fold.{count}
 use Rattle.stripes.specs.System.{Bytes}
+use Rattle.stripes.specs.Erased.{erasures}
+use Rattle.stripes.specs.Repair.{fatal}
+use Rattle.model.specs.Grid.{disks}
 use Rattle.model.specs.Refusal.{refusal}
 use Rattle.model.specs.Sheet.{narrow, sheetsIn}
-use Rattle.model.specs.Plan.{planTests, planOutcome, planSheet}
+use Rattle.model.specs.Plan.{planTests, planOutcome, planSheet, sheetLayout}
 use Rattle.model.specs.Turn.{Turn, lastOf, madeBy}
 use Rattle.model.specs.Rebuild.{rebuildRefusal, rebuildTurns}
 use Rattle.model.specs.Edition.{superparity}
-use Rattle.model.specs.Demand3.{Demand3}
+use Rattle.model.specs.Demand3.{Results, Demand3}
 use Rattle.model.specs.declared.Size.{Size}
 use Rattle.model.specs.declared.Outcome.{Outcome}
 use Rattle.model.proofs.Accept.{rebuild-fits, buffers-fit}
 use Rattle.model.proofs.Demand3.{Sheets, demand3}
-use Rattle.demands.specs.Sum.{start, sumOf, Written}
+use Rattle.demands.specs.Total.{start, turnsIn, totalOf, Written}
 use Rattle.demands.specs.declared.turns.Turns.{Turns}
 
 -- Sheets of a buffer that is long enough.
@@ -35,7 +40,8 @@ sheets-number zero s = refl
 sheets-number (suc n) s = ap suc (sheets-number n (drop 98 s))
 
 module _ (z : Size) (B k : ℕ) (a m d s : List ℕ) (small : Bytes a) (planOk : refusal (planTests z m (length d)) ≡ 0)
-    (ok : rebuildRefusal z B a m (take 98 s) k ≡ 0) (enough : superparity z (narrow .base) .limit ≤ length s / 98 * k) where
+    (ok : rebuildRefusal z B a m (take 98 s) k ≡ 0)
+    (enough : fatal (sheetLayout z) (erasures m) ≡ false → count (disks z) (erasures m) ≤ length s / 98 * k) where
   -- The buffer has a sheet.
   some : length s / 98 ≡ suc (length s / 98 - 1)
   some =
@@ -45,18 +51,22 @@ module _ (z : Size) (B k : ℕ) (a m d s : List ℕ) (small : Bytes a) (planOk :
       omega arith
 
   abbrev all : List Turn
-  all = rebuildTurns z B k (sheetsIn narrow (length s / 98) s) a m
+  all = turnsIn z B k s a m
 
-  promised-all : Demand3 (superparity z (narrow .base)) narrow B k a m
-      (record {
+  -- What plan gives, and what comes of some turns.
+  abbrev resultsOf : List Turn → Results
+  resultsOf ts =
+      record {
         planned = planOutcome z m d;
         planSheet = planSheet z m d;
-        last = lastOf (start a m) all .answer;
-        made = madeBy all;
-        array = lastOf (start a m) all .array;
-        map = lastOf (start a m) all .map;
-        sheets = map (λ (t : Turn). t .sheet) all;
-      })
+        last = lastOf (start a m) ts .answer;
+        made = madeBy ts;
+        array = lastOf (start a m) ts .array;
+        map = lastOf (start a m) ts .map;
+        sheets = map (λ (t : Turn). t .sheet) ts;
+      }
+
+  promised-all : Demand3 (superparity z (narrow .base)) narrow B k a m (resultsOf all)
   unfolding superparity sheetsIn
   promised-all =
       let j : ℕ = length s / 98 - 1 in
@@ -65,24 +75,13 @@ module _ (z : Size) (B k : ℕ) (a m d s : List ℕ) (small : Bytes a) (planOk :
       let left : length (drop 98 s) ≡ length s - 98 = length-drop 98 s in
       let has = some in
       subst
-      (λ (ss : List (List ℕ)).
-      let ts = rebuildTurns z B k ss a m in
-      Demand3 (superparity z (narrow .base)) narrow B k a m
-      (record {
-        planned = planOutcome z m d;
-        planSheet = planSheet z m d;
-        last = lastOf (start a m) ts .answer;
-        made = madeBy ts;
-        array = lastOf (start a m) ts .array;
-        map = lastOf (start a m) ts .map;
-        sheets = map (λ (t : Turn). t .sheet) ts;
-      }))
+      (λ (ss : List (List ℕ)). Demand3 (superparity z (narrow .base)) narrow B k a m (resultsOf (rebuildTurns z B k ss a m)))
       is
       (demand3 z B k a m d (take 98 s) (sheetsIn narrow j (drop 98 s)) small planOk ok (sheets-long j (drop 98 s) (omega arith))
-      (rw number enough) (start a m))
+      (λ fine. rw number (enough fine)) (start a m))
 
   pub promised : (planned : Outcome) (draft : List ℕ) (r : Turns) (b n s₂ : List ℕ) → planned ≡ planOutcome z m d → draft ≡ planSheet z m d
-      → r ≡ sumOf (start a m) all → b ≡ lastOf (start a m) all .array → n ≡ lastOf (start a m) all .map → Written narrow s s₂ all
+      → r ≡ totalOf (start a m) all → b ≡ lastOf (start a m) all .array → n ≡ lastOf (start a m) all .map → Written narrow s s₂ all
       → Demand3 (superparity z (narrow .base)) narrow B k a m
       (record {
         planned = planned;

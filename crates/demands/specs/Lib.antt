@@ -1,1 +1,1 @@
-pub mod Sum
+pub mod Total

@@ -1,7 +1,7 @@
 // What is proved of the definitions, said of the calls: demand 2 of seal, check and write, demand 3 of plan and rebuild's turns on
 // one input, and of follow that it does as rebuild.
 ghost use mathlib.Core.Path.{_≡_};
-ghost use mathlib.Core.Bool.{true};
+ghost use mathlib.Core.Bool.{true, false};
 ghost use mathlib.Core.Logic.{_↔_};
 ghost use Prim.Native.Nat.{ℕ, _*_, _/_, _≤_, _<_};
 ghost use lib.ListN.{length, take};
@@ -14,13 +14,12 @@ ghost use Rattle.model.specs.Refusal.{refusal, arrayTests};
 ghost use Rattle.model.specs.Array.{sealStatus, sealArray, checked, checkStatus, writeStatus, writeArray};
 ghost use Rattle.model.specs.Sheet.{narrow, sheetBytes, sheetsIn};
 ghost use Rattle.model.specs.Plan.{planTests, sheetLayout, planOutcome, planSheet, outcomeStatus};
-ghost use Rattle.model.specs.Turn.{lastOf};
-ghost use Rattle.model.specs.Rebuild.{bufferRefusal, rebuildRefusal, rebuildTurn, rebuildTurns};
+ghost use Rattle.model.specs.Rebuild.{bufferRefusal, rebuildRefusal, rebuildTurn};
 ghost use Rattle.model.specs.Follow.{Usable, followOutcome, followArray};
 ghost use Rattle.model.specs.Edition.{superparity};
 ghost use Rattle.model.specs.Demand2.{SealDemand, CheckDemand, WriteDemand};
 ghost use Rattle.model.specs.Demand3.{Planned, Demand3};
-ghost use Rattle.demands.specs.Sum.{start, sumOf, Written};
+ghost use Rattle.demands.specs.Total.{start, turnsIn, endOf, totalOf, Written};
 
 pub mod turns;
 
@@ -69,8 +68,8 @@ pub struct Answers {
 
 // Plans the repair of a loss into one sheet, the draft, and rebuilds the array in turns of at most `limit` repairs, each with the
 // next sheet of a buffer, until the map is clear, a turn is refused or no sheet is left. Demand 3 holds for every input that the
-// refusals before 6 let through, if there are sheets for as many repairs as a loss can take; what it says of plan alone, under
-// plan's own refusals and for every block length.
+// refusals before 6 let through, if a loss that is not fatal has sheets for its repairs; what it says of plan alone, under plan's
+// own refusals and for every block length.
 pub fn plan_and_rebuild(
     size: Size,
     block: usize,
@@ -83,28 +82,18 @@ pub fn plan_and_rebuild(
     ensures planned { λ r. ⌜ r .planned ≡ planOutcome size (now (map .entry)) (now (draft .entry)) ⌝ }
     ensures draft { λ r. ⌜ now (draft .exit) ≡ planSheet size (now (map .entry)) (now (draft .entry)) ⌝ }
     ensures rebuilt { λ r. ⌜
-        r .rebuilt ≡ sumOf (start (now (array .entry)) (now (map .entry)))
-        (rebuildTurns size block limit
-        (sheetsIn narrow (length (now (sheets .entry)) / sheetBytes narrow) (now (sheets .entry)))
-        (now (array .entry)) (now (map .entry)))
+        r .rebuilt ≡ totalOf (start (now (array .entry)) (now (map .entry)))
+        (turnsIn size block limit (now (sheets .entry)) (now (array .entry)) (now (map .entry)))
         ⌝ }
     ensures array { λ r. ⌜
-        now (array .exit) ≡ lastOf (start (now (array .entry)) (now (map .entry)))
-        (rebuildTurns size block limit
-        (sheetsIn narrow (length (now (sheets .entry)) / sheetBytes narrow) (now (sheets .entry)))
-        (now (array .entry)) (now (map .entry))) .array
+        now (array .exit) ≡ endOf size block limit (now (sheets .entry)) (now (array .entry)) (now (map .entry)) .array
         ⌝ }
     ensures map { λ r. ⌜
-        now (map .exit) ≡ lastOf (start (now (array .entry)) (now (map .entry)))
-        (rebuildTurns size block limit
-        (sheetsIn narrow (length (now (sheets .entry)) / sheetBytes narrow) (now (sheets .entry)))
-        (now (array .entry)) (now (map .entry))) .map
+        now (map .exit) ≡ endOf size block limit (now (sheets .entry)) (now (array .entry)) (now (map .entry)) .map
         ⌝ }
     ensures sheets { λ r. ⌜
         Written narrow (now (sheets .entry)) (now (sheets .exit))
-        (rebuildTurns size block limit
-        (sheetsIn narrow (length (now (sheets .entry)) / sheetBytes narrow) (now (sheets .entry)))
-        (now (array .entry)) (now (map .entry)))
+        (turnsIn size block limit (now (sheets .entry)) (now (array .entry)) (now (map .entry)))
         ⌝ }
     ensures plan { λ r. ⌜
         (refusal (planTests size (now (map .entry)) (length (now (draft .entry)))) ≡ 0
@@ -113,7 +102,8 @@ pub fn plan_and_rebuild(
     ensures demand3 { λ r. ⌜
         (refusal (planTests size (now (map .entry)) (length (now (draft .entry)))) ≡ 0
         → rebuildRefusal size block (now (array .entry)) (now (map .entry)) (take (sheetBytes narrow) (now (sheets .entry))) limit ≡ 0
-        → superparity size (narrow .base) .limit ≤ length (now (sheets .entry)) / sheetBytes narrow * limit
+        → (fatal (sheetLayout size) (erasures (now (map .entry))) ≡ false
+        → count (disks size) (erasures (now (map .entry))) ≤ length (now (sheets .entry)) / sheetBytes narrow * limit)
         → Demand3 (superparity size (narrow .base)) narrow block limit (now (array .entry)) (now (map .entry))
         (record {
           planned = r .planned;

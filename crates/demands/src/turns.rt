@@ -1,15 +1,14 @@
 // Rebuild's turns on one input, one after another.
 ghost use mathlib.Core.Path.{_≡_};
-ghost use Prim.Native.Nat.{_+_, _*_, _/_, _≤_, _<_};
+ghost use Prim.Native.Nat.{_+_, _*_, _≤_, _<_};
 ghost use lib.Dec.{ltb};
 ghost use lib.ListN.{length};
 ghost use Rattle.stripes.specs.Fold.{count};
 ghost use Rattle.stripes.specs.Erased.{erasures};
 ghost use Rattle.model.specs.Plan.{sheetLayout};
-ghost use Rattle.model.specs.Sheet.{narrow, sheetBytes, sheetsIn};
-ghost use Rattle.model.specs.Turn.{lastOf};
-ghost use Rattle.model.specs.Rebuild.{rebuildTurn, rebuildTurns};
-ghost use Rattle.demands.specs.Sum.{start, sumOf, nextSum, Written};
+ghost use Rattle.model.specs.Sheet.{narrow, sheetBytes};
+ghost use Rattle.model.specs.Rebuild.{rebuildTurn};
+ghost use Rattle.demands.specs.Total.{start, turnsIn, endOf, totalOf, nextTotal, Written};
 use model::Outcome;
 use model::Size;
 
@@ -43,7 +42,7 @@ fn turn(
     requires { ⌜ done .made ≤ sheetBytes narrow * done .turns ⌝ }
     requires { ⌜ sheetBytes narrow * (done .turns + 1) < 9223372036854775808 ⌝ }
     ensures turns { λ r. ⌜
-        r ≡ nextSum (sheetLayout size) done
+        r ≡ nextTotal (sheetLayout size) done
         (rebuildTurn size block (now (array .entry)) (now (map .entry)) (now (sheet .entry)) limit)
         ⌝ }
     ensures array { λ r. ⌜
@@ -92,28 +91,18 @@ pub fn rebuild_in_turns(
     limit: usize,
 ) -> Turns
     ensures turns { λ r. ⌜
-        r ≡ sumOf (start (now (array .entry)) (now (map .entry)))
-        (rebuildTurns size block limit
-        (sheetsIn narrow (length (now (sheets .entry)) / sheetBytes narrow) (now (sheets .entry)))
-        (now (array .entry)) (now (map .entry)))
+        r ≡ totalOf (start (now (array .entry)) (now (map .entry)))
+        (turnsIn size block limit (now (sheets .entry)) (now (array .entry)) (now (map .entry)))
         ⌝ }
     ensures array { λ r. ⌜
-        now (array .exit) ≡ lastOf (start (now (array .entry)) (now (map .entry)))
-        (rebuildTurns size block limit
-        (sheetsIn narrow (length (now (sheets .entry)) / sheetBytes narrow) (now (sheets .entry)))
-        (now (array .entry)) (now (map .entry))) .array
+        now (array .exit) ≡ endOf size block limit (now (sheets .entry)) (now (array .entry)) (now (map .entry)) .array
         ⌝ }
     ensures map { λ r. ⌜
-        now (map .exit) ≡ lastOf (start (now (array .entry)) (now (map .entry)))
-        (rebuildTurns size block limit
-        (sheetsIn narrow (length (now (sheets .entry)) / sheetBytes narrow) (now (sheets .entry)))
-        (now (array .entry)) (now (map .entry))) .map
+        now (map .exit) ≡ endOf size block limit (now (sheets .entry)) (now (array .entry)) (now (map .entry)) .map
         ⌝ }
     ensures sheets { λ r. ⌜
         Written narrow (now (sheets .entry)) (now (sheets .exit))
-        (rebuildTurns size block limit
-        (sheetsIn narrow (length (now (sheets .entry)) / sheetBytes narrow) (now (sheets .entry)))
-        (now (array .entry)) (now (map .entry)))
+        (turnsIn size block limit (now (sheets .entry)) (now (array .entry)) (now (map .entry)))
         ⌝ }
 {
     let mut done = Turns {

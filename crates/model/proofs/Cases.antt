@@ -65,12 +65,10 @@ turned z k a m =
     let t = rebuildTurn z 1 a m before k in
     outcomeStatus (t .answer) ∷ outcomeCount (t .answer) 99 ∷ t .array ++ t .map ++ t .sheet
 
--- What rebuild gives without a limit to speak of, but for the map.
+-- The same without a limit to speak of.
 restored : Size → (a m : List ℕ) → List ℕ
-unfolding before
-restored z a m =
-    let t = rebuildTurn z 1 a m before 256 in
-    outcomeStatus (t .answer) ∷ outcomeCount (t .answer) 99 ∷ t .array ++ t .sheet
+unfolding turned
+restored z a m = turned z 256 a m
 
 -- What follow gives for an array, a map and a sheet: the number, the count, the array.
 followed : Size → (a m sheet : List ℕ) → List ℕ
@@ -91,7 +89,7 @@ cases =
     ∷ record {
       number = 2;
       computed = restored two A (0 ∷ 0 ∷ 0 ∷ 0 ∷ 0 ∷ 0 ∷ 0 ∷ 0 ∷ 0 ∷ []);
-      expected = 0 ∷ 0 ∷ A ++ 1 ∷ replicate 97 0;
+      expected = 0 ∷ 0 ∷ A ++ replicate 9 0 ++ 1 ∷ replicate 97 0;
     }
     -- Disks 0, 2, 6 erased: the sheet, and A is restored whatever stands on them; the listing has the lines `repair 3`, `2 18`,
     -- `0 0` and `6 2`.
@@ -101,7 +99,7 @@ cases =
           restored two (7 ∷ 2 ∷ 7 ∷ 4 ∷ 8 ∷ 12 ∷ 7 ∷ 10 ∷ 15 ∷ []) (1 ∷ 0 ∷ 1 ∷ 0 ∷ 0 ∷ 0 ∷ 1 ∷ 0 ∷ 0 ∷ [])
           ++ listing (2 ∷ 2 ∷ 1 ∷ 0 ∷ 1 ∷ 0 ∷ 0 ∷ 0 ∷ 1 ∷ 0 ∷ 0 ∷ []);
       expected =
-          0 ∷ 3 ∷ A ++ 1 ∷ 1 ∷ 2 ∷ 18 ∷ 2 ∷ 0 ∷ 0 ∷ 3 ∷ 6 ∷ 2 ∷ 0 ∷ replicate 87 0
+          0 ∷ 3 ∷ A ++ replicate 9 0 ++ 1 ∷ 1 ∷ 2 ∷ 18 ∷ 2 ∷ 0 ∷ 0 ∷ 3 ∷ 6 ∷ 2 ∷ 0 ∷ replicate 87 0
           ++ 114 ∷ 101 ∷ 112 ∷ 97 ∷ 105 ∷ 114 ∷ 32 ∷ 51 ∷ 10 ∷ 50 ∷ 32 ∷ 49 ∷ 56 ∷ 10 ∷ 48 ∷ 32 ∷ 48 ∷ 10 ∷ 54 ∷ 32 ∷ 50 ∷ 10 ∷ [];
     }
     -- Disks 0, 2, 6, 8 erased: fatal, 4 lost; loop 0, 2, 8, 6 on stripes 0, 18, 2, 16. Nothing else changes. The listing begins
@@ -113,7 +111,7 @@ cases =
           ++ listing (2 ∷ 2 ∷ 1 ∷ 0 ∷ 1 ∷ 0 ∷ 0 ∷ 0 ∷ 1 ∷ 0 ∷ 1 ∷ []);
       expected =
           6 ∷ 4 ∷ 2 ∷ 1 ∷ 0 ∷ 0 ∷ 2 ∷ 2 ∷ 18 ∷ 3 ∷ 8 ∷ 2 ∷ 4 ∷ 6 ∷ 16 ∷ 0 ∷ replicate 84 0
-          ++ 6 ∷ 4 ∷ A ++ 2 ∷ 1 ∷ 0 ∷ 0 ∷ 2 ∷ 2 ∷ 18 ∷ 3 ∷ 8 ∷ 2 ∷ 4 ∷ 6 ∷ 16 ∷ 0 ∷ replicate 84 0
+          ++ 6 ∷ 4 ∷ A ++ 1 ∷ 0 ∷ 1 ∷ 0 ∷ 0 ∷ 0 ∷ 1 ∷ 0 ∷ 1 ∷ 2 ∷ 1 ∷ 0 ∷ 0 ∷ 2 ∷ 2 ∷ 18 ∷ 3 ∷ 8 ∷ 2 ∷ 4 ∷ 6 ∷ 16 ∷ 0 ∷ replicate 84 0
           ++ 102 ∷ 97 ∷ 116 ∷ 97 ∷ 108 ∷ 32 ∷ 52 ∷ 10 ∷ 48 ∷ 32 ∷ 48 ∷ 10 ∷ 50 ∷ 32 ∷ 49 ∷ 56 ∷ 10 ∷ 56 ∷ 32 ∷ 50 ∷ 10 ∷ 54 ∷ 32 ∷ 49 ∷ 54 ∷ 10 ∷ [];
     }
     -- Disks 0, 1, 3, 4 erased: fatal.
@@ -126,19 +124,19 @@ cases =
     ∷ record {
       number = 6;
       computed = restored two (7 ∷ 2 ∷ 3 ∷ 4 ∷ 7 ∷ 12 ∷ 5 ∷ 10 ∷ 7 ∷ []) (1 ∷ 0 ∷ 0 ∷ 0 ∷ 1 ∷ 0 ∷ 0 ∷ 0 ∷ 1 ∷ []);
-      expected = 0 ∷ 3 ∷ A ++ 1 ∷ 1 ∷ 0 ∷ 0 ∷ 2 ∷ 4 ∷ 1 ∷ 3 ∷ 8 ∷ 2 ∷ 0 ∷ replicate 87 0;
+      expected = 0 ∷ 3 ∷ A ++ replicate 9 0 ++ 1 ∷ 1 ∷ 0 ∷ 0 ∷ 2 ∷ 4 ∷ 1 ∷ 3 ∷ 8 ∷ 2 ∷ 0 ∷ replicate 87 0;
     }
     -- Disks 0, 1, 2, 3, 6 erased: restored, the full five.
     ∷ record {
       number = 7;
       computed = restored two (7 ∷ 7 ∷ 7 ∷ 7 ∷ 8 ∷ 12 ∷ 7 ∷ 10 ∷ 15 ∷ []) (1 ∷ 1 ∷ 1 ∷ 1 ∷ 0 ∷ 0 ∷ 1 ∷ 0 ∷ 0 ∷ []);
-      expected = 0 ∷ 5 ∷ A ++ 1 ∷ 1 ∷ 1 ∷ 17 ∷ 2 ∷ 2 ∷ 18 ∷ 3 ∷ 0 ∷ 0 ∷ 4 ∷ 3 ∷ 1 ∷ 5 ∷ 6 ∷ 2 ∷ 0 ∷ replicate 81 0;
+      expected = 0 ∷ 5 ∷ A ++ replicate 9 0 ++ 1 ∷ 1 ∷ 1 ∷ 17 ∷ 2 ∷ 2 ∷ 18 ∷ 3 ∷ 0 ∷ 0 ∷ 4 ∷ 3 ∷ 1 ∷ 5 ∷ 6 ∷ 2 ∷ 0 ∷ replicate 81 0;
     }
     -- A with disk 8 holding 14, disk 0 erased: refusal 7, disk 0 becomes 0, and the sheet is zero.
     ∷ record {
       number = 8;
       computed = restored two (1 ∷ 2 ∷ 3 ∷ 4 ∷ 8 ∷ 12 ∷ 5 ∷ 10 ∷ 14 ∷ []) (1 ∷ 0 ∷ 0 ∷ 0 ∷ 0 ∷ 0 ∷ 0 ∷ 0 ∷ 0 ∷ []);
-      expected = 7 ∷ 99 ∷ 0 ∷ 2 ∷ 3 ∷ 4 ∷ 8 ∷ 12 ∷ 5 ∷ 10 ∷ 14 ∷ replicate 98 0;
+      expected = 7 ∷ 99 ∷ 0 ∷ 2 ∷ 3 ∷ 4 ∷ 8 ∷ 12 ∷ 5 ∷ 10 ∷ 14 ∷ 1 ∷ replicate 106 0;
     }
     -- Write 9 to disk 0 of A: disks 0, 2, 6, 8 become 9, 11, 13, 7.
     ∷ record {
@@ -207,7 +205,7 @@ cases =
           sealArray wide 1 (1 ∷ 2 ∷ 4 ∷ 99 ∷ 8 ∷ 16 ∷ 32 ∷ 9 ∷ 8 ∷ 7 ∷ 6 ∷ 5 ∷ [])
           ++ restored wide (7 ∷ 7 ∷ 7 ∷ 7 ∷ 7 ∷ 16 ∷ 32 ∷ 56 ∷ 7 ∷ 18 ∷ 36 ∷ 63 ∷ []) (1 ∷ 1 ∷ 1 ∷ 1 ∷ 1 ∷ 0 ∷ 0 ∷ 0 ∷ 1 ∷ 0 ∷ 0 ∷ 0 ∷ []);
       expected =
-          W ++ 0 ∷ 6 ∷ W ++ 1 ∷ 1 ∷ 1 ∷ 17 ∷ 2 ∷ 2 ∷ 18 ∷ 3 ∷ 3 ∷ 19 ∷ 4 ∷ 0 ∷ 0 ∷ 5 ∷ 4 ∷ 1 ∷ 6 ∷ 8 ∷ 2 ∷ 0 ∷ replicate 78 0;
+          W ++ 0 ∷ 6 ∷ W ++ replicate 12 0 ++ 1 ∷ 1 ∷ 1 ∷ 17 ∷ 2 ∷ 2 ∷ 18 ∷ 3 ∷ 3 ∷ 19 ∷ 4 ∷ 0 ∷ 0 ∷ 5 ∷ 4 ∷ 1 ∷ 6 ∷ 8 ∷ 2 ∷ 0 ∷ replicate 78 0;
     }
     -- There disks 0, 3, 8, 11, the corners, are fatal: loop 0, 3, 11, 8 on stripes 0, 19, 2, 16. Disk 2 holds data, disk 3 does not.
     ∷ record {
@@ -228,7 +226,7 @@ cases =
           ++ restored high (7 ∷ 2 ∷ 3 ∷ 7 ∷ 8 ∷ 12 ∷ 16 ∷ 32 ∷ 7 ∷ 21 ∷ 42 ∷ 7 ∷ []) (1 ∷ 0 ∷ 0 ∷ 1 ∷ 0 ∷ 0 ∷ 0 ∷ 0 ∷ 1 ∷ 0 ∷ 0 ∷ 1 ∷ [])
           ++ writeStatus high 1 H 2 (9 ∷ []) ∷ writeStatus high 1 H 3 (9 ∷ []) ∷ [];
       expected =
-          H ++ 0 ∷ 4 ∷ H ++ 1 ∷ 1 ∷ 0 ∷ 0 ∷ 2 ∷ 3 ∷ 1 ∷ 3 ∷ 8 ∷ 2 ∷ 4 ∷ 11 ∷ 3 ∷ 0 ∷ replicate 84 0 ++ 8 ∷ 0 ∷ [];
+          H ++ 0 ∷ 4 ∷ H ++ replicate 12 0 ++ 1 ∷ 1 ∷ 0 ∷ 0 ∷ 2 ∷ 3 ∷ 1 ∷ 3 ∷ 8 ∷ 2 ∷ 4 ∷ 11 ∷ 3 ∷ 0 ∷ replicate 84 0 ++ 8 ∷ 0 ∷ [];
     }
     -- The listing reads the rows first: the same map gives `repair 3`, `3 19`, `0 0`, `8 2` with two rows and `repair 3`, `0 0`, `3 1`,
     -- `8 2` with three. With two rows follow takes its repairs in another order.

@@ -1,38 +1,44 @@
 -- Demand 3: what plan and rebuild promise of a loss, for every size, block, map and content.
 -- Assumes nothing.
 use mathlib.Core.Path.{_≡_, refl, sym, _∙_, ap, subst}
-use mathlib.Core.Bool.{Bool, true, false, cond}
-use mathlib.Core.Logic.{_↔_}
+use mathlib.Core.Bool.{Bool, true, false, cond, true≢false}
+use mathlib.Core.Logic.{_↔_, ⊎-elim}
 use mathlib.Core.List.{List, [], _∷_, map}
-use Prim.Native.Nat.{ℕ, suc, _+_, _*_, _≤_, _<_}
+use Prim.Native.Nat.{ℕ, _+_, _*_, _≤_, _<_, min}
 use native.Mathlib.Omega.{arith}
 use borrow.Author.Tests.{le-ltb}
 use lib.Dec.{eqb, ltb}
-use lib.ListN.{length, getD}
-use Rattle.model.specs.Turn.{Turn, unfinished, turnOf, turnsBy, turnsOf, lastOf, madeBy, wholeRebuild}
+use lib.ListN.{length, getD, take, drop, length-take}
+use lib.Seq.{take-all}
+use Rattle.model.specs.Turn.{Turn, lossTold, contradiction, repairsMade, unfinished, turnOf, turnsBy, turnsOf, lastOf, madeBy, wholeRebuild}
 use Rattle.model.specs.Rebuild.{bufferTests, bufferRefusal, rebuildTests, rebuildRefusal, rebuildTurn, rebuildTurns}
 use Rattle.model.specs.Refusal.{refusal, arrayTests}
-use Rattle.model.specs.Plan.{lossOutcome, lossSheet, planOutcome, planSheet, planTests, sheetLayout}
+use Rattle.model.specs.Plan.{lossOutcome, lossSheet, planOutcome, planSheet, planTests, sheetLayout, outcomeStatus}
 use Rattle.model.specs.Edition.{superparity}
 use Rattle.model.specs.Grid.{rectangle, sizeFits, rows, columns, disks, layoutOf}
 use Rattle.model.specs.declared.Size.{Size}
-use Rattle.model.specs.declared.Outcome.the-variants.{Refused}
-use Rattle.model.specs.Demand3.{Planned, Demand3}
+use Rattle.model.specs.declared.Outcome.the-variants.{Repairs, Refused}
+use Rattle.model.specs.Demand3.{Planned, InTurns, Demand3}
 use Rattle.model.specs.Loop.{Loop}
-use Rattle.model.specs.Sheet.{narrow}
+use Rattle.model.specs.Sheet.{narrow, sheetOf, blankSheet}
 use Rattle.model.proofs.Accept.{plan-accepts, rebuild-accepts, buffers-passed, limit-passed, rebuild-fits, buffers-fit, sheet-passes}
-use Rattle.model.proofs.Turns.{turn-length, turn-map, whole-turn, shape, as-whole}
-use Rattle.model.proofs.Losses.{resultsOf, Lawful, planned, edition-demand3}
+use Rattle.model.proofs.Turns.{turn-length, turn-map, last-turn, early-turn, whole-turn, fitting-turn, shape, as-whole}
+use Rattle.model.proofs.Losses.{zero-seven, six-seven, resultsOf, Lawful, planned, edition-demand3}
 use Rattle.model.proofs.Refusal.{given-accepted, given-refused, fails, passed, array-passed}
 use Rattle.model.proofs.Grid.{rows-below, Fits, size-fits, block-fits, layout-two, layout-sized, layout-disks, layout-ordered}
 use Rattle.model.proofs.Loop.{loop-bound, fatal-loop, loop-is, loop-fits, three}
 use Rattle.model.proofs.Limits.{grid-repairs}
 use Rattle.model.proofs.Contents.{same-turn}
 use Rattle.stripes.specs.Fold.{count}
-use Rattle.stripes.specs.System.{whole, Bytes}
-use Rattle.stripes.specs.Repair.{Entry, Peels, repairs, fatal}
-use Rattle.stripes.proofs.Peel.{repairs-peels}
-use Rattle.stripes.proofs.Theorems.{all-judged}
+use Rattle.stripes.specs.System.{Layout, whole, Codeword, Bytes, consistent}
+use Rattle.stripes.specs.Repair.{Entry, Peels, repairs, mapAfter, fatal, rebuilt}
+use Rattle.stripes.proofs.Peel.{repairs-peels, repairs-count}
+use Rattle.stripes.proofs.Theorems.{all-judged, all-restored}
+use Rattle.stripes.proofs.Fold.{lt-or-le}
+use Rattle.stripes.proofs.Sums.{consistent-iff}
+use Rattle.stripes.proofs.Bytes.{whole-inside}
+use Rattle.stripes.proofs.Restore.{restore}
+use Rattle.stripes.proofs.Turns.{peels-take, erasures-after, repairs-rest, fatal-rest}
 use Rattle.stripes.specs.Erased.{Agree, Belongs, erasures}
 
 -- ---- which arguments are taken
@@ -66,10 +72,10 @@ unfolding rebuildTurn
 rebuild-refused z B a m sheet k refused = given-refused (rebuildRefusal z B a m sheet k) _ _ refused
 
 -- One that is not ends as a turn does,
-pub rebuild-turns : (z : Size) (B : ℕ) (a m sheet : List ℕ) (k : ℕ) → rebuildRefusal z B a m sheet k ≡ 0
+pub rebuild-accepted : (z : Size) (B : ℕ) (a m sheet : List ℕ) (k : ℕ) → rebuildRefusal z B a m sheet k ≡ 0
     → rebuildTurn z B a m sheet k ≡ turnOf (sheetLayout z) narrow (whole B) k a m
 unfolding rebuildTurn
-rebuild-turns z B a m sheet k ok = given-accepted (rebuildRefusal z B a m sheet k) _ _ ok
+rebuild-accepted z B a m sheet k ok = given-accepted (rebuildRefusal z B a m sheet k) _ _ ok
 
 -- and leaves an array and a map that another turn takes.
 pub next-turn : (z : Size) (B : ℕ) (a m sheet : List ℕ) (k : ℕ) → rebuildRefusal z B a m sheet k ≡ 0
@@ -133,7 +139,110 @@ contents-free z B a b m sheet k ok long same =
     let (buffers, some) = rebuild-fits z B a m sheet k ok in
     let (array, fits, sheet-long) = buffers-fit z B a m sheet buffers in
     let t = same-turn (sheetLayout z) narrow B (block-fits B (array .block) .low) a b m (layout-sized z (narrow .base) B a (array .long)) long same k in
-    rw (rebuild-turns z B a m sheet k ok, rebuild-turns z B b m sheet k ((rw long) ∙ ok)) (t .answer, t .map, t .sheet, t .array)
+    rw (rebuild-accepted z B a m sheet k ok, rebuild-accepted z B b m sheet k ((rw long) ∙ ok)) (t .answer, t .map, t .sheet, t .array)
+
+-- ---- each turn by itself, whatever the limits of the others are
+
+-- A fatal loss is told as plan tells it, and neither the array nor the map changes.
+pub turn-fatal : (z : Size) (B : ℕ) (a m sheet : List ℕ) (k : ℕ) → rebuildRefusal z B a m sheet k ≡ 0 → fatal (sheetLayout z) (erasures m) ≡ true
+    → rebuildTurn z B a m sheet k ≡ lossTold (sheetLayout z) narrow a m
+unfolding turnOf
+turn-fatal z B a m sheet k ok lossy = rebuild-accepted z B a m sheet k ok ∙ (rw lossy)
+
+-- The survivors of an array and a map are those of a sealed array b, and the loss is not fatal. It says nothing of the erased blocks.
+pub record Restorable (z : Size) (B : ℕ) (b a m : List ℕ) : Type 0 where
+  pub word : Codeword (sheetLayout z) (whole B) b
+  pub survivors : Agree (sheetLayout z) (whole B) (erasures m) a b
+  pub fine : fatal (sheetLayout z) (erasures m) ≡ false
+
+-- Then a turn makes the first repairs of plan's order, as many as its limit and the erased disks allow, and plan's order goes on with
+-- the others. What it leaves is restorable again, to b: so are turns of any limits, with any changes of erased blocks between them.
+-- Where the limit is no less than the number of erased disks, the array is b.
+pub record TurnKeeps (z : Size) (B k : ℕ) (b m : List ℕ) (t : Turn) : Type 0 where
+  pub answer : t .answer ≡ Repairs (min k (count (disks z) (erasures m)))
+  pub map : t .map ≡ mapAfter m (take k (repairs (sheetLayout z) (erasures m)))
+  pub sheet : t .sheet ≡ sheetOf narrow (narrow .repairKind) (take k (repairs (sheetLayout z) (erasures m)))
+  pub others : repairs (sheetLayout z) (erasures (t .map)) ≡ drop k (repairs (sheetLayout z) (erasures m))
+  pub again : Restorable z B b (t .array) (t .map)
+  pub restored : count (disks z) (erasures m) ≤ k → t .array ≡ b
+
+pub turn-keeps : (z : Size) (B : ℕ) (a m sheet : List ℕ) (k : ℕ) → rebuildRefusal z B a m sheet k ≡ 0
+    → (b : List ℕ) → Restorable z B b a m → TurnKeeps z B k b m (rebuildTurn z B a m sheet k)
+unfolding repairsMade whole
+turn-keeps z B a m sheet k ok b r =
+    let (buffers, some) = rebuild-fits z B a m sheet k ok in
+    let (array, fits, long) = buffers-fit z B a m sheet buffers in
+    let L : Layout = sheetLayout z in
+    let e : ℕ → Bool = erasures m in
+    let w : List Entry = repairs L e in
+    let ordered = layout-ordered z (narrow .base) (rows-below z (array .size)) in
+    let sized = layout-sized z (narrow .base) B a (array .long) in
+    let number : length w ≡ count (disks z) e = repairs-count L e (r .fine) ∙ ap (λ (n : ℕ). count n e) (layout-disks z (narrow .base)) in
+    let all : rebuilt L (whole B) a w ≡ b = all-restored L e ordered (r .fine) B a b sized (r .word) (r .survivors) in
+    let sealed : consistent L (whole B) (rebuilt L (whole B) a w) ≡ true = rw all (consistent-iff L (whole B) b .1 (r .word .sums)) in
+    let is = rebuild-accepted z B a m sheet k ok ∙ fitting-turn L narrow (whole B) k a m (r .fine) sealed in
+    let peels = peels-take L e k w (repairs-peels L e) in
+    rw is
+    (record {
+      answer = ap Repairs (length-take k w ∙ ap (min k) number);
+      map = refl;
+      sheet = refl;
+      others = ap (repairs L) (erasures-after m (take k w)) ∙ repairs-rest L k e;
+      again = record {
+        word = r .word;
+        survivors = rw (erasures-after m (take k w)) (restore L (whole B) (whole-inside B) (ordered .bounded) b (r .word) e a sized (take k w) peels (r .survivors));
+        fine = ap (fatal L) (erasures-after m (take k w)) ∙ fatal-rest L k e ∙ r .fine;
+      };
+      restored = λ enough. ap (rebuilt L (whole B) a) (take-all k w (omega arith)) ∙ all;
+    })
+
+-- A turn is refused by 7 exactly if its limit is no less than the number of erased disks, the loss is not fatal, and the survivors
+-- belong to no sealed array.
+pub turn-seven : (z : Size) (B : ℕ) (a m sheet : List ℕ) (k : ℕ) → rebuildRefusal z B a m sheet k ≡ 0 → Bytes a
+    → (outcomeStatus (rebuildTurn z B a m sheet k .answer) ≡ 7)
+    ↔ ((fatal (sheetLayout z) (erasures m) ≡ false) × (count (disks z) (erasures m) ≤ k) × (Belongs (sheetLayout z) (whole B) (erasures m) a → ⊥))
+unfolding outcomeStatus turnOf lossTold lossOutcome wholeRebuild contradiction repairsMade whole
+turn-seven z B a m sheet k ok small = rw (rebuild-accepted z B a m sheet k ok) (go (fatal L e) refl)
+  where
+    L : Layout
+    L = sheetLayout z
+
+    e : ℕ → Bool
+    e = erasures m
+
+    w : List Entry
+    w = repairs L e
+
+    Seven : Type 0
+    Seven =
+        (outcomeStatus (turnOf L narrow (whole B) k a m .answer) ≡ 7)
+        ↔ ((fatal L e ≡ false) × (count (disks z) e ≤ k) × (Belongs L (whole B) e a → ⊥))
+
+    number : fatal L e ≡ false → length w ≡ count (disks z) e
+    number fine = repairs-count L e fine ∙ ap (λ (n : ℕ). count n e) (layout-disks z (narrow .base))
+
+    judged : fatal L e ≡ false → (consistent L (whole B) (rebuilt L (whole B) a w) ≡ true) ↔ Belongs L (whole B) e a
+    judged fine =
+        let array = buffers-fit z B a m sheet (rebuild-fits z B a m sheet k ok .0) .0 in
+        all-judged L e (layout-ordered z (narrow .base) (rows-below z (array .size))) fine B a (layout-sized z (narrow .base) B a (array .long)) small
+
+    last : fatal L e ≡ false → length w ≤ k → (c : Bool) → consistent L (whole B) (rebuilt L (whole B) a w) ≡ c → Seven
+    last fine few true q =
+        let all = number fine in
+        rw (last-turn L narrow (whole B) k a m few, fine, q) (λ h. absurd (zero-seven h), λ h. absurd (h .2 (judged fine .0 q)))
+    last fine few false q =
+        let all = number fine in
+        rw (last-turn L narrow (whole B) k a m few, fine, q)
+        (λ h. (refl, omega arith, λ belongs. true≢false (sym (judged fine .1 belongs) ∙ q)), λ h. refl)
+
+    go : (f : Bool) → fatal L e ≡ f → Seven
+    go true lossy = rw lossy (λ h. absurd (six-seven h), λ h. absurd (true≢false (h .0)))
+    go false fine =
+        ⊎-elim
+        (λ (many : k < length w).
+        let all = number fine in
+        rw (early-turn L narrow (whole B) k a m fine many .0) (λ h. absurd (zero-seven h), λ h. let enough = h .1 in absurd (omega arith)))
+        (λ few. last fine few (consistent L (whole B) (rebuilt L (whole B) a w)) refl) (lt-or-le k (length w))
 
 -- The edition of paper 01 is lawful.
 superparity-lawful : (z : Size) → sizeFits z ≡ true → Lawful (superparity z (narrow .base)) narrow
@@ -158,20 +267,34 @@ plan-planned z m sheet ok =
     rw ok (planned (superparity z (narrow .base)) narrow (superparity-lawful z (passed 1 (sizeFits z) _ (omega arith) ok .0)) (erasures m))
 
 -- Turn after turn rebuild does as a turn does, if nothing is refused at first and every sheet that follows is one.
-pub rebuilds-turns : (z : Size) (B k : ℕ) (a m s : List ℕ) (ss : List (List ℕ)) → rebuildRefusal z B a m s k ≡ 0 → Sheets ss
+pub turns-accepted : (z : Size) (B k : ℕ) (a m s : List ℕ) (ss : List (List ℕ)) → rebuildRefusal z B a m s k ≡ 0 → Sheets ss
     → rebuildTurns z B k (s ∷ ss) a m ≡ turnsOf (sheetLayout z) narrow (whole B) k (s ∷ ss) a m
 unfolding turnsBy
-rebuilds-turns z B k a m s [] ok long = rw (rebuild-turns z B a m s k ok) refl
-rebuilds-turns z B k a m s (s₂ ∷ ss) ok long =
+turns-accepted z B k a m s [] ok long = rw (rebuild-accepted z B a m s k ok) refl
+turns-accepted z B k a m s (s₂ ∷ ss) ok long =
     let t : Turn = turnOf (sheetLayout z) narrow (whole B) k a m in
-    rw (rebuild-turns z B a m s k ok)
+    rw (rebuild-accepted z B a m s k ok)
     (ap (λ (rest : List Turn). t ∷ cond (unfinished (sheetLayout z) t) rest [])
-    (rebuilds-turns z B k (t .array) (t .map) s₂ ss (next-turn z B a m s k ok s₂ (long .0)) (long .1)))
+    (turns-accepted z B k (t .array) (t .map) s₂ ss (next-turn z B a m s k ok s₂ (long .0)) (long .1)))
+
+-- Whatever the survivors hold, the sheets of the turns of a loss that is not fatal, read one after another, list plan's repairs, the
+-- next k each; but the last one is zero where the survivors contradict each other.
+pub turns-listed : (z : Size) (B k : ℕ) (a m s : List ℕ) (ss : List (List ℕ)) → rebuildRefusal z B a m s k ≡ 0 → Sheets ss
+    → fatal (sheetLayout z) (erasures m) ≡ false → count (disks z) (erasures m) ≤ length (s ∷ ss) * k
+    → let w = repairs (sheetLayout z) (erasures m) in
+    InTurns narrow k (λ u. cond (consistent (sheetLayout z) (whole B) (rebuilt (sheetLayout z) (whole B) a w)) (sheetOf narrow 1 u) (blankSheet narrow)) w
+    (map (λ (t : Turn). t .sheet) (rebuildTurns z B k (s ∷ ss) a m))
+turns-listed z B k a m s ss ok long fine enough =
+    let L : Layout = sheetLayout z in
+    let number : length (repairs L (erasures m)) ≡ count (disks z) (erasures m) =
+    repairs-count L (erasures m) fine ∙ ap (λ (n : ℕ). count n (erasures m)) (layout-disks z (narrow .base)) in
+    rw (turns-accepted z B k a m s ss ok long)
+    (shape L narrow (whole B) k (rebuild-fits z B a m s k ok .1) s ss a m fine (omega arith) (lossTold L narrow a m) .sheets)
 
 -- With survivors of a sealed array and a loss that is not fatal, the turns end as one rebuild does that makes all repairs: with the
 -- same array and the same map.
 pub turns-as-one : (z : Size) (B k : ℕ) (a m s : List ℕ) (ss : List (List ℕ)) → Bytes a
-    → rebuildRefusal z B a m s k ≡ 0 → Sheets ss → rows z + columns z + 1 ≤ length (s ∷ ss) * k
+    → rebuildRefusal z B a m s k ≡ 0 → Sheets ss → count (disks z) (erasures m) ≤ length (s ∷ ss) * k
     → fatal (sheetLayout z) (erasures m) ≡ false → Belongs (sheetLayout z) (whole B) (erasures m) a
     → (before : Turn) (all : ℕ) → 0 < all → count (disks z) (erasures m) ≤ all
     → let end = lastOf before (rebuildTurns z B k (s ∷ ss) a m) in let one = rebuildTurn z B a m s all in
@@ -182,16 +305,17 @@ turns-as-one z B k a m s ss small ok long enough fine belongs before all any mos
     let (array, fits, sheet-long) = buffers-fit z B a m s buffers in
     let L = sheetLayout z in
     let w = repairs L (erasures m) in
-    let few = repairs-few z (narrow .base) (rows-below z (array .size)) (erasures m) w (repairs-peels L (erasures m)) in
+    let number : length w ≡ count (disks z) (erasures m) = repairs-count L (erasures m) fine ∙ ap (λ (n : ℕ). count n (erasures m)) (layout-disks z (narrow .base)) in
     let sealed = all-judged L (erasures m) (layout-ordered z (narrow .base) (rows-below z (array .size))) fine B a (layout-sized z (narrow .base) B a (array .long)) small .1 belongs in
-    rw (rebuilds-turns z B k a m s ss ok long, rebuild-whole z B a m s all any most, buffers)
+    rw (turns-accepted z B k a m s ss ok long, rebuild-whole z B a m s all any most, buffers)
     (as-whole L narrow (whole B) k some a m fine before (turnsOf L narrow (whole B) k (s ∷ ss) a m)
     (shape L narrow (whole B) k some s ss a m fine (omega arith) before) sealed)
 
 -- Demand 3 holds of what plan is defined to give and of rebuild's turns, for every input that the refusals before 6 let through, if
--- the turns may make as many repairs as a loss can take.
+-- the sheets are enough for the repairs of a loss that is not fatal.
 pub demand3 : (z : Size) (B k : ℕ) (a m s₁ s : List ℕ) (ss : List (List ℕ)) → Bytes a
-    → refusal (planTests z m (length s₁)) ≡ 0 → rebuildRefusal z B a m s k ≡ 0 → Sheets ss → rows z + columns z + 1 ≤ length (s ∷ ss) * k
+    → refusal (planTests z m (length s₁)) ≡ 0 → rebuildRefusal z B a m s k ≡ 0 → Sheets ss
+    → (fatal (sheetLayout z) (erasures m) ≡ false → count (disks z) (erasures m) ≤ length (s ∷ ss) * k)
     → (before : Turn) → let ts = rebuildTurns z B k (s ∷ ss) a m in
     Demand3 (superparity z (narrow .base)) narrow B k a m
     (record {
@@ -220,6 +344,6 @@ demand3 z B k a m s₁ s ss small planOk rebuildOk long enough before =
       map = lastOf before ts .map;
       sheets = map (λ (t : Turn). t .sheet) ts;
     }))
-    (sym (rebuilds-turns z B k a m s ss rebuildOk long))
-    (edition-demand3 (superparity z (narrow .base)) narrow (superparity-lawful z (array .size)) B (block-fits B (array .block) .low) k some s ss enough a m small
-    (layout-sized z (narrow .base) B a (array .long))))
+    (sym (turns-accepted z B k a m s ss rebuildOk long))
+    (edition-demand3 (superparity z (narrow .base)) narrow (superparity-lawful z (array .size)) B (block-fits B (array .block) .low) k some s ss a m small
+    (layout-sized z (narrow .base) B a (array .long)) (λ fine. rw (layout-disks z (narrow .base)) (enough fine))))

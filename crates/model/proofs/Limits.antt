@@ -74,7 +74,7 @@ module _ (z : Size) (fits : sizeFits z ≡ true) where
             omega arith;
       }
 
-  -- Repairs, each of them allowed at its turn.
+  -- Repairs, each of them allowed at its step.
   pub peels-fitting : (e : ℕ → Bool) (w : List Entry) → Peels (layoutOf z (narrow .base)) e w → Fitting narrow w
   peels-fitting e w p =
       let L : Layout = layoutOf z (narrow .base) in

@@ -23,15 +23,15 @@ use Rattle.stripes.proofs.Peel.{repairs-peels}
 use Rattle.stripes.proofs.Degree.{two-ordered}
 use Rattle.stripes.proofs.Trace.{shown}
 use Rattle.stripes.proofs.Theorems.{fatal-ambiguous, all-repaired, all-unique, all-ordered, all-judged, all-restored}
-use Rattle.model.proofs.Turns.{all-clear, Shape, shape, not-refused, array-restored, map-cleared, all-made, undone, made-before, turns-number}
+use Rattle.model.proofs.Turns.{all-clear, Shape, shape, last-made, array-restored, map-cleared, all-made, undone, made-before, turns-number}
 
 -- What is to be shown of an edition, with sheets of a format.
 pub record Lawful (E : Edition) (f : Format) : Type 0 where
   -- Every disk lies on two stripes.
   pub two : TwoStripes (E .layout)
   -- Repairs are no more than the limit, and fit a sheet.
-  pub limited : (e : ℕ → Bool) (w : List Entry) → Peels (E .layout) e w → length w ≤ E .limit
-  pub limitFits : E .limit ≤ f .records
+  pub limited : (e : ℕ → Bool) (w : List Entry) → Peels (E .layout) e w → length w ≤ E .mostRepairs
+  pub limitFits : E .mostRepairs ≤ f .records
   -- Cycles are what the edition calls loops, and fit a sheet.
   pub loops : (e : ℕ → Bool) (w : List Entry) → Cycle (E .layout) e w → E .Loops e w
   pub loopsFit : (e : ℕ → Bool) (w : List Entry) → Cycle (E .layout) e w → length w ≤ f .records
@@ -42,10 +42,16 @@ pub record Lawful (E : Edition) (f : Format) : Type 0 where
 zero-six : (_≡_ {A = ℕ} 0 6) → ⊥
 zero-six e = omega arith
 
-zero-seven : (_≡_ {A = ℕ} 0 7) → ⊥
+six-zero : (_≡_ {A = ℕ} 6 0) → ⊥
+six-zero e = omega arith
+
+seven-zero : (_≡_ {A = ℕ} 7 0) → ⊥
+seven-zero e = omega arith
+
+pub zero-seven : (_≡_ {A = ℕ} 0 7) → ⊥
 zero-seven e = omega arith
 
-six-seven : (_≡_ {A = ℕ} 6 7) → ⊥
+pub six-seven : (_≡_ {A = ℕ} 6 7) → ⊥
 six-seven e = omega arith
 
 seven-six : (_≡_ {A = ℕ} 7 6) → ⊥
@@ -71,7 +77,7 @@ module _ (E : Edition) (f : Format) (law : Lawful E f) (e : ℕ → Bool) where
   plan-fine fine =
       let L : Layout = E .layout in
       let number : length (repairs L e) ≡ count (L .disks) e = all-repaired L e (two-ordered L (law .two)) fine in
-      let most : length (repairs L e) ≤ E .limit = law .limited e (repairs L e) (repairs-peels L e) in
+      let most : length (repairs L e) ≤ E .mostRepairs = law .limited e (repairs L e) (repairs-peels L e) in
       let room = law .limitFits in
       record {
         fatal = λ B some. (λ s. absurd (zero-six s), λ both. absurd (all-unique L e (two-ordered L (law .two)) fine B both));
@@ -106,8 +112,9 @@ resultsOf L f B k sheets a m =
       sheets = map (λ (t : Turn). t .sheet) ts;
     }
 
-module _ (E : Edition) (f : Format) (law : Lawful E f) (B : ℕ) (some : 0 < B) (k : ℕ) (may : 0 < k) (s : List ℕ) (ss : List (List ℕ)) (enough : E .limit ≤ length (s ∷ ss) * k)
-    (a m : List ℕ) (small : Bytes a) (sized : length a ≡ E .layout .disks * B) where
+module _ (E : Edition) (f : Format) (law : Lawful E f) (B : ℕ) (some : 0 < B) (k : ℕ) (may : 0 < k) (s : List ℕ) (ss : List (List ℕ))
+    (a m : List ℕ) (small : Bytes a) (sized : length a ≡ E .layout .disks * B)
+    (enough : fatal (E .layout) (erasures m) ≡ false → count (E .layout .disks) (erasures m) ≤ length (s ∷ ss) * k) where
   abbrev e : ℕ → Bool
   e = erasures m
 
@@ -146,6 +153,7 @@ module _ (E : Edition) (f : Format) (law : Lawful E f) (B : ℕ) (some : 0 < B) 
         rebuildFatal = (λ s. both, λ am. refl);
         kept = λ s. (refl, refl, refl, refl);
         restored = λ no b word agree. absurd (no both);
+        accepted = (λ s. absurd (six-zero s), λ h. absurd (h .0 both));
         contradicted = (λ s. absurd (six-seven s), λ h. absurd (h .0 both));
         undone = λ s. absurd (six-seven s);
         few = λ few. absurd (true≢false (sym lossy ∙ law .few e few));
@@ -161,7 +169,8 @@ module _ (E : Edition) (f : Format) (law : Lawful E f) (B : ℕ) (some : 0 < B) 
 
     formed : Shape (E .layout) f (whole B) k may a m (lossTold (E .layout) f a m) ts
     formed =
-        let most : length w ≤ E .limit = law .limited e w (repairs-peels (E .layout) e) in
+        let all = number in
+        let most = enough fine in
         shape (E .layout) f (whole B) k may s ss a m fine (omega arith) (lossTold (E .layout) f a m)
 
     plan-is : Planned E f e (given .planned) (given .planSheet)
@@ -171,7 +180,7 @@ module _ (E : Edition) (f : Format) (law : Lawful E f) (B : ℕ) (some : 0 < B) 
     listing : Lists (E .layout) f e w (given .planSheet)
     unfolding resultsOf lossSheet
     listing =
-        let most : length w ≤ E .limit = law .limited e w (repairs-peels (E .layout) e) in
+        let most : length w ≤ E .mostRepairs = law .limited e w (repairs-peels (E .layout) e) in
         let room = law .limitFits in
         (rw fine, omega arith, number, all-ordered (E .layout) e ordered fine)
 
@@ -182,28 +191,42 @@ module _ (E : Edition) (f : Format) (law : Lawful E f) (B : ℕ) (some : 0 < B) 
     in-turns c q =
         subst (λ (c : Bool). InTurns f k (λ u. cond c (sheetOf f (f .repairKind) u) (blankSheet f)) w (map (λ (t : Turn). t .sheet) ts)) q (formed .sheets)
 
+    -- How many turns came before the last.
+    earlier : formed .early ≡ length (given .sheets) - 1
+    unfolding resultsOf
+    earlier =
+        let all : length (given .sheets) ≡ suc (formed .early) = length-map ts (λ (t : Turn). t .sheet) ∙ formed .number in
+        omega arith
+
     -- The survivors belong to a sealed array.
     when-restored : consistent (E .layout) (whole B) (rebuilt (E .layout) (whole B) a w) ≡ true → Demand3 E f B k a m given
-    unfolding resultsOf lossOutcome
+    unfolding resultsOf lossOutcome outcomeStatus
     when-restored sealed =
         let belongs = all-judged (E .layout) e ordered fine B a sized small .0 sealed in
         let is : (b : List ℕ) → Codeword (E .layout) (whole B) b → Agree (E .layout) (whole B) e a b → given .array ≡ b =
         λ b word agree. array-restored (E .layout) f (whole B) k may a m fine _ ts formed sealed ∙ all-restored (E .layout) e ordered fine B a b sized word agree in
-        let ok = not-refused (E .layout) f (whole B) k may a m fine _ ts formed sealed in
+        let last = last-made (E .layout) f (whole B) k may a m fine _ ts formed sealed in
+        let ok : outcomeStatus (given .last) ≡ 0 = ap outcomeStatus last in
+        let cleared = map-cleared (E .layout) f (whole B) k may a m fine _ ts formed sealed in
         let made = all-made (E .layout) f (whole B) k may a m fine _ ts formed sealed in
         record {
           plan = plan-is;
           rebuildFatal = (λ s. absurd (zero-six (sym ok ∙ s)), λ am. absurd (all-unique (E .layout) e ordered fine B am));
           kept = λ s. absurd (zero-six (sym ok ∙ s));
-          restored = λ no b word agree.
-              record {
-                answer = ok;
-                number = rw (fine, made);
-                sheets = (w, listing, in-turns true sealed);
-                turns = turns-number f k may (sheetOf f (f .repairKind)) w (given .sheets) (in-turns true sealed) ∙ ap (λ (i : ℕ). turnsFor i k) number;
-                array = is b word agree;
-                map = ap (λ (l : List ℕ). count (E .layout .disks) (erasures l)) (map-cleared (E .layout) f (whole B) k may a m fine _ ts formed sealed) ∙ all-clear (E .layout) m fine;
-              };
+          restored = λ no b word agree. (
+            w,
+            record {
+              lists = listing;
+              sheets = in-turns true sealed;
+              turns = turns-number f k may (sheetOf f (f .repairKind)) w (given .sheets) (in-turns true sealed) ∙ ap (λ (i : ℕ). turnsFor i k) number;
+              last = last ∙ ap (λ (i : ℕ). Repairs (length w - k * i)) earlier;
+              made = rw (fine, made);
+              array = is b word agree;
+              map = cleared;
+              clear = ap (λ (l : List ℕ). count (E .layout .disks) (erasures l)) cleared ∙ all-clear (E .layout) m fine;
+            },
+          );
+          accepted = (λ s. (all-unique (E .layout) e ordered fine B, belongs), λ h. ok);
           contradicted = (λ s. absurd (zero-seven (sym ok ∙ s)), λ h. absurd (h .1 belongs));
           undone = λ s. absurd (zero-seven (sym ok ∙ s));
           few = λ few b word agree. (ok, made ∙ number, is b word agree);
@@ -217,21 +240,20 @@ module _ (E : Edition) (f : Format) (law : Lawful E f) (B : ℕ) (some : 0 < B) 
         let none : Belongs (E .layout) (whole B) e a → ⊥ = λ h. true≢false (sym (judged .1 h) ∙ unsealed) in
         let end = undone (E .layout) f (whole B) k may a m fine _ ts formed unsealed in
         let made = made-before (E .layout) f (whole B) k may a m fine _ ts formed unsealed in
-        let all : length (given .sheets) ≡ suc (formed .early) = length-map ts (λ (t : Turn). t .sheet) ∙ formed .number in
-        let early : formed .early ≡ length (given .sheets) - 1 = omega arith in
         let seven : outcomeStatus (given .last) ≡ 7 = ap (λ (t : Turn). outcomeStatus (t .answer)) end in
         record {
           plan = plan-is;
           rebuildFatal = (λ s. absurd (seven-six (sym seven ∙ s)), λ am. absurd (all-unique (E .layout) e ordered fine B am));
           kept = λ s. absurd (seven-six (sym seven ∙ s));
           restored = λ no b word agree. absurd (none (b, word, agree));
+          accepted = (λ s. absurd (seven-zero (sym seven ∙ s)), λ h. absurd (none (h .1)));
           contradicted = (λ s. (all-unique (E .layout) e ordered fine B, none), λ h. seven);
           undone = λ s. (
             w,
             record {
               lists = listing;
               sheets = in-turns false unsealed;
-              made = made ∙ ap (λ (i : ℕ). k * i) early;
+              made = made ∙ ap (λ (i : ℕ). k * i) earlier;
               map = rw made (ap (λ (t : Turn). t .map) end);
               array = rw (made, ap (λ (t : Turn). t .map) end) (ap (λ (t : Turn). t .array) end);
             },

@@ -19,10 +19,11 @@ use Rattle.stripes.specs.Repair.{Entry, repairs, after, mapAfter, fatal, rebuil
 use Rattle.stripes.specs.declared.Stretch.{Stretch}
 use Rattle.model.specs.Grid.{disks, mapFits}
 use Rattle.model.specs.Sheet.{Format, sheetOf, blankSheet}
-use Rattle.model.specs.Plan.{lossOutcome, lossSheet, outcomeStatus}
+use Rattle.model.specs.Plan.{lossOutcome, lossSheet}
 use Rattle.model.specs.Turn.{Turn, clear, lossTold, contradiction, repairsMade, turnRepairs, contradicts, turnOf, accepted, unfinished, turnsBy, turnsOf, lastOf, repairCount, madeBy, wholeRebuild}
 use Rattle.model.specs.Demand3.{InTurns, turnsFor}
 use Rattle.model.specs.declared.Size.{Size}
+use Rattle.model.specs.declared.Outcome.the-variants.{Repairs}
 use Rattle.stripes.proofs.Fold.{by-cases, lt-or-le, and-left, and-right, and-both, every-at, every-all}
 use Rattle.stripes.proofs.Bytes.{length-changed}
 use Rattle.stripes.proofs.Erased.{zero-set}
@@ -143,6 +144,14 @@ module _ (L : Layout) (f : Format) (x : Stretch) (k : ℕ) (a m : List ℕ) wher
       let more = clears-not L m k fine many in
       (rw (fine, more), rw (fine, more, more))
 
+  -- Where the survivors fit, a turn makes its repairs, whatever its limit is.
+  pub fitting-turn : fatal L (erasures m) ≡ false → consistent L x (rebuilt L x a (planOf L m)) ≡ true
+      → turnOf L f x k a m ≡ repairsMade L f x a m (take k (planOf L m))
+  unfolding wholeRebuild
+  fitting-turn fine fits =
+      ⊎-elim (λ (many : k < length (planOf L m)). early-turn fine many .0)
+      (λ few. last-turn few ∙ (rw (fine, fits, take-all k (planOf L m) few) refl)) (lt-or-le k (length (planOf L m)))
+
 -- ---- turns one after another
 module _ (L : Layout) (f : Format) (x : Stretch) (k : ℕ) (some : 0 < k) where
   -- How the sheets end: with a list, or with zeros.
@@ -262,9 +271,9 @@ module _ (L : Layout) (f : Format) (x : Stretch) (k : ℕ) (some : 0 < k) where
           s .last ∙ restoring (arrayAt a m fine done) (mapAt a m fine done) (still-fine a m fine done) (ap (consistent L x) (same-end a m fine done) ∙ fits)
           ∙ ap (repairsMade L f x (arrayAt a m fine done) (mapAt a m fine done)) (rest a m fine done)
 
-      pub not-refused : outcomeStatus (lastOf before ts .answer) ≡ 0
-      unfolding repairsMade outcomeStatus
-      not-refused = ap (λ (t : Turn). outcomeStatus (t .answer)) at-last
+      pub last-made : lastOf before ts .answer ≡ Repairs (length (planOf L m) - done)
+      unfolding repairsMade
+      last-made = ap (λ (t : Turn). t .answer) at-last ∙ ap Repairs (length-drop done (planOf L m))
 
       pub array-restored : lastOf before ts .array ≡ rebuilt L x a (planOf L m)
       unfolding repairsMade

@@ -34,13 +34,13 @@ pub record Planned (E : Edition) (f : Format) (e : ℕ → Bool) (answer : Outco
   pub loop : outcomeStatus answer ≡ 6 → (answer ≡ Fatal (lost (E .layout) e)) × LoopSheet E f e sheet
   -- Otherwise it counts the erased disks, no more than the limit, and its sheet lists their repairs.
   pub repairs : (outcomeStatus answer ≡ 6 → ⊥)
-      → (answer ≡ Repairs (count (E .layout .disks) e)) × (count (E .layout .disks) e ≤ E .limit)
+      → (answer ≡ Repairs (count (E .layout .disks) e)) × (count (E .layout .disks) e ≤ E .mostRepairs)
       × ((w : List Entry) × Lists (E .layout) f e w sheet)
   -- A loss of few disks is not fatal.
   pub few : count (E .layout .disks) e ≤ E .always → outcomeStatus answer ≡ 6 → ⊥
 
--- Sheets that list w in turns of k, read one after another: each lists the next k repairs, and the last, which is `ending` of them,
--- is for what is left.
+-- Sheets that list w in turns of k, read one after another: each lists the next k repairs, and the last sheet is what `ending` makes
+-- of those that are left.
 abbrev pub InTurns : Format → (k : ℕ) → (ending : List Entry → List ℕ) → List Entry → List (List ℕ) → Type 0
 InTurns f k ending w [] = ⊥
 InTurns f k ending w (s ∷ []) = (s ≡ ending w) × (length w ≤ k)
@@ -62,18 +62,21 @@ pub record Results : Type 0 where
   pub map : List ℕ
   pub sheets : List (List ℕ)
 
--- The turns have restored b: none was refused, the repairs are as many as plan counts, the sheets, read one after another, list
--- plan's repairs, the array is b byte for byte, and no disk is erased any more.
-pub record Restored (E : Edition) (f : Format) (k : ℕ) (b m : List ℕ) (r : Results) : Type 0 where
-  pub answer : outcomeStatus (r .last) ≡ 0
-  pub number : r .planned ≡ Repairs (r .made)
-  pub sheets : (w : List Entry) × Lists (E .layout) f (erasures m) w (r .planSheet) × InTurns f k (sheetOf f (f .repairKind)) w (r .sheets)
+-- The turns have restored b, and w are plan's repairs: none was refused, the last one made what was left of the repairs, all of
+-- them made as many as plan counts, the sheets, read one after another, list plan's repairs, the array is b byte for byte, and
+-- all erased disks are present in the map.
+pub record Restored (E : Edition) (f : Format) (k : ℕ) (b m : List ℕ) (w : List Entry) (r : Results) : Type 0 where
+  pub lists : Lists (E .layout) f (erasures m) w (r .planSheet)
+  pub sheets : InTurns f k (sheetOf f (f .repairKind)) w (r .sheets)
   pub turns : length (r .sheets) ≡ turnsFor (count (E .layout .disks) (erasures m)) k
+  pub last : r .last ≡ Repairs (length w - k * (length (r .sheets) - 1))
+  pub made : r .planned ≡ Repairs (r .made)
   pub array : r .array ≡ b
-  pub map : count (E .layout .disks) (erasures (r .map)) ≡ 0
+  pub map : r .map ≡ mapAfter m w
+  pub clear : count (E .layout .disks) (erasures (r .map)) ≡ 0
 
--- The last turn has found a contradiction, and w are plan's repairs. The turns before it made k repairs each, and what they
--- restored stays; its own disks stay erased, and their blocks and its whole sheet are zero.
+-- The last turn has found a contradiction, and w are plan's repairs. The turns before it made k repairs each, and the sums that
+-- they wrote stay; its own disks stay erased, and their blocks and its whole sheet are zero.
 pub record Undone (E : Edition) (f : Format) (B k : ℕ) (a m : List ℕ) (w : List Entry) (r : Results) : Type 0 where
   pub lists : Lists (E .layout) f (erasures m) w (r .planSheet)
   pub sheets : InTurns f k (λ v. blankSheet f) w (r .sheets)
@@ -90,7 +93,10 @@ pub record Demand3 (E : Edition) (f : Format) (B k : ℕ) (a m : List ℕ) (r : 
   pub kept : outcomeStatus (r .last) ≡ 6 → (r .array ≡ a) × (r .map ≡ m) × (r .last ≡ r .planned) × (r .sheets ≡ r .planSheet ∷ [])
   -- Otherwise, if the survivors belong to a sealed array, it is restored.
   pub restored : (Ambiguous (E .layout) (whole B) (erasures m) → ⊥) → (b : List ℕ) → Codeword (E .layout) (whole B) b
-      → Agree (E .layout) (whole B) (erasures m) a b → Restored E f k b m r
+      → Agree (E .layout) (whole B) (erasures m) a b → (w : List Entry) × Restored E f k b m w r
+  -- No turn is refused exactly then.
+  pub accepted : (outcomeStatus (r .last) ≡ 0)
+      ↔ ((Ambiguous (E .layout) (whole B) (erasures m) → ⊥) × Belongs (E .layout) (whole B) (erasures m) a)
   -- If they belong to none, and just then, the last turn is refused by 7.
   pub contradicted : (outcomeStatus (r .last) ≡ 7)
       ↔ ((Ambiguous (E .layout) (whole B) (erasures m) → ⊥) × (Belongs (E .layout) (whole B) (erasures m) a → ⊥))

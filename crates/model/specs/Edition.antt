@@ -14,9 +14,9 @@ pub record Edition : Type 1 where
   pub layout : Layout
   pub Loops : (ℕ → Bool) → List Entry → Type 0
   -- The most repairs that a loss can take, and how many disks always come back.
-  pub limit : ℕ
+  pub mostRepairs : ℕ
   pub always : ℕ
 
 -- The array with superparity. Column c is stripe base + c.
 unfoldable pub superparity : Size → (base : ℕ) → Edition
-superparity z base = record { layout = layoutOf z base; Loops = Loop z base; limit = rows z + columns z + 1; always = 3 }
+superparity z base = record { layout = layoutOf z base; Loops = Loop z base; mostRepairs = rows z + columns z + 1; always = 3 }

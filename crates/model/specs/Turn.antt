@@ -99,7 +99,8 @@ madeBy (t ∷ ts) = repairCount (t .answer) + madeBy ts
 
 -- ---- All repairs at once
 
--- A rebuild without turns, which is that of paper 01: all repairs in plan's order, and then every stripe's sum is tested.
+-- A rebuild without turns, which is that of paper 01 but for the map: all repairs in plan's order, and then every stripe's sum is
+-- tested.
 unfoldable pub wholeRebuild : Layout → Format → Stretch → (a m : List ℕ) → Turn
 wholeRebuild L f x a m =
     cond (fatal L (erasures m)) (lossTold L f a m)

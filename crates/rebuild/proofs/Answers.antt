@@ -26,7 +26,7 @@ use Rattle.model.specs.declared.Outcome.{Outcome}
 use Rattle.model.specs.declared.Outcome.the-variants.{Repairs, Fatal, Refused}
 use Rattle.model.proofs.Refusal.{ArrayFits, refused-first, array-fits, array-passed}
 use Rattle.model.proofs.Accept.{buffers-fit, limit-passed}
-use Rattle.model.proofs.Demand3.{limit-refused, rebuild-refused, rebuild-turns}
+use Rattle.model.proofs.Demand3.{limit-refused, rebuild-refused, rebuild-accepted}
 use Rattle.model.proofs.Limits.{grid-repairs-bound}
 use Rattle.model.proofs.Sheets.{sheet-length}
 use Rattle.model.proofs.Grid.{rows-below, map-length}
@@ -98,7 +98,7 @@ module _ {z : Size} {B : ℕ} {a m sheet : List ℕ} {k : ℕ} (t : Passed z B a
   fitting = buffers-fit z B a m sheet buffers-ok
 
   turns : rebuildTurn z B a m sheet k ≡ turnOf (sheetLayout z) narrow (whole B) k a m
-  turns = rebuild-turns z B a m sheet k (limit-passed z B a m sheet k (t .some) ∙ buffers-ok)
+  turns = rebuild-accepted z B a m sheet k (limit-passed z B a m sheet k (t .some) ∙ buffers-ok)
 
   -- A fatal loss: the array and the map stay.
   pub as-plan : (answer : Outcome) (s : List ℕ) → answer ≡ lossOutcome (sheetLayout z) (erasures m)

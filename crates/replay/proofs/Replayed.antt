@@ -49,7 +49,7 @@ module _ (L : Layout) (e : ℕ → Bool) (list : List ℕ) (k : ℕ) (refused : 
   more-refused (suc n) l =
       ⊎-elim (λ q. rw q at refused) (λ m. simp (all-allowed-snoc, more-refused n (le-of-suc-le-suc m))) (eq-or-lt-of-le l)
 
--- After k entries, each allowed at its turn: what is still erased, tallied.
+-- After k entries, each allowed at its step: what is still erased, tallied.
 pub record Replayed (L : Layout) (e : ℕ → Bool) (list work stripes counts : List ℕ) (k : ℕ) : Type 0 where
   pub tallied : Tallied L work stripes counts
   pub left : erasures work ≡ after e (listed list k)

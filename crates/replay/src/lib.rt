@@ -43,7 +43,7 @@ fn allowed(
     false
 }
 
-// Each of the first `count` entries of a list is a repair that is allowed at its turn.
+// Each of the first `count` entries of a list is a repair that is allowed at its step.
 fn all_allowed(
     size: Size,
     base: usize,

@@ -1,4 +1,4 @@
--- A list of repairs that is judged as a whole: each allowed at its turn, and nothing erased at the end.
+-- A list of repairs that is judged as a whole: each allowed at its step, and nothing erased at the end.
 -- Assumes nothing.
 use mathlib.Core.Path.{_≡_, refl, sym, _∙_, ap}
 use mathlib.Core.Bool.{Bool, true, false, _&&_, and-true, and-assoc}

@@ -349,7 +349,7 @@ module _ (L : Layout) where
 
 -- ---- turn by turn
 
--- The disks that are still erased when repair number i has its turn.
+-- The disks that are still erased when repair number i has its step.
 abbrev pub atTurn : (ℕ → Bool) → List Entry → ℕ → ℕ → Bool
 atTurn e w i = after e (take i w)
 
@@ -361,7 +361,7 @@ module _ (L : Layout) where
   peels-at e (r ∷ rs) p zero l = p .0
   peels-at e (r ∷ rs) p (suc i) l = peels-at (without e (r .disk)) rs (p .1) i (le-of-suc-le-suc l)
 
-  -- Each repair of plan's order is the next one at its turn.
+  -- Each repair of plan's order is the next one at its step.
   pub peel-turn : (k : ℕ) (e : ℕ → Bool) (i : ℕ) → i < length (peel L k e)
       → (nextDisk L (atTurn e (peel L k e) i) < L .disks)
       × (getD (peel L k e) i (record { disk = 0; stripe = 0 })

@@ -207,7 +207,7 @@ zeroed-whole L B some e a b sized long agree =
 
 -- ---- whether the survivors belong to a codeword
 
--- Repairs, each of them allowed at its turn, that leave no disk erased.
+-- Repairs, each of them allowed at its step, that leave no disk erased.
 module _ (L : Layout) (bounded : Bounded L) (x : Stretch) (inside : x .offset + x .width ≤ x .block)
     (e : ℕ → Bool) (w : List Entry) (peels : Peels L e w) (none : (d : ℕ) → d < L .disks → after e w d ≡ false)
     (a : List ℕ) (sized : length a ≡ L .disks * x .block) where

@@ -42,7 +42,7 @@ unfoldable pub someAllowed : Layout → (ℕ → Bool) → ℕ → List ℕ → 
 someAllowed L e d [] = false
 someAllowed L e d (s ∷ ss) = allowed L e d s || someAllowed L e d ss
 
--- A list of repairs, each of them allowed at its turn.
+-- A list of repairs, each of them allowed at its step.
 abbrev pub Peels : Layout → (ℕ → Bool) → List Entry → Type 0
 Peels L e [] = Unit {0}
 Peels L e (r ∷ rs) = (allowed L e (r .disk) (r .stripe) ≡ true) × Peels L (without e (r .disk)) rs
@@ -94,9 +94,9 @@ lost L e = residualCount L e
 
 -- A list of repairs in plan's order that leaves nothing erased.
 pub record InOrder (L : Layout) (e : ℕ → Bool) (w : List Entry) : Type 0 where
-  -- Each is allowed at its turn,
+  -- Each is allowed at its step,
   pub allowedThen : (i : ℕ) → i < length w → allowed L (after e (take i w)) (diskOf w i) (stripeOf w i) ≡ true
-  -- no disk with a lower number can be repaired at that turn, nor this disk by a lower stripe,
+  -- no disk with a lower number can be repaired at that step, nor this disk by a lower stripe,
   pub lowestThen : (i : ℕ) → i < length w → (d s : ℕ) → allowed L (after e (take i w)) d s ≡ true
       → (diskOf w i ≤ d) × (d ≡ diskOf w i → stripeOf w i ≤ s)
   -- and every erased disk is named once, no other at all.
@@ -104,7 +104,7 @@ pub record InOrder (L : Layout) (e : ℕ → Bool) (w : List Entry) : Type 0 whe
 
 -- ---- Lists of repairs from elsewhere
 
--- Every repair of a list is allowed at its turn: a test.
+-- Every repair of a list is allowed at its step: a test.
 unfoldable pub allAllowed : Layout → (ℕ → Bool) → List Entry → Bool
 allAllowed L e [] = true
 allAllowed L e (r ∷ rs) = allowed L e (r .disk) (r .stripe) && allAllowed L (without e (r .disk)) rs

@@ -7,7 +7,7 @@ use native.Mathlib.Omega.{arith}
 use borrow.Author.Needs.{needs}
 use Rattle.model.specs.Rebuild.{rebuildTurn}
 use Rattle.model.specs.declared.Outcome.the-variants.{Repairs}
-use Rattle.demands.proofs.Ends.{refused-last, few-made, repairs-summed}
+use Rattle.demands.proofs.Ends.{refused-last, few-made, repairs-counted}
 use Rattle.demands.proofs.turns.turn.Statement.{statement}
 use Rattle.demands.proofs.turns.turn.Tie as tie
 
@@ -74,7 +74,7 @@ returns-2 : tie.Need-returns-2
 returns-2 c =
     let a = c .before .before .before .before .before .before .before .before .before .before .before .before .before .before .before .before .before .before .before .before .before .before .args in
     let (answer, (array, (map, sheet))) = c .before .before .before .before .before .before .before .before .before .before .before .before .before .before .before .rebuild .ensures in (
-      repairs-summed (a .size) (a .block) (a .array .now) (a .map .now) (a .sheet .now) (a .limit) _ (repaired (c .before .before .before .before .before .before)) (a .done) _ map true
+      repairs-counted (a .size) (a .block) (a .array .now) (a .map .now) (a .sheet .now) (a .limit) _ (repaired (c .before .before .before .before .before .before)) (a .done) _ map true
           (sym (c .before .before .if1 .taken) ∙ c .before .before .before .any-erased .ensures),
       (array, (map, sheet)),
     )
@@ -100,7 +100,7 @@ returns-3 : tie.Need-returns-3
 returns-3 c =
     let a = c .before .before .before .before .before .before .before .before .before .before .before .before .before .before .before .before .before .before .before .before .before .args in
     let (answer, (array, (map, sheet))) = c .before .before .before .before .before .before .before .before .before .before .before .before .before .before .rebuild .ensures in (
-      repairs-summed (a .size) (a .block) (a .array .now) (a .map .now) (a .sheet .now) (a .limit) _ (repaired (c .before .before .before .before .before)) (a .done) _ map false
+      repairs-counted (a .size) (a .block) (a .array .now) (a .map .now) (a .sheet .now) (a .limit) _ (repaired (c .before .before .before .before .before)) (a .done) _ map false
           (sym (c .before .if1 .left) ∙ c .before .before .any-erased .ensures),
       (array, (map, sheet)),
     )
