@@ -4,7 +4,7 @@
  * It draws the numbers of disks and stripes, fills an array while the
  * superparity is not there yet, writes a block, loses disks and gets them
  * back, follows a list of repairs that came from elsewhere, repairs two disks
- * at a time where the power is often cut, meets a survivor that was changed
+ * at a time between the machine's cuts, meets a survivor that was changed
  * behind its back, and in the end a loss that nothing brings back.
  * `make example` builds and runs it, and examples/host.expected has what it
  * prints.
@@ -383,8 +383,8 @@ static void repair_between_cuts(void)
     static const size_t failed[] = { 5, 6, 7, 8, 9 };
     size_t turn;
 
-    printf("\n6. Row 1 fails, disks 5 to 9. Between cuts of the power two"
-           " disks are repaired.\n");
+    printf("\n6. Row 1 fails, disks 5 to 9. Between two cuts there is time for"
+           " two disks.\n");
     lose(failed, 5);
     for (turn = 1; turn <= 3; turn++)
         make_turn(turn);

@@ -529,9 +529,9 @@ uint32_t raid2d_rebuild(size_t rows, size_t columns, size_t block,
  * repair is allowed at its step and after which no disk is erased: it need
  * not be that of raid2d_plan, its chain may visit the records in any order,
  * and bytes off the chain are ignored. The array is then what raid2d_rebuild
- * makes of it in one turn. A fatal loss has no such list, so that it gets RAID2D_ERR_CHAIN
- * or RAID2D_ERR_REPAIRS and never RAID2D_FATAL. The sheet is judged as a whole
- * before any block is changed. The map is not cleared.
+ * makes of it in one turn. A fatal loss has no such list, so that it gets
+ * RAID2D_ERR_CHAIN or RAID2D_ERR_REPAIRS and never RAID2D_FATAL. The sheet is
+ * judged as a whole before any block is changed. The map is not cleared.
  *
  *   sheet      the repairs, each erased disk once
  *   count      receives the number of repairs, which is that of the erased

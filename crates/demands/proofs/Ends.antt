@@ -17,7 +17,7 @@ use Rattle.stripes.specs.Erased.{erasures}
 use Rattle.stripes.specs.Repair.{repairs, lost, fatal}
 use Rattle.stripes.proofs.Fold.{same-test, by-cases, lt-or-le, length-tabulate, count-some, count-found}
 use Rattle.stripes.proofs.Peel.{repairs-peels}
-use Rattle.stripes.proofs.Turns.{peels-take}
+use Rattle.stripes.proofs.Parts.{peels-take}
 use Rattle.model.specs.Grid.{sizeFits, mapFits}
 use Rattle.stripes.specs.Cycle.{shownCycle}
 use Rattle.model.specs.Sheet.{narrow, blankSheet}

@@ -18,7 +18,7 @@ use Rattle.model.specs.Edition.{superparity}
 use Rattle.model.specs.Grid.{rectangle, sizeFits, rows, columns, disks, layoutOf}
 use Rattle.model.specs.declared.Size.{Size}
 use Rattle.model.specs.declared.Outcome.the-variants.{Repairs, Refused}
-use Rattle.model.specs.Demand3.{Planned, InTurns, Demand3}
+use Rattle.model.specs.Demand3.{Planned, InTurns, Demand3, Restorable, TurnKeeps}
 use Rattle.model.specs.Loop.{Loop}
 use Rattle.model.specs.Sheet.{narrow, sheetOf, blankSheet}
 use Rattle.model.proofs.Accept.{plan-accepts, rebuild-accepts, buffers-passed, limit-passed, rebuild-fits, buffers-fit, sheet-passes}
@@ -38,7 +38,7 @@ use Rattle.stripes.proofs.Fold.{lt-or-le}
 use Rattle.stripes.proofs.Sums.{consistent-iff}
 use Rattle.stripes.proofs.Bytes.{whole-inside}
 use Rattle.stripes.proofs.Restore.{restore}
-use Rattle.stripes.proofs.Turns.{peels-take, erasures-after, repairs-rest, fatal-rest}
+use Rattle.stripes.proofs.Parts.{peels-take, erasures-after, repairs-rest, fatal-rest}
 use Rattle.stripes.specs.Erased.{Agree, Belongs, erasures}
 
 -- ---- which arguments are taken
@@ -149,25 +149,9 @@ pub turn-fatal : (z : Size) (B : ℕ) (a m sheet : List ℕ) (k : ℕ) → rebui
 unfolding turnOf
 turn-fatal z B a m sheet k ok lossy = rebuild-accepted z B a m sheet k ok ∙ (rw lossy)
 
--- The survivors of an array and a map are those of a sealed array b, and the loss is not fatal. It says nothing of the erased blocks.
-pub record Restorable (z : Size) (B : ℕ) (b a m : List ℕ) : Type 0 where
-  pub word : Codeword (sheetLayout z) (whole B) b
-  pub survivors : Agree (sheetLayout z) (whole B) (erasures m) a b
-  pub fine : fatal (sheetLayout z) (erasures m) ≡ false
-
--- Then a turn makes the first repairs of plan's order, as many as its limit and the erased disks allow, and plan's order goes on with
--- the others. What it leaves is restorable again, to b: so are turns of any limits, with any changes of erased blocks between them.
--- Where the limit is no less than the number of erased disks, the array is b.
-pub record TurnKeeps (z : Size) (B k : ℕ) (b m : List ℕ) (t : Turn) : Type 0 where
-  pub answer : t .answer ≡ Repairs (min k (count (disks z) (erasures m)))
-  pub map : t .map ≡ mapAfter m (take k (repairs (sheetLayout z) (erasures m)))
-  pub sheet : t .sheet ≡ sheetOf narrow (narrow .repairKind) (take k (repairs (sheetLayout z) (erasures m)))
-  pub others : repairs (sheetLayout z) (erasures (t .map)) ≡ drop k (repairs (sheetLayout z) (erasures m))
-  pub again : Restorable z B b (t .array) (t .map)
-  pub restored : count (disks z) (erasures m) ≤ k → t .array ≡ b
-
+-- Survivors of a sealed array: a turn makes the first repairs of plan's order, and what it leaves is again such.
 pub turn-keeps : (z : Size) (B : ℕ) (a m sheet : List ℕ) (k : ℕ) → rebuildRefusal z B a m sheet k ≡ 0
-    → (b : List ℕ) → Restorable z B b a m → TurnKeeps z B k b m (rebuildTurn z B a m sheet k)
+    → (b : List ℕ) → Restorable (sheetLayout z) B b a m → TurnKeeps (sheetLayout z) narrow B k b m (rebuildTurn z B a m sheet k)
 unfolding repairsMade whole
 turn-keeps z B a m sheet k ok b r =
     let (buffers, some) = rebuild-fits z B a m sheet k ok in
@@ -177,7 +161,7 @@ turn-keeps z B a m sheet k ok b r =
     let w : List Entry = repairs L e in
     let ordered = layout-ordered z (narrow .base) (rows-below z (array .size)) in
     let sized = layout-sized z (narrow .base) B a (array .long) in
-    let number : length w ≡ count (disks z) e = repairs-count L e (r .fine) ∙ ap (λ (n : ℕ). count n e) (layout-disks z (narrow .base)) in
+    let number : length w ≡ count (L .disks) e = repairs-count L e (r .fine) in
     let all : rebuilt L (whole B) a w ≡ b = all-restored L e ordered (r .fine) B a b sized (r .word) (r .survivors) in
     let sealed : consistent L (whole B) (rebuilt L (whole B) a w) ≡ true = rw all (consistent-iff L (whole B) b .1 (r .word .sums)) in
     let is = rebuild-accepted z B a m sheet k ok ∙ fitting-turn L narrow (whole B) k a m (r .fine) sealed in

@@ -3,18 +3,19 @@
 -- limit k. The survivors are the disks that the map has as present before the first turn.
 -- Assumes nothing.
 use mathlib.Core.Path.{_≡_}
-use mathlib.Core.Bool.{Bool, cond}
+use mathlib.Core.Bool.{Bool, false, cond}
 use mathlib.Core.Logic.{_↔_}
 use mathlib.Core.List.{List, [], _∷_}
-use Prim.Native.Nat.{ℕ, _+_, _*_, _-_, _/_, _≤_, _<_}
+use Prim.Native.Nat.{ℕ, _+_, _*_, _-_, _/_, _≤_, _<_, min}
 use lib.Dec.{eqb}
 use lib.ListN.{length, take, drop}
 use Rattle.stripes.specs.Fold.{count}
 use Rattle.stripes.specs.System.{Layout, whole, Codeword}
 use Rattle.stripes.specs.Erased.{erasures, Agree, Belongs, Ambiguous}
-use Rattle.stripes.specs.Repair.{Entry, lost, mapAfter, rebuilt, zeroed, InOrder}
+use Rattle.stripes.specs.Repair.{Entry, repairs, lost, fatal, mapAfter, rebuilt, zeroed, InOrder}
 use Rattle.model.specs.Sheet.{Format, sheetOf, blankSheet}
 use Rattle.model.specs.Plan.{outcomeStatus}
+use Rattle.model.specs.Turn.{Turn}
 use Rattle.model.specs.Edition.{Edition}
 use Rattle.model.specs.declared.Outcome.{Outcome}
 use Rattle.model.specs.declared.Outcome.the-variants.{Repairs, Fatal}
@@ -105,3 +106,23 @@ pub record Demand3 (E : Edition) (f : Format) (B k : ℕ) (a m : List ℕ) (r : 
   pub few : count (E .layout .disks) (erasures m) ≤ E .always → (b : List ℕ) → Codeword (E .layout) (whole B) b
       → Agree (E .layout) (whole B) (erasures m) a b
       → (outcomeStatus (r .last) ≡ 0) × (r .made ≡ count (E .layout .disks) (erasures m)) × (r .array ≡ b)
+
+-- ---- Each turn by itself, whatever the limits of the others are
+
+-- The survivors of an array a and a map m are those of the sealed array b, and the loss is not fatal. Nothing is said of the erased
+-- blocks.
+pub record Restorable (L : Layout) (B : ℕ) (b a m : List ℕ) : Type 0 where
+  pub word : Codeword L (whole B) b
+  pub survivors : Agree L (whole B) (erasures m) a b
+  pub fine : fatal L (erasures m) ≡ false
+
+-- Then a turn of at most k repairs makes the first repairs of plan's order, as many as k and the erased disks allow, and plan's order
+-- goes on with the others. What it leaves is restorable again, to b: so turns of any limits, with any changes of erased blocks
+-- between them, go on to restore b. Where k is no less than the number of erased disks, the array is b.
+pub record TurnKeeps (L : Layout) (f : Format) (B k : ℕ) (b m : List ℕ) (t : Turn) : Type 0 where
+  pub answer : t .answer ≡ Repairs (min k (count (L .disks) (erasures m)))
+  pub map : t .map ≡ mapAfter m (take k (repairs L (erasures m)))
+  pub sheet : t .sheet ≡ sheetOf f (f .repairKind) (take k (repairs L (erasures m)))
+  pub others : repairs L (erasures (t .map)) ≡ drop k (repairs L (erasures m))
+  pub again : Restorable L B b (t .array) (t .map)
+  pub restored : count (L .disks) (erasures m) ≤ k → t .array ≡ b

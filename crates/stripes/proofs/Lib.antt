@@ -12,5 +12,5 @@ pub mod Walk
 pub mod Trace
 pub mod Restore
 pub mod Clears
-pub mod Turns
+pub mod Parts
 pub mod Theorems

@@ -18,7 +18,7 @@ use Rattle.stripes.proofs.Degree.{two-ordered}
 use Rattle.stripes.proofs.Core.{ambiguous}
 use Rattle.stripes.proofs.Trace.{cycle-fatal, shown}
 use Rattle.stripes.proofs.Restore.{judge, restored-is, unique}
-use Rattle.stripes.proofs.Turns.{repairs-rest, fatal-rest}
+use Rattle.stripes.proofs.Parts.{repairs-rest, fatal-rest}
 
 -- ---- where the stripes of a disk are listed in rising order
 module _ (L : Layout) (e : ℕ → Bool) where

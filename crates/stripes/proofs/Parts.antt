@@ -1,5 +1,5 @@
--- Plan's order has no memory: after its first k repairs, what it goes on with is the rest of them. And lists of repairs made one
--- after another.
+-- Lists of repairs in parts, made one after another; and plan's order, which has no memory: after its first k repairs it goes on with
+-- the rest of them.
 -- Assumes nothing.
 use mathlib.Core.Path.{_≡_, refl, sym, _∙_, ap}
 use mathlib.Core.Bool.{Bool}
