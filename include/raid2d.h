@@ -111,7 +111,8 @@
  *   - nothing that is lent to one call overlaps anything else lent to it.
  *
  * Bytes may stand at any address. A buffer that is const is only read. No
- * pointer is kept after the call.
+ * pointer is kept after the call. A call that does not return, as at a power
+ * cut, may leave anything in what it writes.
  *
  * Statuses. Where several apply, the first in the call's list is returned.
  * RAID2D_OK and RAID2D_NOT_SEALED are answers, every other status is a
@@ -455,33 +456,46 @@ uint32_t raid2d_plan(size_t rows, size_t columns,
  * raid2d_rebuild: restore erased disks, at most so many in one turn.
  *
  * Makes the first repairs of raid2d_plan, at most limit, whatever the erased
- * blocks hold, and marks the disks repaired as present in the map. If its
- * repairs leave no disk erased, or none was erased, it checks all stripes too.
- * A limit of rows + columns + 1 or more, such as SIZE_MAX, leaves nothing for
- * a second turn.
+ * blocks hold, and marks the disks repaired as present in the map. The last
+ * turn is the one whose repairs leave no disk erased, or before which none is.
+ * It also checks all stripes, which limit does not count: it reads each block
+ * twice. A limit of rows + columns + 1 or more, such as SIZE_MAX, makes the
+ * first turn the last.
  *
  * Turns one after another, each on the array and the map that the one before
- * left, make the repairs of raid2d_plan in its order. If the loss is not fatal
- * and the survivors belong to a sealed array, it is restored when the map is
- * clear: with f disks erased and a limit of k in f / k turns, rounded up, or
- * in one where no disk is erased, and each turn before the last makes k
- * repairs. This holds if nothing else changes the map or the block of a
- * present disk between the turns; raid2d_write between them is not covered.
+ * left, make the repairs of raid2d_plan in its order. The host goes on until
+ * the map has no byte 1 any more or a turn is refused. If the loss is not
+ * fatal and the survivors belong to a sealed array, the last turn leaves that
+ * array. It is the last as soon as the limits add up to the number of erased
+ * disks: with f disks erased and a limit of k there are f / k turns, rounded
+ * up, or one where no disk is erased, and each before the last makes k
+ * repairs.
  *
- * With RAID2D_OK and a map without erased disks the whole array is sealed: it
- * is the only sealed array with the survivors that there were before the first
- * turn. With RAID2D_OK and a map that still has some, nothing was checked. A
- * survivor that was damaged shows only where the other survivors contradict
- * it, and in the last turn only; with rows + columns + 1 disks erased at first
- * none can. So a host that repairs in turns keeps a copy of the map from
- * before the first: if the last turn returns RAID2D_ERR_SURVIVORS, the blocks
- * that the turns before it wrote may be wrong, though the map has their disks
- * as present.
+ * This holds if nothing else changes the map or the block of a present disk
+ * between the turns. A disk that fails between them is marked in the map; what
+ * follows is then the repair of the loss that the map has, which can be fatal
+ * though the first was not. raid2d_write between turns is not part of this
+ * statement.
  *
- *   map        as above; the bytes of the disks repaired become 0
+ * With RAID2D_OK and a map without a byte 1 the whole array is sealed: it is
+ * the only sealed array with the survivors that there were before the first
+ * turn. With RAID2D_OK and any other map nothing was checked. A survivor that
+ * was damaged shows only where the other survivors contradict it, and in the
+ * last turn only; with rows + columns + 1 disks erased at first no damage
+ * shows.
+ *
+ * So a host that repairs in turns keeps a copy of the map from before the
+ * first of them until the last has succeeded. If that one returns
+ * RAID2D_ERR_SURVIVORS, the blocks that earlier turns wrote may be wrong,
+ * though the map has their disks as present, and no further turn on this map
+ * makes them right. The host copies the first map back: then all these disks
+ * are erased again, and the survivors are as they were.
+ *
+ *   map        which disks are erased: every byte 0 or 1; the bytes of the
+ *              disks repaired become 0
  *   sheet      receives the repairs of this turn, or the cycle; raid2d_follow
  *              takes it only with the map from before this turn, and only if
- *              the turn left no disk erased
+ *              this was the last turn
  *   limit      the most repairs for this turn, any number from 1 on
  *   count      receives the number of repairs made, or of disks in the
  *              residual, as from raid2d_plan
@@ -505,11 +519,10 @@ uint32_t raid2d_plan(size_t rows, size_t columns,
  *   RAID2D_FATAL             the loss is fatal, whatever the survivors hold
  *                            and whatever the limit is; sheet and *count are
  *                            those of raid2d_plan, array and map unchanged
- *   RAID2D_ERR_SURVIVORS     the repairs of this turn leave no disk erased, or
- *                            none was erased, and a stripe's sum is not zero:
- *                            the survivors belong to no sealed array; the
- *                            blocks of this turn's disks and the whole sheet
- *                            are zero, the map and *count unchanged
+ *   RAID2D_ERR_SURVIVORS     this is the last turn, and a stripe's sum is not
+ *                            zero: the survivors belong to no sealed array;
+ *                            the blocks of this turn's disks and the whole
+ *                            sheet are zero, the map and *count unchanged
  *   RAID2D_OK                the sheet lists the repairs of this turn, *count
  *                            is their number: none and 0 where no disk is
  *                            erased
@@ -529,9 +542,10 @@ uint32_t raid2d_rebuild(size_t rows, size_t columns, size_t block,
  * repair is allowed at its step and after which no disk is erased: it need
  * not be that of raid2d_plan, its chain may visit the records in any order,
  * and bytes off the chain are ignored. The array is then what raid2d_rebuild
- * makes of it in one turn. A fatal loss has no such list, so that it gets
- * RAID2D_ERR_CHAIN or RAID2D_ERR_REPAIRS and never RAID2D_FATAL. The sheet is
- * judged as a whole before any block is changed. The map is not cleared.
+ * makes of it in one turn with a limit that allows all repairs. A fatal loss
+ * has no such list, so that it gets RAID2D_ERR_CHAIN or RAID2D_ERR_REPAIRS and
+ * never RAID2D_FATAL. The sheet is judged as a whole before any block is
+ * changed. The map is not cleared.
  *
  *   sheet      the repairs, each erased disk once
  *   count      receives the number of repairs, which is that of the erased
