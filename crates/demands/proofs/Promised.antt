@@ -23,8 +23,8 @@ use Rattle.model.specs.declared.Size.{Size}
 use Rattle.model.specs.declared.Outcome.{Outcome}
 use Rattle.model.proofs.Accept.{rebuild-fits, buffers-fit}
 use Rattle.model.proofs.Demand3.{Sheets, demand3}
-use Rattle.demands.specs.Total.{start, turnsIn, totalOf, Written}
-use Rattle.demands.specs.declared.turns.Turns.{Turns}
+use Rattle.series.specs.Total.{start, turnsIn, totalOf, Written}
+use Rattle.series.specs.declared.Turns.{Turns}
 
 -- Sheets of a buffer that is long enough.
 sheets-long : (n : ℕ) (s : List ℕ) → 98 * n ≤ length s → Sheets (sheetsIn narrow n s)

@@ -19,14 +19,11 @@ ghost use Rattle.model.specs.Follow.{Usable, followOutcome, followArray};
 ghost use Rattle.model.specs.Edition.{superparity};
 ghost use Rattle.model.specs.Demand2.{SealDemand, CheckDemand, WriteDemand};
 ghost use Rattle.model.specs.Demand3.{Planned, Demand3};
-ghost use Rattle.demands.specs.Total.{start, turnsIn, endOf, totalOf, Written};
-
-pub mod turns;
-
+ghost use Rattle.series.specs.Total.{start, turnsIn, endOf, totalOf, Written};
 use model::Checked;
 use model::Outcome;
 use model::Size;
-use turns::Turns;
+use series::Turns;
 
 // Seals an array. Where it is not refused, the array has exactly the parities of the public description.
 pub fn seal_array(size: Size, block: usize, array: &mut [u8]) -> u32
@@ -117,7 +114,7 @@ pub fn plan_and_rebuild(
         ⌝ }
 {
     let planned = plan::plan(size, map, draft);
-    let rebuilt = turns::rebuild_in_turns(size, block, array, map, sheets, limit);
+    let rebuilt = series::rebuild_in_turns(size, block, array, map, sheets, limit);
     Answers {
         planned: planned,
         rebuilt: rebuilt,

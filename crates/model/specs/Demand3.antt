@@ -33,7 +33,7 @@ pub record Planned (E : Edition) (f : Format) (e : ℕ → Bool) (answer : Outco
   pub fatal : (B : ℕ) → 0 < B → (outcomeStatus answer ≡ 6) ↔ Ambiguous (E .layout) (whole B) e
   -- Then it counts the lost disks, and its sheet shows a loop of erased disks.
   pub loop : outcomeStatus answer ≡ 6 → (answer ≡ Fatal (lost (E .layout) e)) × LoopSheet E f e sheet
-  -- Otherwise it counts the erased disks, no more than the limit, and its sheet lists their repairs.
+  -- Otherwise it counts the erased disks, no more than a loss can have then, and its sheet lists their repairs.
   pub repairs : (outcomeStatus answer ≡ 6 → ⊥)
       → (answer ≡ Repairs (count (E .layout .disks) e)) × (count (E .layout .disks) e ≤ E .mostRepairs)
       × ((w : List Entry) × Lists (E .layout) f e w sheet)

@@ -1,4 +1,4 @@
-// Rebuild's turns on one input, one after another.
+// A series of turns: rebuild called again and again on one input, with a sheet for each turn.
 ghost use mathlib.Core.Path.{_≡_};
 ghost use Prim.Native.Nat.{_+_, _*_, _≤_, _<_};
 ghost use lib.Dec.{ltb};
@@ -8,7 +8,7 @@ ghost use Rattle.stripes.specs.Erased.{erasures};
 ghost use Rattle.model.specs.Plan.{sheetLayout};
 ghost use Rattle.model.specs.Sheet.{narrow, sheetBytes};
 ghost use Rattle.model.specs.Rebuild.{rebuildTurn};
-ghost use Rattle.demands.specs.Total.{start, turnsIn, endOf, totalOf, nextTotal, Written};
+ghost use Rattle.series.specs.Total.{start, turnsIn, endOf, totalOf, nextTotal, Written};
 use model::Outcome;
 use model::Size;
 

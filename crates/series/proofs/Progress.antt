@@ -15,9 +15,9 @@ use Rattle.model.specs.Plan.{sheetLayout}
 use Rattle.model.specs.Turn.{Turn, unfinished, turnsBy, lastOf, repairCount, madeBy}
 use Rattle.model.specs.Rebuild.{rebuildTurn, rebuildTurns}
 use Rattle.model.specs.declared.Size.{Size}
-use Rattle.demands.proofs.Ends.{sheet-kept, array-kept, map-kept, few-counted}
-use Rattle.demands.specs.Total.{start, turnsIn, totalOf, nextTotal, Written}
-use Rattle.demands.specs.declared.turns.Turns.{Turns}
+use Rattle.series.proofs.Ends.{sheet-kept, array-kept, map-kept, few-counted}
+use Rattle.series.specs.Total.{start, turnsIn, totalOf, nextTotal, Written}
+use Rattle.series.specs.declared.Turns.{Turns}
 
 -- ---- sheets in a buffer
 

@@ -1,4 +1,4 @@
--- `demands::turns::turn` meets its contract, at each of its three ends.
+-- `series::turn` meets its contract, at each of its three ends.
 -- Assumes nothing.
 use mathlib.Core.Path.{_≡_, _∙_, sym}
 use mathlib.Core.Bool.{true, false}
@@ -7,9 +7,9 @@ use native.Mathlib.Omega.{arith}
 use borrow.Author.Needs.{needs}
 use Rattle.model.specs.Rebuild.{rebuildTurn}
 use Rattle.model.specs.declared.Outcome.the-variants.{Repairs}
-use Rattle.demands.proofs.Ends.{refused-last, few-made, repairs-counted}
-use Rattle.demands.proofs.turns.turn.Statement.{statement}
-use Rattle.demands.proofs.turns.turn.Tie as tie
+use Rattle.series.proofs.Ends.{refused-last, few-made, repairs-counted}
+use Rattle.series.proofs.turn.Statement.{statement}
+use Rattle.series.proofs.turn.Tie as tie
 
 rebuild-requires : tie.Need-rebuild-requires
 rebuild-requires c κs = search needs

@@ -1,10 +1,10 @@
--- `demands::turns::any_erased` meets its contract: a disk is found exactly if there is one.
+-- `series::any_erased` meets its contract: a disk is found exactly if there is one.
 -- Assumes nothing.
 use mathlib.Core.Path.{_∙_, sym}
 use borrow.Author.Needs.{needs}
-use Rattle.demands.proofs.Ends.{some-erased}
-use Rattle.demands.proofs.turns.any_erased.Statement.{statement}
-use Rattle.demands.proofs.turns.any_erased.Tie as tie
+use Rattle.series.proofs.Ends.{some-erased}
+use Rattle.series.proofs.any_erased.Statement.{statement}
+use Rattle.series.proofs.any_erased.Tie as tie
 
 next-erased-requires : tie.Need-next-erased-requires
 next-erased-requires c κs = search needs

@@ -11,7 +11,7 @@ use Rattle.model.specs.Turn.{Turn, unfinished, lastOf, repairCount, madeBy}
 use Rattle.model.specs.Rebuild.{rebuildTurns}
 use Rattle.model.specs.declared.Size.{Size}
 use Rattle.model.specs.declared.Outcome.the-variants.{Refused}
-use Rattle.demands.specs.declared.turns.Turns.{Turns}
+use Rattle.series.specs.declared.Turns.{Turns}
 
 -- Before the first turn. Without a sheet no turn is made, nothing else is looked at, and the answer is 5, that of a sheet of the wrong
 -- length.

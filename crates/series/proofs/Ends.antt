@@ -35,8 +35,8 @@ use Rattle.model.proofs.Grid.{rows-below, layout-disks, map-length}
 use Rattle.model.proofs.Limits.{grid-repairs-bound}
 use Rattle.model.proofs.Sheets.{sheet-length}
 use Rattle.model.proofs.Turns.{turn-length, turn-map}
-use Rattle.demands.specs.Total.{nextTotal}
-use Rattle.demands.specs.declared.turns.Turns.{Turns}
+use Rattle.series.specs.Total.{nextTotal}
+use Rattle.series.specs.declared.Turns.{Turns}
 use Rattle.tally.specs.Tally.{nextErased}
 use Rattle.tally.proofs.Scanned.{next-erased, next-passed}
 

@@ -1,4 +1,4 @@
--- `demands::turns::rebuild_in_turns` meets its contract: each turn goes on from what those before it left.
+-- `series::rebuild_in_turns` meets its contract: each turn goes on from what those before it left.
 -- Assumes nothing.
 use mathlib.Core.Path.{_≡_, ap, ap₂}
 use mathlib.Core.List.{List, [], _∷_, _++_}
@@ -10,9 +10,9 @@ use lib.ListN.{length, take, drop}
 use Rattle.model.specs.Plan.{sheetLayout}
 use Rattle.model.specs.Turn.{Turn}
 use Rattle.model.specs.Rebuild.{rebuildTurn}
-use Rattle.demands.proofs.Progress.{Progress, begins, ends, fewer, goes}
-use Rattle.demands.proofs.turns.rebuild_in_turns.Statement.{statement}
-use Rattle.demands.proofs.turns.rebuild_in_turns.Tie as tie
+use Rattle.series.proofs.Progress.{Progress, begins, ends, fewer, goes}
+use Rattle.series.proofs.rebuild_in_turns.Statement.{statement}
+use Rattle.series.proofs.rebuild_in_turns.Tie as tie
 
 abbrev Inv-loop : tie.InvT-loop
 Inv-loop size block array₀ map₀ sheets₀ limit done₀ array map sheets done =
