@@ -1,17 +1,15 @@
 -- The contents of an erased disk's block count for nothing: arrays that agree on the survivors get the same answers, maps and
 -- sheets, and agree on the survivors that there are then.
 -- Assumes nothing.
-use mathlib.Core.Path.{_≡_, refl, sym, _∙_, ap}
-use mathlib.Core.Bool.{Bool, true, false, cond, not, _&&_}
+use mathlib.Core.Path.{_≡_, refl, _∙_, ap}
+use mathlib.Core.Bool.{Bool, true, false, cond, not}
 use mathlib.Core.List.{List}
 use Prim.Native.Nat.{ℕ, _*_, _<_}
 use borrow.Author.Tests.{eqb-true}
-use lib.Dec.{eqb}
 use lib.ListN.{length}
-use Rattle.stripes.specs.Fold.{count}
 use Rattle.stripes.specs.System.{Layout, whole, consistent}
 use Rattle.stripes.specs.Erased.{erasures, Agree}
-use Rattle.stripes.specs.Repair.{Entry, Peels, repairs, after, mapAfter, fatal, rebuilt, zeroed}
+use Rattle.stripes.specs.Repair.{Entry, mapAfter, fatal, rebuilt, zeroed}
 use Rattle.model.specs.Sheet.{Format}
 use Rattle.model.specs.Turn.{Turn, clear, lossTold, contradiction, repairsMade, turnRepairs, contradicts, turnOf, wholeRebuild}
 use Rattle.stripes.proofs.Fold.{count-zero-none}

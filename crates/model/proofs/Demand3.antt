@@ -8,7 +8,7 @@ use Prim.Native.Nat.{ℕ, _+_, _*_, _≤_, _<_, min}
 use native.Mathlib.Omega.{arith}
 use borrow.Author.Tests.{le-ltb}
 use lib.Dec.{eqb, ltb}
-use lib.ListN.{length, getD, take, drop, length-take}
+use lib.ListN.{length, getD, take, length-take}
 use lib.Seq.{take-all}
 use Rattle.model.specs.Turn.{Turn, lossTold, contradiction, repairsMade, unfinished, turnOf, turnsBy, turnsOf, lastOf, madeBy, wholeRebuild}
 use Rattle.model.specs.Rebuild.{bufferTests, bufferRefusal, rebuildTests, rebuildRefusal, rebuildTurn, rebuildTurns}
@@ -30,8 +30,8 @@ use Rattle.model.proofs.Loop.{loop-bound, fatal-loop, loop-is, loop-fit
 use Rattle.model.proofs.Limits.{grid-repairs}
 use Rattle.model.proofs.Contents.{same-turn}
 use Rattle.stripes.specs.Fold.{count}
-use Rattle.stripes.specs.System.{Layout, whole, Codeword, Bytes, consistent}
-use Rattle.stripes.specs.Repair.{Entry, Peels, repairs, mapAfter, fatal, rebuilt}
+use Rattle.stripes.specs.System.{Layout, whole, Bytes, consistent}
+use Rattle.stripes.specs.Repair.{Entry, Peels, repairs, fatal, rebuilt}
 use Rattle.stripes.proofs.Peel.{repairs-peels, repairs-count}
 use Rattle.stripes.proofs.Theorems.{all-judged, all-restored}
 use Rattle.stripes.proofs.Fold.{lt-or-le}

@@ -4,7 +4,7 @@
 use mathlib.Core.Path.{_≡_, refl, sym, _∙_, ap}
 use mathlib.Core.Bool.{Bool, true, false, cond, true≢false}
 use mathlib.Core.Logic.{_↔_, _⊎_, inl, inr}
-use mathlib.Core.List.{List, _++_}
+use mathlib.Core.List.{List}
 use Prim.Native.Nat.{ℕ, _≤_, _<_}
 use native.Mathlib.Omega.{arith}
 use borrow.Author.Tests.{ne-eqb, eqb-true, eqb-false}
@@ -15,11 +15,11 @@ use Rattle.stripes.specs.System.{among, whole, Codeword, Bytes, consistent}
 use Rattle.stripes.specs.Erased.{erasures, Agree, Belongs}
 use Rattle.stripes.specs.Repair.{Entry, repairs, fatal, rebuilt, zeroed, clears}
 use Rattle.stripes.specs.Cycle.{shownCycle}
-use Rattle.model.specs.Grid.{disks, sizeFits, blockFits, arrayBytes, mapFits}
-use Rattle.model.specs.Refusal.{Test, refusal, arrayTests}
+use Rattle.model.specs.Grid.{disks, sizeFits}
+use Rattle.model.specs.Refusal.{refusal}
 use Rattle.model.specs.Sheet.{sheetOf, narrow, sheetBytes}
 use Rattle.model.specs.Chain.{entryAt, nextNumber, chainNumbers, within, chainFits, chainEntries}
-use Rattle.model.specs.Plan.{sheetTests, planTests, outcomeStatus, lossOutcome, lossSheet, planSheet, sheetLayout}
+use Rattle.model.specs.Plan.{planTests, outcomeStatus, lossSheet, planSheet, sheetLayout}
 use Rattle.model.specs.Turn.{Turn, lossTold, contradiction, repairsMade, turnOf, wholeRebuild}
 use Rattle.model.specs.Rebuild.{bufferTests, bufferRefusal, rebuildRefusal, rebuildTurn}
 use Rattle.model.specs.Follow.{Usable, followedArray, followTests, followStatus, followOutcome, followArray}
@@ -31,7 +31,7 @@ use Rattle.stripes.proofs.Peel.{repairs-peels, repairs-count}
 use Rattle.stripes.proofs.Sums.{consistent-iff}
 use Rattle.stripes.proofs.Clears.{clears-peels, clears-length, clears-fine, repairs-clear, clears-restored, clears-judged, clears-alike}
 use Rattle.model.proofs.Grid.{block-fits, layout-disks, layout-ordered, layout-sized, rows-below}
-use Rattle.model.proofs.Refusal.{passes, by-test, refused-first, passed, ArrayFits, array-tests, array-passed}
+use Rattle.model.proofs.Refusal.{refused-first, passed}
 use Rattle.model.proofs.Limits.{peels-fitting}
 use Rattle.model.proofs.Accept.{first-five, buffers-fit, buffers-passed}
 use Rattle.model.proofs.Sheets.{sheet-length}

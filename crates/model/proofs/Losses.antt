@@ -9,14 +9,13 @@ use lib.ListN.{length, length-map}
 use Rattle.stripes.specs.Fold.{count}
 use Rattle.stripes.specs.System.{Layout, TwoStripes, whole, Codeword, Bytes, consistent, Ordered}
 use Rattle.stripes.specs.Erased.{erasures, Agree, Belongs}
-use Rattle.stripes.specs.Repair.{Entry, Peels, repairs, mapAfter, lost, fatal, rebuilt, zeroed}
+use Rattle.stripes.specs.Repair.{Entry, Peels, repairs, lost, fatal, rebuilt}
 use Rattle.stripes.specs.Cycle.{Cycle, shownCycle}
 use Rattle.model.specs.Sheet.{Format, sheetOf, blankSheet}
 use Rattle.model.specs.Plan.{lossOutcome, lossSheet, outcomeStatus}
 use Rattle.model.specs.Turn.{Turn, clear, lossTold, contradiction, turnOf, accepted, unfinished, turnsBy, turnsOf, lastOf, repairCount, madeBy}
 use Rattle.model.specs.Edition.{Edition}
 use Rattle.model.specs.Demand3.{Planned, Lists, InTurns, turnsFor, Results, Demand3}
-use Rattle.model.specs.declared.Outcome.{Outcome}
 use Rattle.model.specs.declared.Outcome.the-variants.{Repairs, Fatal}
 use Rattle.stripes.proofs.Fold.{by-cases}
 use Rattle.stripes.proofs.Peel.{repairs-peels}

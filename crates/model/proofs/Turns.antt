@@ -4,7 +4,7 @@ use mathlib.Core.Path.{_≡_, refl, sym, _∙_, ap, ap₂, subst}
 use mathlib.Core.Bool.{Bool, true, false, cond, not, _&&_}
 use mathlib.Core.Logic.{⊎-elim}
 use mathlib.Core.List.{List, [], _∷_, _++_, map}
-use Prim.Native.Nat.{ℕ, zero, suc, _+_, _*_, _-_, _/_, _≤_, _<_}
+use Prim.Native.Nat.{ℕ, suc, _+_, _*_, _-_, _/_, _≤_, _<_}
 use native.Mathlib.Nat.{mul-zero, mul-suc, suc-mul, zero-mul}
 use native.Mathlib.Omega.{arith}
 use borrow.Author.Tests.{eq-eqb, ne-eqb, eqb-true, eqb-false}
@@ -15,11 +15,10 @@ use lib.Seq.{take-all, take-length, length-take-le, take-add, getD-set-other}
 use Rattle.stripes.specs.Fold.{count}
 use Rattle.stripes.specs.System.{Layout, consistent}
 use Rattle.stripes.specs.Erased.{erasures}
-use Rattle.stripes.specs.Repair.{Entry, repairs, after, mapAfter, fatal, rebuilt, zeroed}
+use Rattle.stripes.specs.Repair.{Entry, repairs, mapAfter, fatal, rebuilt, zeroed}
 use Rattle.stripes.specs.declared.Stretch.{Stretch}
 use Rattle.model.specs.Grid.{disks, mapFits}
 use Rattle.model.specs.Sheet.{Format, sheetOf, blankSheet}
-use Rattle.model.specs.Plan.{lossOutcome, lossSheet}
 use Rattle.model.specs.Turn.{Turn, clear, lossTold, contradiction, repairsMade, turnRepairs, contradicts, turnOf, accepted, unfinished, turnsBy, turnsOf, lastOf, repairCount, madeBy, wholeRebuild}
 use Rattle.model.specs.Demand3.{InTurns, turnsFor}
 use Rattle.model.specs.declared.Size.{Size}

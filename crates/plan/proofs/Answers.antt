@@ -9,8 +9,7 @@ use lib.ListN.{length, take}
 use lib.Seq.{take-all}
 use Rattle.stripes.specs.System.{Layout}
 use Rattle.stripes.specs.Erased.{erasures}
-use Rattle.stripes.specs.Repair.{repairs, lost, fatal}
-use Rattle.stripes.specs.Cycle.{shownCycle}
+use Rattle.stripes.specs.Repair.{repairs, lost}
 use Rattle.model.specs.Grid.{sizeFits}
 use Rattle.model.specs.Refusal.{refusal}
 use Rattle.model.specs.Sheet.{narrow, sheetOf}

@@ -15,10 +15,10 @@ use Rattle.stripes.specs.Fold.{count}
 use Rattle.stripes.specs.System.{whole}
 use Rattle.stripes.specs.Erased.{erasures}
 use Rattle.stripes.specs.Repair.{repairs, lost, fatal}
-use Rattle.stripes.proofs.Fold.{same-test, by-cases, lt-or-le, length-tabulate, count-some, count-found}
+use Rattle.stripes.proofs.Fold.{same-test, lt-or-le, length-tabulate, count-some, count-found}
 use Rattle.stripes.proofs.Peel.{repairs-peels}
 use Rattle.stripes.proofs.Parts.{peels-take}
-use Rattle.model.specs.Grid.{sizeFits, mapFits}
+use Rattle.model.specs.Grid.{mapFits}
 use Rattle.stripes.specs.Cycle.{shownCycle}
 use Rattle.model.specs.Sheet.{narrow, blankSheet}
 use Rattle.model.specs.Plan.{sheetLayout, lossOutcome, lossSheet}
@@ -28,7 +28,6 @@ use Rattle.model.specs.declared.Size.{Size}
 use Rattle.model.specs.declared.Outcome.{Outcome}
 use Rattle.model.specs.declared.Outcome.the-variants.{Repairs, Fatal, Refused}
 use Rattle.model.proofs.Outcome as outcome
-use Rattle.model.proofs.Refusal.{given-refused}
 use Rattle.model.proofs.Accept.{rebuild-fits, buffers-fit}
 use Rattle.model.proofs.Demand3.{rebuild-accepted, rebuild-refused}
 use Rattle.model.proofs.Grid.{rows-below, layout-disks, map-length}

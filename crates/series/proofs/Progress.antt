@@ -4,11 +4,11 @@ use mathlib.Core.Path.{_≡_, refl, sym, _∙_, ap, ap₂, subst}
 use mathlib.Core.Bool.{Bool, true, false, cond}
 use mathlib.Core.List.{List, [], _∷_, _++_, map, append-assoc, append-nil}
 use Prim.Native.Nat.{ℕ, zero, suc, _+_, _*_, _-_, _/_, _≤_, _<_}
-use native.Mathlib.Nat.{zero-add, suc-add, mul-zero, mul-suc, mul-div-le}
+use native.Mathlib.Nat.{zero-add, suc-add, mul-zero, mul-suc}
 use native.Mathlib.Numerals.{add-one}
 use native.Mathlib.Omega.{arith}
 use lib.ListN.{length, take, drop, length-append, length-drop}
-use lib.Seq.{length-take-le, take-nil, drop-nil, take-append-le, drop-append-le, take-take, drop-drop, take-at, drop-at}
+use lib.Seq.{length-take-le, take-nil, take-append-le, drop-append-le, take-take, drop-drop, take-at, drop-at}
 use Rattle.stripes.specs.System.{Layout}
 use Rattle.model.specs.Sheet.{Format, narrow, sheetBytes, sheetsIn}
 use Rattle.model.specs.Plan.{sheetLayout}

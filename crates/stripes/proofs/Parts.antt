@@ -17,7 +17,7 @@ use Rattle.stripes.specs.Repair.{Entry, Peels, nextDisk, repairOf, peel,
 use Rattle.stripes.specs.declared.Stretch.{Stretch}
 use Rattle.stripes.proofs.Fold.{count-le, count-without}
 use Rattle.stripes.proofs.Erased.{erasures-clear}
-use Rattle.stripes.proofs.Peel.{Allowed, allowed-is, after-append, next-allowed, stuck-none, peel-next, peel-none, peel-peels, none-stuck, peel-count, repairs-peels}
+use Rattle.stripes.proofs.Peel.{Allowed, allowed-is, after-append, next-allowed, stuck-none, peel-next, peel-none, peel-peels, none-stuck, peel-count}
 
 -- ---- lists made one after another
 module _ (L : Layout) where

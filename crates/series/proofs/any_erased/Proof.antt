@@ -1,6 +1,5 @@
 -- `series::any_erased` meets its contract: a disk is found exactly if there is one.
 -- Assumes nothing.
-use mathlib.Core.Path.{_∙_, sym}
 use borrow.Author.Needs.{needs}
 use Rattle.series.proofs.Ends.{some-erased}
 use Rattle.series.proofs.any_erased.Statement.{statement}

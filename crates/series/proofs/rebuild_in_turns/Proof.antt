@@ -1,12 +1,12 @@
 -- `series::rebuild_in_turns` meets its contract: each turn goes on from what those before it left.
 -- Assumes nothing.
 use mathlib.Core.Path.{_≡_, ap, ap₂}
-use mathlib.Core.List.{List, [], _∷_, _++_}
-use Prim.Native.Nat.{ℕ, _+_, _*_, _-_, _<_}
+use mathlib.Core.List.{List, [], _++_}
+use Prim.Native.Nat.{ℕ, _+_, _*_, _-_}
 use native.Mathlib.Omega.{arith}
 use borrow.Author.Needs.{needs}
 use borrow.Rule.Slice.PartMut.{post-is}
-use lib.ListN.{length, take, drop}
+use lib.ListN.{take, drop}
 use Rattle.model.specs.Plan.{sheetLayout}
 use Rattle.model.specs.Turn.{Turn}
 use Rattle.model.specs.Rebuild.{rebuildTurn}
