@@ -9,10 +9,10 @@ use native.Mathlib.Omega.{arith}
 use borrow.Author.Tests.{eq-eqb, ne-eqb}
 use lib.Dec.{eqb}
 use lib.ListN.{length}
-use Rattle.stripes.specs.System.{Layout, on, among}
+use Rattle.stripes.specs.System.{Layout, on, among, otherThan}
 use Rattle.stripes.specs.Erased.{erasures}
 use Rattle.stripes.specs.Repair.{Entry}
-use Rattle.stripes.specs.Cycle.{partner, otherThan}
+use Rattle.stripes.specs.Cycle.{partner}
 use Rattle.stripes.proofs.Fold.{and-both, lt-or-le, lowest-is, lowest-found}
 use Rattle.tally.specs.Tally.{Table, nextErased}
 use Rattle.tally.proofs.Scanned.{next-erased, next-passed}

@@ -9,10 +9,10 @@ use native.Mathlib.Omega.{arith}
 use borrow.Author.Tests.{eq-eqb, ne-eqb, le-leb}
 use lib.Dec.{leb}
 use lib.ListN.{length, set as put, length-append}
-use Rattle.stripes.specs.System.{Layout, TwoStripes}
+use Rattle.stripes.specs.System.{Layout, TwoStripes, otherThan, firstOf}
 use Rattle.stripes.specs.Repair.{Entry}
 use Rattle.stripes.specs.Erased.{erasures}
-use Rattle.stripes.specs.Cycle.{Paired, partner, otherThan, firstOf, trace, lowestOf, cycleOf}
+use Rattle.stripes.specs.Cycle.{Paired, partner, trace, lowestOf, cycleOf}
 use Rattle.model.specs.Grid.{layoutOf, disks}
 use Rattle.model.specs.declared.Size.{Size}
 use Rattle.stripes.proofs.Fold.{lowest-is, lowest-found}

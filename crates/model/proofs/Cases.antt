@@ -6,10 +6,10 @@ use mathlib.Core.List.{List, [], _∷_, _++_, map}
 use Prim.Native.Nat.{ℕ}
 use lib.ListN.{replicate}
 use Rattle.stripes.specs.Fold.{xsum, gate, every, bit, count, lowest, tabulate, _⊕_}
-use Rattle.stripes.specs.System.{among, on, whole, byte, sumOver, stripeSum, sumsToZero, changed, consistent}
+use Rattle.stripes.specs.System.{among, on, whole, byte, sumOver, stripeSum, sumsToZero, changed, consistent, firstOf, otherThan}
 use Rattle.stripes.specs.Erased.{erasures, without, below}
 use Rattle.stripes.specs.Repair.{mapAfter, alone, allowed, firstAllowed, someAllowed, nextDisk, repairOf, peel, repairs, after, residual, lost, fatal, sumOfOthers, repaired, rebuilt, zeroed, allAllowed, clears, residualCount}
-use Rattle.stripes.specs.Cycle.{closing, core, partner, firstOf, otherThan, trace, lowestOf, cycleOf, shownCycle}
+use Rattle.stripes.specs.Cycle.{closing, core, partner, trace, lowestOf, cycleOf, shownCycle}
 use Rattle.model.specs.Grid.{grid, layoutOf, rectangle, rows, columns, across, disks, diskAt, isData, arrayBytes, arrayOf, sideFits, sizeFits, blockFits, mapFits, down}
 use Rattle.model.specs.Equations.{cell, rowData, columnData}
 use Rattle.model.specs.Refusal.{refusal, arrayTests}

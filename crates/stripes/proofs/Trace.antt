@@ -11,9 +11,9 @@ use borrow.Author.Tests.{eqb-true, eqb-false, eq-eqb, ne-eqb, ltb-true, lt-ltb}
 use lib.Dec.{eqb, ltb}
 use lib.ListN.{length, getD}
 use Rattle.stripes.specs.Fold.{count, lowest}
-use Rattle.stripes.specs.System.{Layout, TwoStripes, on}
+use Rattle.stripes.specs.System.{Layout, TwoStripes, on, firstOf}
 use Rattle.stripes.specs.Repair.{Entry, fatal, diskOf, stripeOf}
-use Rattle.stripes.specs.Cycle.{following, Cycle, Paired, firstOf, trace, lowestOf, cycleOf, core, shownCycle}
+use Rattle.stripes.specs.Cycle.{following, Cycle, Paired, trace, lowestOf, cycleOf, core, shownCycle}
 use Rattle.stripes.proofs.Fold.{count-ext, count-some, count-found, Lowest, lowest-is}
 use Rattle.stripes.proofs.Peel.{Within, Stuck, other-stuck, fatal-of-stuck}
 use Rattle.stripes.proofs.Degree.{count-other, on-low, on-which}

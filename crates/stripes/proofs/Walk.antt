@@ -10,9 +10,9 @@ use native.Mathlib.Omega.{arith}
 use borrow.Author.Tests.{eqb-true, eqb-false, eq-eqb, ne-eqb, not-true}
 use lib.Dec.{eqb}
 use Rattle.stripes.specs.Fold.{lowest}
-use Rattle.stripes.specs.System.{Layout, TwoStripes, on}
+use Rattle.stripes.specs.System.{Layout, TwoStripes, on, otherThan}
 use Rattle.stripes.specs.Repair.{Entry}
-use Rattle.stripes.specs.Cycle.{Paired, partner, otherThan}
+use Rattle.stripes.specs.Cycle.{Paired, partner}
 use Rattle.stripes.proofs.Fold.{and-left, and-right, and-both, lt-or-le, lowest-is}
 use Rattle.stripes.proofs.Degree.{Other, on-low, on-high, on-which, on-bound}
 use Rattle.stripes.proofs.Core.{paired-other}

@@ -7,7 +7,7 @@ use Prim.Native.Nat.{ℕ, zero, suc, _≤_, _<_}
 use lib.Dec.{eqb}
 use lib.ListN.{length}
 use Rattle.stripes.specs.Fold.{count, lowest}
-use Rattle.stripes.specs.System.{Layout, on}
+use Rattle.stripes.specs.System.{Layout, on, firstOf, otherThan}
 use Rattle.stripes.specs.Repair.{Entry, residual, fatal, diskOf, stripeOf}
 use Rattle.stripes.specs.Erased.{below}
 
@@ -52,15 +52,6 @@ Paired L c = (d s : ℕ) → d < L .disks → c d ≡ true → on L d s ≡ true
 -- The lowest other disk of c on the stripe along which a disk is left.
 unfoldable pub partner : Layout → (ℕ → Bool) → Entry → ℕ
 partner L c r = lowest (L .disks) (λ d. c d && (on L d (r .stripe) && not (eqb d (r .disk))))
-
--- The first stripe of a list, and the first that is not s.
-unfoldable pub firstOf : List ℕ → ℕ
-firstOf [] = 0
-firstOf (s ∷ ss) = s
-
-unfoldable pub otherThan : ℕ → List ℕ → ℕ
-otherThan s [] = 0
-otherThan s (t ∷ ts) = cond (eqb t s) (otherThan s ts) t
 
 -- From disk to disk along their stripes within c, until the first disk is reached again; at most k disks.
 unfoldable pub trace : Layout → (ℕ → Bool) → (first k : ℕ) → Entry → List Entry

@@ -32,3 +32,9 @@ Belongs L x e a = (b : List ℕ) × Codeword L x b × Agree L x e a b
 -- Two different codewords agree on every survivor.
 abbrev pub Ambiguous : Layout → Stretch → (ℕ → Bool) → Type 0
 Ambiguous L x e = (a : List ℕ) × (b : List ℕ) × Codeword L x a × Codeword L x b × Agree L x e a b × (a ≡ b → ⊥)
+
+-- Two codewords agree on every survivor and differ in disk d (paper 02, P3: the card is lost).
+abbrev pub AmbiguousIn : Layout → Stretch → (ℕ → Bool) → ℕ → Type 0
+AmbiguousIn L x e d =
+    (a : List ℕ) × (b : List ℕ) × Codeword L x a × Codeword L x b × Agree L x e a b
+    × ((p : ℕ) × (p < x .width) × (byte x a d p ≡ byte x b d p → ⊥))

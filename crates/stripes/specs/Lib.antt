@@ -3,3 +3,5 @@ pub mod System
 pub mod Erased
 pub mod Repair
 pub mod Cycle
+pub mod Joined
+pub mod Undetermined

@@ -26,6 +26,22 @@ among s (t ∷ ts) = eqb s t || among s ts
 unfoldable pub on : Layout → ℕ → ℕ → Bool
 on L d s = among s (L .through d)
 
+-- The first stripe of a list, and the first that is not s.
+unfoldable pub firstOf : List ℕ → ℕ
+firstOf [] = 0
+firstOf (s ∷ ss) = s
+
+unfoldable pub otherThan : ℕ → List ℕ → ℕ
+otherThan s [] = 0
+otherThan s (t ∷ ts) = cond (eqb t s) (otherThan s ts) t
+
+-- Of a disk on two stripes, the one that is listed first, and the other.
+abbrev pub lower : Layout → ℕ → ℕ
+lower L d = firstOf (L .through d)
+
+abbrev pub higher : Layout → ℕ → ℕ
+higher L d = otherThan (lower L d) (L .through d)
+
 -- A list of numbers rises.
 abbrev pub Rising : List ℕ → Type 0
 Rising [] = Unit {0}

@@ -1,0 +1,23 @@
+-- Stripes joined by disks, and the parts that a stripe system falls into.
+-- Assumes nothing.
+use mathlib.Core.Bool.{Bool, cond}
+use Prim.Native.Nat.{ℕ, zero, suc}
+use lib.Dec.{eqb}
+use Rattle.stripes.specs.System.{Layout, lower, higher}
+
+-- Each part is named by one of its stripes. The parts of stripes a and b become one, which has the name of a's.
+unfoldable pub united : (a b : ℕ) → (part : ℕ → ℕ) → ℕ → ℕ
+united a b part s = cond (eqb (part s) (part b)) (part a) (part s)
+
+-- The part of each stripe after the first k disks: at first every stripe is a part by itself, and each disk of c makes one part of
+-- the two that it lies on.
+unfoldable pub partBy : Layout → (c : ℕ → Bool) → (k : ℕ) → ℕ → ℕ
+partBy L c zero = λ s. s
+partBy L c (suc k) = cond (c k) (united (lower L k) (higher L k) (partBy L c k)) (partBy L c k)
+
+unfoldable pub part : Layout → (c : ℕ → Bool) → ℕ → ℕ
+part L c = partBy L c (L .disks)
+
+-- Two stripes are joined by disks of c: they are in one part.
+unfoldable pub joined : Layout → (c : ℕ → Bool) → (s t : ℕ) → Bool
+joined L c s t = eqb (part L c s) (part L c t)
