@@ -60,11 +60,16 @@
  *                  by its row if that is allowed, else by its column.
  *   residual       The disks that are still erased when no repair is allowed
  *                  any more: the same, whatever the order of the repairs.
- *   fatal          Said of a loss with a residual. Then, and only then, two
- *                  different sealed arrays have the same survivors, and nobody
- *                  can tell which of them was lost. No loss of up to three
- *                  disks is fatal; every loss of more than rows + columns + 1
- *                  is.
+ *   undetermined   Said of an erased disk if two sealed arrays have the same
+ *                  survivors and differ in it: nobody can tell what it held.
+ *                  Such a disk is in the residual. The residual can have other
+ *                  disks too, which no repair reaches and which follow from
+ *                  the survivors all the same.
+ *   determined     Said of every other erased disk.
+ *   fatal          Said of a loss with a residual. Then, and only then, a disk
+ *                  is undetermined: two different sealed arrays have the same
+ *                  survivors. No loss of up to three disks is fatal; every
+ *                  loss of more than rows + columns + 1 is.
  *   cycle          A loop of different erased disks, at least four: the first
  *                  and the second share a row, the second and the third a
  *                  column, and so on in turn, the last and the first a column;
@@ -117,8 +122,8 @@
  * Statuses. Where several apply, the first in the call's list is returned.
  * RAID2D_OK and RAID2D_NOT_SEALED are answers, every other status is a
  * refusal. A call that refuses leaves every buffer and every out-parameter as
- * it was, but for what the lists of raid2d_plan, raid2d_rebuild and
- * raid2d_follow say of RAID2D_FATAL and RAID2D_ERR_SURVIVORS. A status keeps
+ * it was, but for what the lists of raid2d_plan, raid2d_rebuild, raid2d_follow
+ * and raid2d_save say of RAID2D_FATAL and RAID2D_ERR_SURVIVORS. A status keeps
  * its number for good.
  *
  * State. There is none: no memory is allocated, nothing is read or written but
@@ -145,10 +150,10 @@ extern "C" {
 
 /* The version of this header, as three numbers, as one, and as a string. */
 #define RAID2D_VERSION_MAJOR   0
-#define RAID2D_VERSION_MINOR   6
+#define RAID2D_VERSION_MINOR   7
 #define RAID2D_VERSION_PATCH   0
-#define RAID2D_VERSION_NUMBER  600
-#define RAID2D_VERSION_STRING  "0.6.0"
+#define RAID2D_VERSION_NUMBER  700
+#define RAID2D_VERSION_STRING  "0.7.0"
 
 /* The range of a side: of data rows, and of data columns. */
 #define RAID2D_SIDE_MIN  2
@@ -423,14 +428,15 @@ size_t raid2d_look(size_t rows, size_t columns, size_t block,
  *
  * The answer follows from rows, columns and the map, and holds for every block
  * length. The sheet then lists the repairs in plan's order, each erased disk
- * once, or for a fatal loss a cycle. The residual can have more disks than the
- * cycle, up to all of the grid. Where a loss has several cycles, which of them
- * is listed is left open; raid2d_rebuild lists the same one.
+ * once, or for a fatal loss a cycle. The disks of a cycle are undetermined;
+ * there can be more of these, up to all of the grid. Where a loss has several
+ * cycles, which of them is listed is left open; raid2d_rebuild lists the same
+ * one.
  *
  *   sheet      receives the repairs or the cycle
  *   count      receives the number of repairs, which is that of the erased
- *              disks and at most rows + columns + 1, or the number of disks in
- *              the residual
+ *              disks and at most rows + columns + 1, or the number of
+ *              undetermined disks
  *
  *   Reads      the map
  *   Writes     the whole sheet and *count with RAID2D_OK and RAID2D_FATAL,
@@ -443,7 +449,7 @@ size_t raid2d_look(size_t rows, size_t columns, size_t block,
  *   RAID2D_ERR_MAP
  *   RAID2D_ERR_SHEET_LENGTH
  *   RAID2D_FATAL             the loss is fatal; the sheet lists a cycle,
- *                            *count is the number of disks in the residual
+ *                            *count is the number of undetermined disks
  *   RAID2D_OK                the sheet lists the repairs, *count is their
  *                            number: none and 0 where no disk is erased
  */
@@ -497,8 +503,8 @@ uint32_t raid2d_plan(size_t rows, size_t columns,
  *              takes it only with the map from before this turn, and only if
  *              this was the last turn
  *   limit      the most repairs for this turn, any number from 1 on
- *   count      receives the number of repairs made, or of disks in the
- *              residual, as from raid2d_plan
+ *   count      receives the number of repairs made, or of undetermined
+ *              disks, as from raid2d_plan
  *
  *   Reads      the map, and the blocks of the disks that are not erased
  *   Writes     the blocks of the disks repaired with RAID2D_OK and
@@ -584,6 +590,53 @@ uint32_t raid2d_follow(size_t rows, size_t columns, size_t block,
                        const uint8_t *map, size_t map_len,
                        const uint8_t *sheet, size_t sheet_len,
                        size_t *count);
+
+/*
+ * raid2d_save: restore every erased disk that the survivors determine.
+ *
+ * This is for a fatal loss, of which raid2d_rebuild restores nothing. Each
+ * determined disk gets its block, whatever the erased blocks hold; where no
+ * repair reaches it, the block is a sum over disks of several stripes. Each
+ * undetermined disk keeps its bytes. If the survivors belong to a sealed
+ * array, the blocks saved are those of that array: of each such array, since
+ * they all have the same bytes there. A loss that is not fatal has no
+ * undetermined disk: then the array becomes what raid2d_rebuild makes of it
+ * in one turn with a limit that allows all repairs.
+ *
+ * The survivors are judged before a block is written. One that was damaged
+ * shows only where the other survivors contradict it.
+ *
+ * The map is only read. To learn which disks were saved, a host compares the
+ * count of raid2d_plan for the map with that for the map without one erased
+ * disk: if the loss is fatal either way and the counts are equal, the disk is
+ * determined; if the loss is fatal at first and then is not, or the count is
+ * less, it is undetermined. The host marks the saved disks as present itself.
+ *
+ *   count      receives the number of disks saved: of determined disks
+ *
+ *   Reads      the map, and the blocks of the disks that are not erased
+ *   Writes     the blocks of the determined disks with RAID2D_OK, those of all
+ *              erased disks with RAID2D_ERR_SURVIVORS; *count with RAID2D_OK
+ *   Unchanged  the blocks of all other disks and the map, always
+ *
+ * Returns the first of these that applies:
+ *
+ *   RAID2D_ERR_SIDE
+ *   RAID2D_ERR_BLOCK
+ *   RAID2D_ERR_ARRAY_LENGTH
+ *   RAID2D_ERR_MAP
+ *   RAID2D_ERR_SURVIVORS     the survivors belong to no sealed array, also
+ *                            where no disk is erased; the blocks of all erased
+ *                            disks are zero, also of the undetermined ones,
+ *                            *count unchanged
+ *   RAID2D_OK                the blocks of the determined disks are restored;
+ *                            *count is their number: 0 where every erased disk
+ *                            is undetermined, or none is erased
+ */
+uint32_t raid2d_save(size_t rows, size_t columns, size_t block,
+                     uint8_t *array, size_t array_len,
+                     const uint8_t *map, size_t map_len,
+                     size_t *count);
 
 #ifdef __cplusplus
 }
