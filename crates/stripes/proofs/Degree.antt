@@ -1,7 +1,7 @@
 -- How many disks of a set lie on each stripe, how many stripes the set touches, and what repairs take from that number.
 -- Assumes nothing.
 use mathlib.Core.Path.{_≡_, refl, sym, _∙_, ap, ap₂, subst}
-use mathlib.Core.Bool.{Bool, true, false, not, _&&_, _||_, or-false, or-true, true≢false, false≢true}
+use mathlib.Core.Bool.{Bool, true, false, cond, not, _&&_, _||_, or-false, or-true, true≢false, false≢true}
 use mathlib.Core.Logic.{_⊎_, inl, inr, ⊎-elim}
 use mathlib.Core.List.{List, [], _∷_}
 use Prim.Native.Nat.{ℕ, zero, suc, _+_, _*_, _≤_, _<_}
@@ -11,7 +11,7 @@ use borrow.Author.Tests.{eq-eqb, ne-eqb, eqb-true, eqb-false, ltb-true, lt-ltb, 
 use lib.Dec.{eqb, ltb}
 use lib.ListN.{length}
 use Rattle.stripes.specs.Fold.{bit, count}
-use Rattle.stripes.specs.System.{Layout, TwoStripes, among, on, Ordered, Rising}
+use Rattle.stripes.specs.System.{Layout, TwoStripes, among, on, otherThan, Ordered, Rising}
 use Rattle.stripes.specs.Erased.{without}
 use Rattle.stripes.specs.Repair.{Entry, allowed, Peels}
 use Rattle.stripes.proofs.Fold.{and-left, and-right, and-both, by-cases, lt-or-le, below-suc, count-le, count-mono, count-none, count-some, count-found, count-without, count-but}
@@ -194,6 +194,15 @@ bit-or : (a b : Bool) → (a ≡ true → b ≡ false) → bit (a || b) ≡ bit 
 unfolding bit
 bit-or true b h = sym (ap (λ (x : Bool). 1 + bit x) (h refl))
 bit-or false b h = sym (zero-add (bit b))
+
+-- Which of two numbers is not a given one.
+pub other-first : (a b : ℕ) → (b ≡ a → ⊥) → otherThan a (a ∷ b ∷ []) ≡ b
+unfolding otherThan
+other-first a b d = ap₂ (λ (p q : Bool). cond p (cond q 0 b) a) (eq-eqb a a refl) (ne-eqb b a d)
+
+pub other-second : (a b : ℕ) → (b ≡ a → ⊥) → otherThan b (a ∷ b ∷ []) ≡ a
+unfolding otherThan
+other-second a b d = ap (λ (p : Bool). cond p (cond (eqb b b) 0 b) a) (ne-eqb a b (λ e. d (sym e)))
 
 module _ (L : Layout) (two : TwoStripes L) (d : ℕ) (inside : d < L .disks) where
   pub low-bound : two .low d < L .stripeBound

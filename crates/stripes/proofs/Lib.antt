@@ -13,4 +13,5 @@ pub mod Trace
 pub mod Restore
 pub mod Clears
 pub mod Parts
+pub mod Joined
 pub mod Theorems

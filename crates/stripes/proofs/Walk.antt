@@ -1,20 +1,19 @@
 -- Walks from disk to disk along their stripes, within a set of disks that has just two on each stripe touched.
 -- Assumes nothing.
 use mathlib.Core.Path.{_≡_, refl, sym, _∙_, ap, ap₂, subst}
-use mathlib.Core.Bool.{Bool, true, false, cond, not, _&&_, true≢false}
+use mathlib.Core.Bool.{Bool, true, false, not, _&&_, true≢false}
 use mathlib.Core.Logic.{_⊎_, inl, inr, ⊎-elim}
-use mathlib.Core.List.{_∷_, []}
 use Prim.Native.Nat.{ℕ, zero, suc, _+_, _-_, _≤_, _<_}
 use native.Mathlib.Nat.{lt-of-le-of-lt}
 use native.Mathlib.Omega.{arith}
-use borrow.Author.Tests.{eqb-true, eqb-false, eq-eqb, ne-eqb, not-true}
+use borrow.Author.Tests.{eqb-true, eqb-false, ne-eqb, not-true}
 use lib.Dec.{eqb}
 use Rattle.stripes.specs.Fold.{lowest}
 use Rattle.stripes.specs.System.{Layout, TwoStripes, on, otherThan}
 use Rattle.stripes.specs.Repair.{Entry}
 use Rattle.stripes.specs.Cycle.{Paired, partner}
 use Rattle.stripes.proofs.Fold.{and-left, and-right, and-both, lt-or-le, lowest-is}
-use Rattle.stripes.proofs.Degree.{Other, on-low, on-high, on-which, on-bound}
+use Rattle.stripes.proofs.Degree.{Other, other-first, other-second, on-low, on-high, on-which, on-bound}
 use Rattle.stripes.proofs.Core.{paired-other}
 use Rattle.stripes.proofs.Counts.{different-below}
 
@@ -25,15 +24,6 @@ pub record Besides (L : Layout) (d s t : ℕ) : Type 0 where
   pub lies : on L d t ≡ true
   pub differs : t ≡ s → ⊥
   pub only : (x : ℕ) → on L d x ≡ true → (x ≡ s) ⊎ (x ≡ t)
-
--- Which of two numbers is not a given one.
-other-first : (a b : ℕ) → (b ≡ a → ⊥) → otherThan a (a ∷ b ∷ []) ≡ b
-unfolding otherThan
-other-first a b d = ap₂ (λ (p q : Bool). cond p (cond q 0 b) a) (eq-eqb a a refl) (ne-eqb b a d)
-
-other-second : (a b : ℕ) → (b ≡ a → ⊥) → otherThan b (a ∷ b ∷ []) ≡ a
-unfolding otherThan
-other-second a b d = ap (λ (p : Bool). cond p (cond (eqb b b) 0 b) a) (ne-eqb a b (λ e. d (sym e)))
 
 module _ (L : Layout) (two : TwoStripes L) (d : ℕ) (l : d < L .disks) where
   apart : two .high d ≡ two .low d → ⊥

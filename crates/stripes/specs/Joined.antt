@@ -1,6 +1,6 @@
 -- Stripes joined by disks, and the parts that a stripe system falls into.
 -- Assumes nothing.
-use mathlib.Core.Bool.{Bool, cond}
+use mathlib.Core.Bool.{Bool, cond, not}
 use Prim.Native.Nat.{ℕ, zero, suc}
 use lib.Dec.{eqb}
 use Rattle.stripes.specs.System.{Layout, lower, higher}
@@ -21,3 +21,7 @@ part L c = partBy L c (L .disks)
 -- Two stripes are joined by disks of c: they are in one part.
 unfoldable pub joined : Layout → (c : ℕ → Bool) → (s t : ℕ) → Bool
 joined L c s t = eqb (part L c s) (part L c t)
+
+-- Just one of the two stripes of disk d is among `some`.
+unfoldable pub crosses : Layout → (some : ℕ → Bool) → ℕ → Bool
+crosses L some d = cond (some (lower L d)) (not (some (higher L d))) (some (higher L d))
