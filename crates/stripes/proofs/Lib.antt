@@ -14,4 +14,5 @@ pub mod Restore
 pub mod Clears
 pub mod Parts
 pub mod Joined
+pub mod Ends
 pub mod Theorems
