@@ -1,7 +1,7 @@
 -- How many disks of a set lie on each stripe, how many stripes the set touches, and what repairs take from that number.
 -- Assumes nothing.
 use mathlib.Core.Path.{_≡_, refl, sym, _∙_, ap, ap₂, subst}
-use mathlib.Core.Bool.{Bool, true, false, cond, not, _&&_, _||_, or-false, or-true, true≢false, false≢true}
+use mathlib.Core.Bool.{Bool, true, false, cond, not, _&&_, _||_, and-true, and-false, or-false, or-true, true≢false, false≢true}
 use mathlib.Core.Logic.{_⊎_, inl, inr, ⊎-elim}
 use mathlib.Core.List.{List, [], _∷_}
 use Prim.Native.Nat.{ℕ, zero, suc, _+_, _*_, _≤_, _<_}
@@ -91,9 +91,22 @@ count-total zero t = refl
 count-total (suc n) t = ap (λ (x : ℕ). x + bit (t n)) (count-total n t)
 
 -- Just one number equals k.
+-- The bit of the number k where the test holds of it, and by itself.
+total-at : (n k : ℕ) → k < n → (t : ℕ → Bool) → total n (λ i. bit (t i && eqb i k)) ≡ bit (t k)
+unfolding bit
+total-at n k l t =
+    total-only n k l (λ i w q. ap (λ (b : Bool). bit (t i && b)) (ne-eqb i k q) ∙ ap bit (and-false (t i)))
+    ∙ ap (λ (b : Bool). bit (t k && b)) (eq-eqb k k refl) ∙ ap bit (and-true (t k))
+
 total-equal : (n k : ℕ) → k < n → total n (λ s. bit (eqb s k)) ≡ 1
 unfolding bit
-total-equal n k l = total-only n k l (λ i h q. ap bit (ne-eqb i k q)) ∙ ap bit (eq-eqb k k refl)
+total-equal n k l = total-at n k l (λ i. true)
+
+-- A count behind a test.
+pub count-where : (b : Bool) (n : ℕ) (t : ℕ → Bool) → cond b (count n t) 0 ≡ total n (λ i. bit (b && t i))
+unfolding bit
+count-where true n t = count-total n t
+count-where false n t = sym (total-zero n (λ i l. refl))
 
 -- ---- counts of two
 
@@ -241,12 +254,20 @@ module _ (L : Layout) (two : TwoStripes L) (d : ℕ) (inside : d < L .disks) whe
       ∙ bit-or (eqb s (two .low d)) (eqb s (two .high d))
       (λ q. let e = eqb-true s (two .low d) q in let a = two .order d inside in ne-eqb s (two .high d) (λ h. omega arith))
 
+  -- As many as are among `some`, and both of them.
+  pub on-among : (some : ℕ → Bool) → total (L .stripeBound) (λ s. bit (some s && on L d s)) ≡ bit (some (two .low d)) + bit (some (two .high d))
+  unfolding bit
+  on-among some =
+      total-ext (L .stripeBound) (λ s b.
+      by-cases (λ (t : Bool). bit (t && on L d s) ≡ bit (t && eqb s (two .low d)) + bit (t && eqb s (two .high d))) (some s)
+      (λ h. on-bits s) (λ h. refl))
+      ∙ total-add (L .stripeBound) (λ s. bit (some s && eqb s (two .low d))) (λ s. bit (some s && eqb s (two .high d)))
+      ∙ ap₂ (λ (x y : ℕ). x + y) (total-at (L .stripeBound) (two .low d) low-bound some)
+      (total-at (L .stripeBound) (two .high d) (two .bound d inside) some)
+
   pub on-total : total (L .stripeBound) (λ s. bit (on L d s)) ≡ 2
-  on-total =
-      total-ext (L .stripeBound) (λ s l. on-bits s)
-      ∙ total-add (L .stripeBound) (λ s. bit (eqb s (two .low d))) (λ s. bit (eqb s (two .high d)))
-      ∙ ap₂ (λ (x y : ℕ). x + y) (total-equal (L .stripeBound) (two .low d) low-bound)
-      (total-equal (L .stripeBound) (two .high d) (two .bound d inside))
+  unfolding bit
+  on-total = on-among (λ s. true)
 
 -- Two stripes, the lower first, are listed in rising order.
 pub two-ordered : (L : Layout) → TwoStripes L → Ordered L

@@ -2,56 +2,19 @@
 -- that have just one of their two stripes there.
 -- Assumes nothing.
 use mathlib.Core.Path.{_≡_, refl, sym, _∙_, ap, ap₂}
-use mathlib.Core.Bool.{Bool, true, false, cond, not, _&&_, _||_, and-true, and-false, false≢true}
+use mathlib.Core.Bool.{Bool, true, false, cond, not, _&&_, and-false, false≢true}
 use Prim.Native.Nat.{ℕ, _+_, _<_}
 use native.Mathlib.Omega.{arith}
-use borrow.Author.Tests.{eq-eqb, ne-eqb, eqb-true, not-true}
+use borrow.Author.Tests.{ne-eqb, eqb-true, not-true}
 use lib.Dec.{eqb}
 use Rattle.stripes.specs.Fold.{_⊕_, xsum, gate, bit, count}
 use Rattle.stripes.specs.System.{Layout, TwoStripes, lower, higher, on, sumOver}
 use Rattle.stripes.specs.Joined.{joined, crosses}
-use Rattle.stripes.proofs.Xor.{⊕-comm, ⊕-self, ⊕-zero, zero-⊕, ⊕-assoc, ⊕-cancel}
-use Rattle.stripes.proofs.Fold.{by-cases, xsum-ext, xsum-zero, xsum-⊕, xsum-swap, xsum-only, gate-⊕, gate-zero, and-right}
+use Rattle.stripes.proofs.Xor.{⊕-comm, ⊕-self, ⊕-assoc, ⊕-cancel}
+use Rattle.stripes.proofs.Fold.{by-cases, xsum-ext, xsum-zero, xsum-⊕, xsum-swap, gate-⊕, gate-zero, gate-swap, gate-one, gate-or, gate-xsum, xsum-at, and-right}
 use Rattle.stripes.proofs.Sums.{sumOver-ext, sumOver-⊕}
-use Rattle.stripes.proofs.Degree.{total, total-ext, total-zero, total-add, total-swap, total-only, count-total, low-bound, on-two, on-bits}
+use Rattle.stripes.proofs.Degree.{total, total-ext, total-zero, total-swap, count-total, count-where, low-bound, on-two, on-among}
 use Rattle.stripes.proofs.Joined.{lower-is, higher-is, joined-least}
-
--- ---- gates
-
--- A value behind two tests, in either order; and one where just one of two tests holds.
-pub gate-and : (a b : Bool) (v : ℕ) → gate a (gate b v) ≡ gate (b && a) v
-unfolding gate
-gate-and true true v = refl
-gate-and true false v = refl
-gate-and false true v = refl
-gate-and false false v = refl
-
-gate-swap : (a b : Bool) (v : ℕ) → gate a (gate b v) ≡ gate b (gate a v)
-unfolding gate
-gate-swap true b v = refl
-gate-swap false b v = sym (gate-zero b)
-
-pub gate-one : (a b : Bool) (v : ℕ) → gate (cond a (not b) b) v ≡ gate a v ⊕ gate b v
-unfolding gate
-gate-one true true v = sym (⊕-self v)
-gate-one true false v = sym (⊕-zero v)
-gate-one false b v = sym (zero-⊕ (gate b v))
-
-gate-or : (a b : Bool) (v : ℕ) → (a ≡ true → b ≡ false) → gate (a || b) v ≡ gate a v ⊕ gate b v
-unfolding gate
-gate-or true b v h = sym (ap (λ (t : Bool). v ⊕ gate t v) (h refl) ∙ ⊕-zero v)
-gate-or false b v h = sym (zero-⊕ (gate b v))
-
-pub gate-xsum : (b : Bool) (n : ℕ) (f : ℕ → ℕ) → gate b (xsum n f) ≡ xsum n (λ i. gate b (f i))
-unfolding gate
-gate-xsum true n f = refl
-gate-xsum false n f = sym (xsum-zero n (λ i l. refl))
-
--- The one number that is k.
-pub xsum-at : (n k : ℕ) → k < n → (f : ℕ → ℕ) → xsum n (λ i. gate (eqb i k) (f i)) ≡ f k
-unfolding gate
-xsum-at n k l f =
-    xsum-only n k l (λ i w q. ap (λ (b : Bool). gate b (f i)) (ne-eqb i k q)) ∙ ap (λ (b : Bool). gate b (f k)) (eq-eqb k k refl)
 
 -- ---- a disk on its two stripes
 module _ (L : Layout) (two : TwoStripes L) (d : ℕ) (inside : d < L .disks) where
@@ -130,18 +93,7 @@ module _ (L : Layout) (c : ℕ → Bool) where
 
 -- ---- sums over some stripes
 
--- The bit of one number, the bits of a count behind a test, and those of two tests of which just one holds.
-total-at : (n k : ℕ) → k < n → (t : ℕ → Bool) → total n (λ i. bit (t i && eqb i k)) ≡ bit (t k)
-unfolding bit
-total-at n k l t =
-    total-only n k l (λ i w q. ap (λ (b : Bool). bit (t i && b)) (ne-eqb i k q) ∙ ap bit (and-false (t i)))
-    ∙ ap (λ (b : Bool). bit (t k && b)) (eq-eqb k k refl) ∙ ap bit (and-true (t k))
-
-count-where : (b : Bool) (n : ℕ) (t : ℕ → Bool) → cond b (count n t) 0 ≡ total n (λ i. bit (b && t i))
-unfolding bit
-count-where true n t = count-total n t
-count-where false n t = sym (total-zero n (λ i l. refl))
-
+-- The bits of two tests of which just one holds.
 one-bit : (a b : Bool) → cond a (not b) b ≡ true → bit a + bit b ≡ 1
 unfolding bit
 one-bit true b h = ap (λ (t : Bool). 1 + bit t) (not-true b h)
@@ -167,18 +119,6 @@ module _ (L : Layout) (two : TwoStripes L) (some : ℕ → Bool) where
       ∙ xsum-swap (L .stripeBound) (L .disks) (λ s d. gate (some s) (gate (on L d s) (f d)))
       ∙ xsum-ext (L .disks) (λ d l. cut-disk d l (f d))
 
-  -- How many of its stripes are among them.
-  some-bits : (d : ℕ) → d < L .disks → total (L .stripeBound) (λ s. bit (some s && on L d s)) ≡ bit (some (lower L d)) + bit (some (higher L d))
-  unfolding bit
-  some-bits d l =
-      rw (higher-is L two d l, lower-is L two d l)
-      (total-ext (L .stripeBound) (λ s b.
-      by-cases (λ (t : Bool). bit (t && on L d s) ≡ bit (t && eqb s (two .low d)) + bit (t && eqb s (two .high d))) (some s)
-      (λ h. on-bits L two d l s) (λ h. refl))
-      ∙ total-add (L .stripeBound) (λ s. bit (some s && eqb s (two .low d))) (λ s. bit (some s && eqb s (two .high d)))
-      ∙ ap₂ (λ (x y : ℕ). x + y) (total-at (L .stripeBound) (two .low d) (low-bound L two d l) some)
-      (total-at (L .stripeBound) (two .high d) (two .bound d l) some))
-
   -- So the disks that cross, counted on each of these stripes, are counted once.
   pub cut-count : (g : ℕ → Bool)
       → total (L .stripeBound) (λ s. cond (some s) (count (L .disks) (λ d. (g d && crosses L some d) && on L d s)) 0)
@@ -189,6 +129,8 @@ module _ (L : Layout) (two : TwoStripes L) (some : ℕ → Bool) where
       ∙ total-swap (L .stripeBound) (L .disks) (λ s d. bit (some s && ((g d && crosses L some d) && on L d s)))
       ∙ total-ext (L .disks) (λ d l.
       by-cases (λ (t : Bool). total (L .stripeBound) (λ s. bit (some s && (t && on L d s))) ≡ bit t) (g d && crosses L some d)
-      (λ h. some-bits d l ∙ one-bit (some (lower L d)) (some (higher L d)) (and-right (g d) (crosses L some d) h))
+      (λ h.
+      on-among L two d l some ∙ sym (ap₂ (λ (s t : ℕ). bit (some s) + bit (some t)) (lower-is L two d l) (higher-is L two d l))
+      ∙ one-bit (some (lower L d)) (some (higher L d)) (and-right (g d) (crosses L some d) h))
       (λ h. total-zero (L .stripeBound) (λ s b. ap bit (and-false (some s)))))
       ∙ sym (count-total (L .disks) (λ d. g d && crosses L some d))

@@ -129,6 +129,41 @@ unfolding gate
 gate-small true h = h
 gate-small false h = omega arith
 
+-- A value behind two tests, in either order; and one where just one of two tests holds.
+pub gate-and : (a b : Bool) (v : ℕ) → gate a (gate b v) ≡ gate (b && a) v
+unfolding gate
+gate-and true true v = refl
+gate-and true false v = refl
+gate-and false true v = refl
+gate-and false false v = refl
+
+pub gate-swap : (a b : Bool) (v : ℕ) → gate a (gate b v) ≡ gate b (gate a v)
+unfolding gate
+gate-swap true b v = refl
+gate-swap false b v = sym (gate-zero b)
+
+pub gate-one : (a b : Bool) (v : ℕ) → gate (cond a (not b) b) v ≡ gate a v ⊕ gate b v
+unfolding gate
+gate-one true true v = sym (⊕-self v)
+gate-one true false v = sym (⊕-zero v)
+gate-one false b v = sym (zero-⊕ (gate b v))
+
+pub gate-or : (a b : Bool) (v : ℕ) → (a ≡ true → b ≡ false) → gate (a || b) v ≡ gate a v ⊕ gate b v
+unfolding gate
+gate-or true b v h = sym (ap (λ (t : Bool). v ⊕ gate t v) (h refl) ∙ ⊕-zero v)
+gate-or false b v h = sym (zero-⊕ (gate b v))
+
+pub gate-xsum : (b : Bool) (n : ℕ) (f : ℕ → ℕ) → gate b (xsum n f) ≡ xsum n (λ i. gate b (f i))
+unfolding gate
+gate-xsum true n f = refl
+gate-xsum false n f = sym (xsum-zero n (λ i l. refl))
+
+-- The one number that is k.
+pub xsum-at : (n k : ℕ) → k < n → (f : ℕ → ℕ) → xsum n (λ i. gate (eqb i k) (f i)) ≡ f k
+unfolding gate
+xsum-at n k l f =
+    xsum-only n k l (λ i w q. ap (λ (b : Bool). gate b (f i)) (ne-eqb i k q)) ∙ ap (λ (b : Bool). gate b (f k)) (eq-eqb k k refl)
+
 -- ---- tests of every number
 pub every-ext : (n : ℕ) {t u : ℕ → Bool} → ((i : ℕ) → i < n → t i ≡ u i) → every n t ≡ every n u
 unfolding every

@@ -47,8 +47,9 @@ module _ (L : Layout) (c : ℕ → Bool) where
   part-next : (k s t : ℕ) → partBy L c k s ≡ partBy L c k t → partBy L c (suc k) s ≡ partBy L c (suc k) t
   unfolding partBy united
   part-next k s t e =
-      by-cases (λ (b : Bool). cond b (united (lower L k) (higher L k) (partBy L c k)) (partBy L c k) s ≡ cond b (united (lower L k) (higher L k) (partBy L c k)) (partBy L c k) t)
-      (c k) (λ h. rw e) (λ h. e)
+      let p : ℕ → ℕ = partBy L c k in
+      let q : ℕ → ℕ = united (lower L k) (higher L k) p in
+      by-cases (λ (b : Bool). cond b q p s ≡ cond b q p t) (c k) (λ h. rw e) (λ h. e)
 
   pub part-stays : (j k s t : ℕ) → j ≤ k → partBy L c j s ≡ partBy L c j t → partBy L c k s ≡ partBy L c k t
   part-stays j zero s t l e = let none : j ≡ 0 = omega arith in rw none at e
