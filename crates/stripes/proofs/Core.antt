@@ -1,7 +1,7 @@
 -- What is left of a fatal loss: each stripe touched holds exactly two of its disks, so that two codewords agree on every survivor.
 -- Assumes nothing.
 use mathlib.Core.Path.{_≡_, refl, sym, _∙_, ap, subst}
-use mathlib.Core.Bool.{Bool, true, false, _&&_, true≢false, false≢true}
+use mathlib.Core.Bool.{Bool, true, false, _&&_, true≢false}
 use mathlib.Core.Logic.{⊎-elim}
 use mathlib.Core.List.{List}
 use Prim.Native.Nat.{ℕ, zero, suc, _+_, _-_, _*_, _/_, _%_, _≤_, _<_, zero-le}
@@ -12,12 +12,12 @@ use lib.Dec.{ltb}
 use lib.ListN.{length, getD}
 use Rattle.stripes.specs.Fold.{_⊕_, xsum, gate, bit, count, tabulate}
 use Rattle.stripes.specs.System.{Layout, TwoStripes, on, byte, sumOver, stripeSum, Codeword}
-use Rattle.stripes.specs.Erased.{without, Ambiguous, below}
+use Rattle.stripes.specs.Erased.{without, Ambiguous, AmbiguousIn, below}
 use Rattle.stripes.specs.Repair.{repairs, fatal}
 use Rattle.stripes.specs.Cycle.{closing, core, Paired}
 use Rattle.stripes.specs.declared.Stretch.{Stretch}
 use Rattle.stripes.proofs.Xor.{zero-⊕, ⊕-zero, ⊕-self}
-use Rattle.stripes.proofs.Fold.{and-left, and-right, and-both, by-cases, lt-or-le, xsum-ext, bit-le, count-some, count-found, count-without, Lowest, lowest-is, length-tabulate, getD-tabulate}
+use Rattle.stripes.proofs.Fold.{and-left, and-right, and-both, by-cases, lt-or-le, xsum-ext, xsum-zero, gate-zero, bit-le, count-some, count-found, count-without, Lowest, lowest-is, length-tabulate, getD-tabulate}
 use Rattle.stripes.proofs.Peel.{Within, Stuck, without-at, without-other, without-sub, stuck-other, repairs-peels, residual-stuck, residual-sub, is-fatal, fatal-of-stuck, fatal-mono, repairs-count}
 use Rattle.stripes.proofs.Erased.{below-is, is-below}
 use Rattle.stripes.proofs.Degree.{total, total-times, total-squeeze, count-total, count-two, Other, count-other, degree, touched, touches, on-low, on-bound, degrees, touching, touched-mono, peels-fewer}
@@ -210,39 +210,54 @@ module _ (L : Layout) (x : Stretch) (c : ℕ → Bool) where
         let within : x .offset + p < x .block = omega arith in
         ones-at (d * x .block + (x .offset + p)) (digits-lt l within) ∙ ap (λ (i : ℕ). bit (c i)) (digits-div d within)
 
-    -- They are a codeword where the disks are paired.
-    pub ones-codeword : Paired L c → Codeword L x (onesOn L x c)
+    -- They are a codeword where the sum over each stripe is zero.
+    pub ones-codeword : ((s : ℕ) → sumOver L (λ d. bit (c d)) s ≡ 0) → Codeword L x (onesOn L x c)
     unfolding stripeSum sumOver
-    ones-codeword paired =
+    ones-codeword zero-sums =
         record {
           sized = ones-length;
           bytes = λ i l.
               let same = ones-at i (subst (λ (n : ℕ). i < n) ones-length l) in
               let small = bit-le (c (i / x .block)) in
               omega arith;
-          sums = λ s l p b.
-              xsum-ext (L .disks) (λ d w. ap (gate (on L d s)) (ones-byte d p w b)) ∙ paired-sum L c paired s;
+          sums = λ s l p b. xsum-ext (L .disks) (λ d w. ap (gate (on L d s)) (ones-byte d p w b)) ∙ zero-sums s;
         }
 
 -- ---- two codewords
 
--- After a fatal loss the survivors do not determine the array: zeros, and ones on the core, agree on them.
+-- Where ones on erased disks have the sum zero over each stripe, the survivors determine none of these disks: zeros, and these ones,
+-- agree on every survivor.
+pub ones-differ : (L : Layout) (x : Stretch) → x .offset + x .width ≤ x .block → 0 < x .width → (c e : ℕ → Bool)
+    → ((s : ℕ) → sumOver L (λ d. bit (c d)) s ≡ 0) → ((d : ℕ) → c d ≡ true → e d ≡ true)
+    → (d : ℕ) → d < L .disks → c d ≡ true → AmbiguousIn L x e d
+unfolding bit sumOver
+ones-differ L x fits some c e zero-sums sub d l h = (
+  onesOn L x (λ d. false),
+  onesOn L x c,
+  ones-codeword L x (λ d. false) fits (λ s. xsum-zero (L .disks) (λ d l. gate-zero (on L d s))),
+  ones-codeword L x c fits zero-sums,
+  (λ d l k p b.
+      let kept : c d ≡ false = by-cases (λ (t : Bool). t ≡ false) (c d) (λ q. sym (sub d q) ∙ k) (λ q. refl) in
+      ones-byte L x (λ d. false) fits d p l b ∙ sym (ones-byte L x c fits d p l b ∙ ap bit kept)),
+  (
+    0,
+    some,
+    λ q.
+        let clash : _≡_ {A = ℕ} 0 1 =
+        sym (ones-byte L x (λ d. false) fits d 0 l some) ∙ q ∙ ones-byte L x c fits d 0 l some ∙ ap bit h in
+        omega arith,
+  ),
+)
+
+-- Codewords that differ in a disk are different.
+pub differ-in : (L : Layout) (x : Stretch) (e : ℕ → Bool) (d : ℕ) → AmbiguousIn L x e d → Ambiguous L x e
+differ-in L x e d (a, b, first, second, same, (p, h, differ)) =
+    (a, b, first, second, same, λ q. differ (ap (λ (a : List ℕ). byte x a d p) q))
+
+-- So after a fatal loss the survivors do not determine the array.
 pub ambiguous : (L : Layout) → TwoStripes L → (x : Stretch) (e : ℕ → Bool)
     → fatal L e ≡ true → 0 < x .width → x .offset + x .width ≤ x .block → Ambiguous L x e
-unfolding bit
-ambiguous L two x e lossy some fits = (
-  onesOn L x (λ d. false),
-  onesOn L x (core L e),
-  ones-codeword L x (λ d. false) fits (λ d s l h. absurd (false≢true h)),
-  ones-codeword L x (core L e) fits (core-paired L two e lossy),
-  (λ d l h p b.
-      let kept : core L e d ≡ false =
-      by-cases (λ (t : Bool). t ≡ false) (core L e d) (λ k. sym (core-sub L e d k) ∙ h) (λ k. refl) in
-      ones-byte L x (λ d. false) fits d p l b ∙ sym (ones-byte L x (core L e) fits d p l b ∙ ap bit kept)),
-  λ q.
-      let (d, l, h) = core-some L e lossy in
-      let clash : _≡_ {A = ℕ} 0 1 =
-      sym (ones-byte L x (λ d. false) fits d 0 l some) ∙ ap (λ (a : List ℕ). byte x a d 0) q
-      ∙ ones-byte L x (core L e) fits d 0 l some ∙ ap bit h in
-      omega arith,
-)
+ambiguous L two x e lossy some fits =
+    let (d, l, h) = core-some L e lossy in
+    differ-in L x e d
+    (ones-differ L x fits some (core L e) e (paired-sum L (core L e) (core-paired L two e lossy)) (core-sub L e) d l h)

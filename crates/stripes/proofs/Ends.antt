@@ -45,6 +45,10 @@ pub record Ends (L : Layout) (c : ℕ → Bool) (s t : ℕ) : Type 0 where
   pub within : (d : ℕ) → set d ≡ true → c d ≡ true
   pub sum : (v x : ℕ) → sumOver L (λ d. gate (set d) v) x ≡ gate (eqb x s) v ⊕ gate (eqb x t) v
 
+-- More disks have the same ends.
+unfoldable pub ends-wider : (L : Layout) (c e : ℕ → Bool) → ((d : ℕ) → c d ≡ true → e d ≡ true) → (s t : ℕ) → Ends L c s t → Ends L e s t
+ends-wider L c e sub s t f = record { set = f .set; within = λ d h. sub d (f .within d h); sum = f .sum }
+
 module _ (L : Layout) (c : ℕ → Bool) where
   -- Nothing has its two ends on one stripe.
   pub ends-none : (s : ℕ) → Ends L c s s
@@ -56,12 +60,12 @@ module _ (L : Layout) (c : ℕ → Bool) where
         sum = λ v x. xsum-zero (L .disks) (λ d l. gate-zero (on L d x)) ∙ sym (⊕-self (gate (eqb x s) v));
       }
 
-  pub ends-back : (s t : ℕ) → Ends L c s t → Ends L c t s
+  unfoldable pub ends-back : (s t : ℕ) → Ends L c s t → Ends L c t s
   ends-back s t f =
       record { set = f .set; within = f .within; sum = λ v x. f .sum v x ∙ ⊕-comm (gate (eqb x s) v) (gate (eqb x t) v) }
 
   -- Two of them in a row: the disks that are in just one of the two sets.
-  pub ends-chain : (r s t : ℕ) → Ends L c r s → Ends L c s t → Ends L c r t
+  unfoldable pub ends-chain : (r s t : ℕ) → Ends L c r s → Ends L c s t → Ends L c r t
   ends-chain r s t f g =
       record {
         set = λ d. cond (f .set d) (not (g .set d)) (g .set d);
@@ -79,7 +83,7 @@ module _ (L : Layout) (c : ℕ → Bool) where
 
   module _ (two : TwoStripes L) where
     -- A disk has its two stripes for ends.
-    pub ends-disk : (d : ℕ) → d < L .disks → c d ≡ true → Ends L c (lower L d) (higher L d)
+    unfoldable pub ends-disk : (d : ℕ) → d < L .disks → c d ≡ true → Ends L c (lower L d) (higher L d)
     ends-disk d l h =
         record {
           set = λ i. eqb i d;

@@ -40,6 +40,10 @@ same-test true b h k = sym (h refl)
 same-test false true h k = k refl
 same-test false false h k = refl
 
+pub eqb-comm : (a b : ℕ) → eqb a b ≡ eqb b a
+eqb-comm a b =
+    same-test (eqb a b) (eqb b a) (λ h. eq-eqb b a (sym (eqb-true a b h))) (λ h. eq-eqb a b (sym (eqb-true b a h)))
+
 -- What holds in both cases of a test holds of its value.
 pub by-cases {ℓ} : (P : Bool → Type ℓ) (b : Bool) → (b ≡ true → P true) → (b ≡ false → P false) → P b
 by-cases P true t f = t refl
@@ -123,6 +127,11 @@ pub gate-split : (b : Bool) (v : ℕ) → v ≡ gate (not b) v ⊕ gate b v
 unfolding gate
 gate-split true v = sym (zero-⊕ v)
 gate-split false v = sym (⊕-zero v)
+
+pub bit-gate : (b : Bool) → bit b ≡ gate b 1
+unfolding bit gate
+bit-gate true = refl
+bit-gate false = refl
 
 pub gate-small : (b : Bool) {v : ℕ} → v < 256 → gate b v < 256
 unfolding gate

@@ -1,7 +1,7 @@
 -- The laws of joined stripes and of the parts that they make.
 -- Assumes nothing.
 use mathlib.Core.Path.{_≡_, refl, sym, _∙_, ap, ap₂, subst}
-use mathlib.Core.Bool.{Bool, true, false, cond}
+use mathlib.Core.Bool.{Bool, true, false, cond, not}
 use mathlib.Core.Logic.{⊎-elim}
 use Prim.Native.Nat.{ℕ, zero, suc, _≤_, _<_}
 use native.Mathlib.Nat.{eq-or-lt-of-le, le-of-suc-le-suc, lt-suc-self, le-step}
@@ -9,8 +9,8 @@ use native.Mathlib.Omega.{arith}
 use borrow.Author.Tests.{eq-eqb, eqb-true}
 use lib.Dec.{eqb}
 use Rattle.stripes.specs.System.{Layout, TwoStripes, lower, higher, firstOf, otherThan}
-use Rattle.stripes.specs.Joined.{united, partBy, part, joined}
-use Rattle.stripes.proofs.Fold.{by-cases}
+use Rattle.stripes.specs.Joined.{united, partBy, part, joined, crosses}
+use Rattle.stripes.proofs.Fold.{by-cases, eqb-comm}
 use Rattle.stripes.proofs.Degree.{low-bound, other-first}
 
 -- ---- the two stripes of a disk
@@ -128,8 +128,12 @@ module _ (L : Layout) (c : ℕ → Bool) where
   pub joined-self : (s : ℕ) → joined L c s s ≡ true
   joined-self s = joined-of s s refl
 
+  pub joined-comm : (s t : ℕ) → joined L c s t ≡ joined L c t s
+  unfolding joined
+  joined-comm s t = eqb-comm (part L c s) (part L c t)
+
   pub joined-back : (s t : ℕ) → joined L c s t ≡ true → joined L c t s ≡ true
-  joined-back s t h = joined-of t s (sym (is-joined s t h))
+  joined-back s t h = sym (joined-comm s t) ∙ h
 
   pub joined-chain : (r s t : ℕ) → joined L c r s ≡ true → joined L c s t ≡ true → joined L c r t ≡ true
   joined-chain r s t h k = joined-of r t (is-joined r s h ∙ is-joined s t k)
@@ -156,3 +160,12 @@ module _ (L : Layout) (c : ℕ → Bool) where
   joined-least R j s t h =
       j .chain s (part L c s) t (part-least L c (L .disks) R j s)
       (j .back t (part L c s) (subst (R t) (sym (is-joined s t h)) (part-least L c (L .disks) R j t)))
+
+  -- A disk between joined stripes has both or none of them in any one part.
+  pub joined-whole : (d t : ℕ) → joined L c (lower L d) (higher L d) ≡ true → crosses L (λ s. joined L c s t) d ≡ false
+  unfolding joined crosses
+  joined-whole d t h = rw (is-joined (lower L d) (higher L d) h) (neither (eqb (part L c (higher L d)) (part L c t)))
+    where
+      neither : (b : Bool) → cond b (not b) b ≡ false
+      neither true = refl
+      neither false = refl

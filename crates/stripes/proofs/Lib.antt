@@ -15,4 +15,5 @@ pub mod Clears
 pub mod Parts
 pub mod Joined
 pub mod Ends
+pub mod Undetermined
 pub mod Theorems

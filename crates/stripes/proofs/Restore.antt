@@ -169,6 +169,13 @@ module _ (L : Layout) (x : Stretch) (inside : x .offset + x .width ≤ x .block)
 
 -- ---- zeros on the erased disks
 
+-- Where two arrays agree on the survivors, they are the same with zeros on the erased disks.
+pub agree-gate : (L : Layout) (x : Stretch) (e : ℕ → Bool) (a b : List ℕ) → Agree L x e a b
+    → (d : ℕ) → d < L .disks → (p : ℕ) → p < x .width → gate (not (e d)) (byte x a d p) ≡ gate (not (e d)) (byte x b d p)
+unfolding gate
+agree-gate L x e a b agree d l p h =
+    by-cases (λ (t : Bool). gate (not t) (byte x a d p) ≡ gate (not t) (byte x b d p)) (e d) (λ k. refl) (λ k. agree d l k p h)
+
 module _ (L : Layout) (x : Stretch) where
   -- Repairs leave what stands outside the stretch.
   rebuilt-outside : (a : List ℕ) (w : List Entry) (i : ℕ) → covers x (i % x .block) ≡ false → getD (rebuilt L x a w) i 0 ≡ getD a i 0
@@ -180,15 +187,11 @@ module _ (L : Layout) (x : Stretch) where
   module _ (inside : x .offset + x .width ≤ x .block) (e : ℕ → Bool) (a : List ℕ) (sized : length a ≡ L .disks * x .block) where
     zeroed-agree : (b : List ℕ) → length b ≡ length a → Agree L x e a b
         → ((i : ℕ) → covers x (i % x .block) ≡ false → getD b i 0 ≡ getD a i 0) → zeroed x b e ≡ zeroed x a e
-    unfolding zeroed gate
+    unfolding zeroed
     zeroed-agree b long agree kept =
         changed-is x inside (L .disks) a sized _ (zeroed x b e) (length-changed x b _ ∙ long)
-        (λ d p l h. byte-changed x inside (L .disks) b (long ∙ sized) _ d p l h ∙ same d p l h (e d) refl)
+        (λ d p l h. byte-changed x inside (L .disks) b (long ∙ sized) _ d p l h ∙ sym (agree-gate L x e a b agree d l p h))
         (λ i k. changed-outside x b _ i k ∙ kept i k)
-      where
-        same : (d p : ℕ) → d < L .disks → p < x .width → (t : Bool) → e d ≡ t → gate (not t) (byte x b d p) ≡ gate (not t) (byte x a d p)
-        same d p l h true k = refl
-        same d p l h false k = sym (agree d l k p h)
 
     -- So nothing is left of repairs.
     pub zeroed-rebuilt : (w : List Entry) → Peels L e w → zeroed x (rebuilt L x a w) e ≡ zeroed x a e

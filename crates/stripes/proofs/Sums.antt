@@ -6,13 +6,13 @@ use mathlib.Core.List.{List}
 use Prim.Native.Nat.{ℕ, _<_}
 use borrow.Author.Tests.{eq-eqb, ne-eqb, eqb-true, eqb-false}
 use lib.Dec.{eqb}
-use Rattle.stripes.specs.Fold.{_⊕_, gate}
+use Rattle.stripes.specs.Fold.{_⊕_, xsum, gate}
 use Rattle.stripes.specs.System.{Layout, sumOver, stripeSum, sumsToZero, on, consistent}
 use Rattle.stripes.specs.declared.Stretch.{Stretch}
-use Rattle.stripes.proofs.Fold.{xsum-ext, xsum-⊕, xsum-only, gate-⊕, every-at, every-all, every-not, every-fails, gate-split, gate-zero}
+use Rattle.stripes.proofs.Fold.{xsum-ext, xsum-⊕, xsum-swap, xsum-only, gate-⊕, gate-xsum, every-at, every-all, every-not, every-fails, gate-split, gate-zero}
 use mathlib.Core.Logic.{_↔_}
 
--- Sums over a stripe: of equal functions, and of an exclusive or.
+-- Sums over a stripe: of equal functions, of an exclusive or, and of sums.
 pub sumOver-ext : (L : Layout) {f g : ℕ → ℕ} → ((d : ℕ) → d < L .disks → f d ≡ g d) → (s : ℕ) → sumOver L f s ≡ sumOver L g s
 unfolding sumOver
 sumOver-ext L h s = xsum-ext (L .disks) (λ d l. ap (gate _) (h d l))
@@ -20,6 +20,11 @@ sumOver-ext L h s = xsum-ext (L .disks) (λ d l. ap (gate _) (h d l))
 pub sumOver-⊕ : (L : Layout) (f g : ℕ → ℕ) (s : ℕ) → sumOver L (λ d. f d ⊕ g d) s ≡ sumOver L f s ⊕ sumOver L g s
 unfolding sumOver
 sumOver-⊕ L f g s = xsum-ext (L .disks) (λ d l. gate-⊕ _ (f d) (g d)) ∙ xsum-⊕ (L .disks) _ _
+
+pub sumOver-xsum : (L : Layout) (n : ℕ) (f : ℕ → ℕ → ℕ) (s : ℕ) → sumOver L (λ d. xsum n (λ i. f i d)) s ≡ xsum n (λ i. sumOver L (f i) s)
+unfolding sumOver
+sumOver-xsum L n f s =
+    xsum-ext (L .disks) (λ d l. gate-xsum (on L d s) n (λ i. f i d)) ∙ xsum-swap (L .disks) n (λ d i. gate (on L d s) (f i d))
 
 -- The sum over a stripe is that of the others and what the disk itself has.
 module _ (L : Layout) (f : ℕ → ℕ) (d s : ℕ) (below : d < L .disks) (there : on L d s ≡ true) where
