@@ -13,17 +13,11 @@ use Rattle.stripes.specs.Joined.{joined, crosses}
 use Rattle.stripes.proofs.Xor.{⊕-comm, ⊕-self, ⊕-assoc, ⊕-cancel}
 use Rattle.stripes.proofs.Fold.{by-cases, xsum-ext, xsum-zero, xsum-⊕, xsum-swap, gate-⊕, gate-zero, gate-swap, gate-one, gate-or, gate-xsum, xsum-at, and-right}
 use Rattle.stripes.proofs.Sums.{sumOver-ext, sumOver-⊕}
-use Rattle.stripes.proofs.Degree.{total, total-ext, total-zero, total-swap, count-total, count-where, low-bound, on-two, on-among}
-use Rattle.stripes.proofs.Joined.{lower-is, higher-is, joined-least}
+use Rattle.stripes.proofs.Degree.{total, total-ext, total-zero, total-swap, count-total, count-where, on-two, on-among}
+use Rattle.stripes.proofs.Joined.{lower-is, higher-is, lower-bound, higher-bound, joined-least}
 
 -- ---- a disk on its two stripes
 module _ (L : Layout) (two : TwoStripes L) (d : ℕ) (inside : d < L .disks) where
-  pub lower-bound : lower L d < L .stripeBound
-  lower-bound = let low = low-bound L two d inside in let same = lower-is L two d inside in omega arith
-
-  pub higher-bound : higher L d < L .stripeBound
-  higher-bound = let high = two .bound d inside in let same = higher-is L two d inside in omega arith
-
   pub on-gate : (s v : ℕ) → gate (on L d s) v ≡ gate (eqb s (lower L d)) v ⊕ gate (eqb s (higher L d)) v
   on-gate s v =
       rw (higher-is L two d inside, lower-is L two d inside, on-two L two d inside s)

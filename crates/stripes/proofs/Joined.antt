@@ -2,7 +2,7 @@
 -- Assumes nothing.
 use mathlib.Core.Path.{_≡_, refl, sym, _∙_, ap, ap₂, subst}
 use mathlib.Core.Bool.{Bool, true, false, cond, not}
-use mathlib.Core.Logic.{⊎-elim}
+use mathlib.Core.Logic.{⊎-elim, _↔_}
 use Prim.Native.Nat.{ℕ, zero, suc, _≤_, _<_}
 use native.Mathlib.Nat.{eq-or-lt-of-le, le-of-suc-le-suc, lt-suc-self, le-step}
 use native.Mathlib.Omega.{arith}
@@ -23,6 +23,12 @@ module _ (L : Layout) (two : TwoStripes L) (d : ℕ) (inside : d < L .disks) whe
   higher-is =
       let order = two .order d inside in
       ap₂ otherThan lower-is (two .two d inside) ∙ other-first (two .low d) (two .high d) (λ q. omega arith)
+
+  pub lower-bound : lower L d < L .stripeBound
+  lower-bound = let low = low-bound L two d inside in let same = lower-is in omega arith
+
+  pub higher-bound : higher L d < L .stripeBound
+  higher-bound = let high = two .bound d inside in let same = higher-is in omega arith
 
 -- ---- parts after some disks
 
@@ -66,20 +72,6 @@ module _ (L : Layout) (c : ℕ → Bool) where
       ∙ part-skip j k (le-of-suc-le-suc w) (λ i m b. none i m (le-step b)))
       (eq-or-lt-of-le l)
 
-  -- A part is named by a stripe: below any bound on these.
-  pub part-bound : TwoStripes L → (n : ℕ) → L .stripeBound ≤ n → (k s : ℕ) → k ≤ L .disks → s < n → partBy L c k s < n
-  unfolding partBy united
-  part-bound two n bound zero s l h = h
-  part-bound two n bound (suc k) s l h =
-      let low = low-bound L two k l in
-      let first = lower-is L two k l in
-      let up : (s : ℕ) → s < n → partBy L c k s < n = λ s. part-bound two n bound k s (omega arith) in
-      by-cases (λ (b : Bool). cond b (united (lower L k) (higher L k) (partBy L c k)) (partBy L c k) s < n) (c k)
-      (λ b.
-      by-cases (λ (b : Bool). cond b (partBy L c k (lower L k)) (partBy L c k s) < n) (eqb (partBy L c k s) (partBy L c k (higher L k)))
-      (λ q. up (lower L k) (omega arith)) (λ q. up s h))
-      (λ b. up s h)
-
 -- The parts after k disks depend on these only.
 pub part-same : (L : Layout) (c f : ℕ → Bool) (k : ℕ) → ((i : ℕ) → i < k → c i ≡ f i) → partBy L c k ≡ partBy L f k
 unfolding partBy
@@ -115,6 +107,21 @@ part-least L c (suc k) R j s =
     (λ q. up s))
     (λ h. up s)
 
+-- So the name is below any bound on the stripes.
+pub part-bound : (L : Layout) (c : ℕ → Bool) → TwoStripes L → (n : ℕ) → L .stripeBound ≤ n → (k s : ℕ) → k ≤ L .disks → s < n
+    → partBy L c k s < n
+part-bound L c two n bound k s l h =
+    part-least L c k (λ s t. (s < n) ↔ (t < n))
+    (record {
+      self = λ s. (λ a. a, λ a. a);
+      back = λ s t f. (f .1, f .0);
+      chain = λ r s t f g. (λ a. g .0 (f .0 a), λ a. f .1 (g .1 a));
+      disk = λ d w q.
+          let first = lower-bound L two d (omega arith) in
+          let second = higher-bound L two d (omega arith) in
+          (λ a. omega arith, λ a. omega arith);
+    }) s .0 h
+
 module _ (L : Layout) (c : ℕ → Bool) where
   -- Joined is in one part.
   pub joined-of : (s t : ℕ) → part L c s ≡ part L c t → joined L c s t ≡ true
@@ -146,7 +153,7 @@ module _ (L : Layout) (c : ℕ → Bool) where
       (part-stays L c (suc d) (L .disks) (lower L d) (higher L d) l
       (rw (part-united L c d h) (united-both (lower L d) (higher L d) (partBy L c d))))
 
-  pub joined-all : Joins L c (L .disks) (λ s t. joined L c s t ≡ true)
+  joined-all : Joins L c (L .disks) (λ s t. joined L c s t ≡ true)
   joined-all = record { self = joined-self; back = joined-back; chain = joined-chain; disk = joined-disk }
 
   -- Each stripe is joined with the one that names its part.
