@@ -17,7 +17,7 @@ use Rattle.stripes.specs.Repair.{repairs, fatal}
 use Rattle.stripes.specs.Cycle.{closing, core, Paired}
 use Rattle.stripes.specs.declared.Stretch.{Stretch}
 use Rattle.stripes.proofs.Xor.{zero-⊕, ⊕-zero, ⊕-self}
-use Rattle.stripes.proofs.Fold.{and-left, and-right, and-both, by-cases, lt-or-le, xsum-ext, xsum-zero, gate-zero, bit-le, count-some, count-found, count-without, Lowest, lowest-is, length-tabulate, getD-tabulate}
+use Rattle.stripes.proofs.Fold.{and-left, and-right, and-both, fails-with, by-cases, lt-or-le, xsum-ext, xsum-zero, gate-zero, bit-le, count-some, count-found, count-without, Lowest, lowest-is, length-tabulate, getD-tabulate}
 use Rattle.stripes.proofs.Peel.{Within, Stuck, without-at, without-other, without-sub, stuck-other, repairs-peels, residual-stuck, residual-sub, is-fatal, fatal-of-stuck, fatal-mono, repairs-count}
 use Rattle.stripes.proofs.Erased.{below-is, is-below}
 use Rattle.stripes.proofs.Degree.{total, total-times, total-squeeze, count-total, count-two, Other, count-other, degree, touched, touches, on-low, on-bound, degrees, touching, touched-mono, peels-fewer}
@@ -237,7 +237,7 @@ ones-differ L x fits some c e zero-sums sub d l h = (
   ones-codeword L x (λ d. false) fits (λ s. xsum-zero (L .disks) (λ d l. gate-zero (on L d s))),
   ones-codeword L x c fits zero-sums,
   (λ d l k p b.
-      let kept : c d ≡ false = by-cases (λ (t : Bool). t ≡ false) (c d) (λ q. sym (sub d q) ∙ k) (λ q. refl) in
+      let kept : c d ≡ false = fails-with (c d) (e d) (sub d) k in
       ones-byte L x (λ d. false) fits d p l b ∙ sym (ones-byte L x c fits d p l b ∙ ap bit kept)),
   (
     0,

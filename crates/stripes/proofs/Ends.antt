@@ -18,6 +18,7 @@ use Rattle.stripes.proofs.Joined.{lower-is, higher-is, lower-bound, hig
 
 -- ---- a disk on its two stripes
 module _ (L : Layout) (two : TwoStripes L) (d : ℕ) (inside : d < L .disks) where
+  -- What lies on a stripe of this disk lies on the lower or on the higher one.
   pub on-gate : (s v : ℕ) → gate (on L d s) v ≡ gate (eqb s (lower L d)) v ⊕ gate (eqb s (higher L d)) v
   on-gate s v =
       rw (higher-is L two d inside, lower-is L two d inside, on-two L two d inside s)

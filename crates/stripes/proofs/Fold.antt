@@ -40,6 +40,11 @@ same-test true b h k = sym (h refl)
 same-test false true h k = k refl
 same-test false false h k = refl
 
+-- A test fails where one that follows from it does.
+pub fails-with : (a b : Bool) → (a ≡ true → b ≡ true) → b ≡ false → a ≡ false
+fails-with true b h k = sym (h refl) ∙ k
+fails-with false b h k = refl
+
 pub eqb-comm : (a b : ℕ) → eqb a b ≡ eqb b a
 eqb-comm a b =
     same-test (eqb a b) (eqb b a) (λ h. eq-eqb b a (sym (eqb-true a b h))) (λ h. eq-eqb a b (sym (eqb-true b a h)))

@@ -15,7 +15,7 @@ use Rattle.stripes.specs.Joined.{part, joined, crosses}
 use Rattle.stripes.specs.Undetermined.{undetermined, determined, survivorSum, partSum, partsCancel, savedByte}
 use Rattle.stripes.specs.declared.Stretch.{Stretch}
 use Rattle.stripes.proofs.Xor.{⊕-self, ⊕-zero, zero-⊕, ⊕-cancel, equal-of-zero}
-use Rattle.stripes.proofs.Fold.{eqb-comm, bit-gate, and-left, and-right, and-both, by-cases, xsum-ext, xsum-zero, xsum-only, xsum-at, xsum-byte, xsum-⊕, gate-zero, gate-and, gate-split, gate-small, every-at, every-all}
+use Rattle.stripes.proofs.Fold.{fails-with, eqb-comm, bit-gate, and-left, and-right, and-both, by-cases, xsum-ext, xsum-zero, xsum-only, xsum-at, xsum-byte, xsum-⊕, gate-zero, gate-and, gate-split, gate-small, every-at, every-all}
 use Rattle.stripes.proofs.Bytes.{small-byte, length-changed, changed-small, byte-changed}
 use Rattle.stripes.proofs.Sums.{sumOver-ext, sumOver-⊕, sumOver-xsum}
 use Rattle.stripes.proofs.Peel.{without-at, without-other, without-sub}
@@ -112,10 +112,9 @@ module _ (L : Layout) (two : TwoStripes L) (x : Stretch) (e : ℕ → Bool) wher
 
   carried-none : (a : List ℕ) (d p : ℕ) → e d ≡ false → carried a d p ≡ 0
   unfolding carried gate
-  carried-none a d p h = xsum-zero (L .stripeBound) (λ s l. ap (λ (b : Bool). gate b (survivorSum L x e a p s)) (out s))
-    where
-      out : (s : ℕ) → way s .set d ≡ false
-      out s = by-cases (λ (b : Bool). b ≡ false) (way s .set d) (λ q. sym (way s .within d q) ∙ h) (λ q. refl)
+  carried-none a d p h =
+      xsum-zero (L .stripeBound) (λ s l.
+      ap (λ (b : Bool). gate b (survivorSum L x e a p s)) (fails-with (way s .set d) (e d) (way s .within d) h))
 
   -- On each stripe this is its own sum, and all that arrives.
   carried-sum : (a : List ℕ) (p t : ℕ) → t < L .stripeBound
@@ -217,8 +216,7 @@ module _ (L : Layout) (two : TwoStripes L) (x : Stretch) (e : ℕ → Bool) wher
   closed d l h =
       let c : ℕ → Bool = without e d in
       let f : Ends L c (lower L d) (higher L d) = joined-ends-of L c two (lower L d) (higher L d) (and-right (e d) _ h) in
-      let out : f .set d ≡ false =
-      by-cases (λ (b : Bool). b ≡ false) (f .set d) (λ q. sym (f .within d q) ∙ without-at e d) (λ q. refl) in (
+      let out : f .set d ≡ false = fails-with (f .set d) (c d) (f .within d) (without-at e d) in (
         ends-chain L e (lower L d) (higher L d) (lower L d)
             (ends-disk L e two d l (and-left (e d) _ h))
             (ends-wider L c e (without-sub e d) (higher L d) (lower L d) (ends-back L c (lower L d) (higher L d) f)),
