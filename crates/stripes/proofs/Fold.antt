@@ -321,6 +321,15 @@ count-without (suc n) t i l h =
     omega arith)
     (eq-or-lt-of-le (le-of-suc-le-suc l))
 
+-- Where each number counts in one of two tests as it does in a third, the two count as many as the third.
+pub count-split : (n : ℕ) (t u v : ℕ → Bool) → ((i : ℕ) → i < n → bit (u i) + bit (v i) ≡ bit (t i)) → count n u + count n v ≡ count n t
+unfolding count
+count-split zero t u v h = refl
+count-split (suc n) t u v h =
+    let up = count-split n t u v (λ i l. h i (le-step l)) in
+    let here = h n (lt-suc-self n) in
+    omega arith
+
 -- A test that holds of the same numbers but one counts one less, if that one counted.
 pub count-but : (n : ℕ) (t u : ℕ → Bool) (i : ℕ) → i < n → u i ≡ false → ((j : ℕ) → (j ≡ i → ⊥) → u j ≡ t j) → count n u + bit (t i) ≡ count n t
 unfolding bit

@@ -16,4 +16,5 @@ pub mod Parts
 pub mod Joined
 pub mod Ends
 pub mod Undetermined
+pub mod Saved
 pub mod Theorems

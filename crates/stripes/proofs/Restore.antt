@@ -19,7 +19,7 @@ use Rattle.stripes.proofs.Xor.{equal-of-zero}
 use Rattle.stripes.proofs.Fold.{and-both, by-cases, xsum-ext, xsum-byte, gate-small}
 use Rattle.stripes.proofs.Bytes.{small-byte, byte-changed, whole-equal, changed-small, length-changed, covers, changed-is, changed-outside, whole-inside}
 use Rattle.stripes.proofs.Sums.{sumOver-ext, others-and-own, consistent-iff}
-use Rattle.stripes.proofs.Peel.{without-other, Allowed, allowed-is, repairs-peels, not-fatal}
+use Rattle.stripes.proofs.Peel.{without-other, without-apart, after-sub, Allowed, allowed-is, repairs-peels, not-fatal}
 
 -- ---- repairs
 
@@ -118,6 +118,15 @@ module _ (L : Layout) (x : Stretch) (inside : x .offset + x .width ≤ x .block)
       repaired-keeps e a sized r (peels .0) d l k p h
       ∙ rebuilt-keeps (without e (r .disk)) (repaired L x a r) (length-repaired L x a r ∙ sized) rs (peels .1) d l (without-none e (r .disk) d k) p h
 
+  -- They leave the disks that are still erased after them, too.
+  pub rebuilt-left : (e : ℕ → Bool) (a : List ℕ) → length a ≡ L .disks * x .block → (w : List Entry)
+      → (d : ℕ) → d < L .disks → after e w d ≡ true → (p : ℕ) → p < x .width → byte x (rebuilt L x a w) d p ≡ byte x a d p
+  unfolding rebuilt after
+  rebuilt-left e a sized [] d l k p h = refl
+  rebuilt-left e a sized (r ∷ rs) d l k p h =
+      rebuilt-left (without e (r .disk)) (repaired L x a r) (length-repaired L x a r ∙ sized) rs d l k p h
+      ∙ repaired-others L x inside a sized r d l (without-apart e (r .disk) d (after-sub (without e (r .disk)) rs d k)) p h
+
   -- Where two arrays agree on the survivors, a repair gives its disk the same bytes in both.
   pub agree-step : (e : ℕ → Bool) (a b : List ℕ) → length a ≡ L .disks * x .block → length b ≡ L .disks * x .block → (r : Entry)
       → allowed L e (r .disk) (r .stripe) ≡ true → Agree L x e a b → Agree L x (without e (r .disk)) (repaired L x a r) (repaired L x b r)
@@ -178,7 +187,7 @@ agree-gate L x e a b agree d l p h =
 
 module _ (L : Layout) (x : Stretch) where
   -- Repairs leave what stands outside the stretch.
-  rebuilt-outside : (a : List ℕ) (w : List Entry) (i : ℕ) → covers x (i % x .block) ≡ false → getD (rebuilt L x a w) i 0 ≡ getD a i 0
+  pub rebuilt-outside : (a : List ℕ) (w : List Entry) (i : ℕ) → covers x (i % x .block) ≡ false → getD (rebuilt L x a w) i 0 ≡ getD a i 0
   unfolding rebuilt repaired
   rebuilt-outside a [] i k = refl
   rebuilt-outside a (r ∷ rs) i k = rebuilt-outside (repaired L x a r) rs i k ∙ changed-outside x a _ i k

@@ -1,16 +1,18 @@
--- The theorems on stripe systems: what repairs bring back, and when a loss is fatal.
+-- The theorems on stripe systems: what repairs bring back, when a loss is fatal, and what the survivors determine.
 -- Assumes nothing.
 use mathlib.Core.Path.{_≡_, refl}
 use mathlib.Core.Bool.{Bool, true, false}
 use mathlib.Core.Logic.{_↔_}
 use mathlib.Core.List.{List}
-use Prim.Native.Nat.{ℕ, _*_, _<_}
+use Prim.Native.Nat.{ℕ, _+_, _*_, _≤_, _<_}
 use lib.ListN.{length, take, drop}
 use Rattle.stripes.specs.Fold.{count}
-use Rattle.stripes.specs.System.{Layout, Ordered, TwoStripes, whole, Codeword, Bytes, consistent}
-use Rattle.stripes.specs.Erased.{Agree, Belongs, Ambiguous}
+use Rattle.stripes.specs.System.{Layout, Ordered, TwoStripes, whole, byte, Codeword, Bytes, consistent}
+use Rattle.stripes.specs.Erased.{Agree, Belongs, Ambiguous, AmbiguousIn}
 use Rattle.stripes.specs.Repair.{Entry, Peels, repairs, after, residual, fatal, rebuilt, InOrder}
 use Rattle.stripes.specs.Cycle.{Cycle}
+use Rattle.stripes.specs.Undetermined.{undetermined, determined, lost, partsCancel, savedByte}
+use Rattle.stripes.specs.declared.Stretch.{Stretch}
 use Rattle.stripes.proofs.Fold.{by-cases}
 use Rattle.stripes.proofs.Bytes.{whole-inside}
 use Rattle.stripes.proofs.Peel.{Stuck, residual-stuck, order-free-all, repairs-count, in-order}
@@ -19,6 +21,8 @@ use Rattle.stripes.proofs.Core.{ambiguous}
 use Rattle.stripes.proofs.Trace.{cycle-fatal, shown}
 use Rattle.stripes.proofs.Restore.{judge, restored-is, unique}
 use Rattle.stripes.proofs.Parts.{repairs-rest, fatal-rest}
+use Rattle.stripes.proofs.Undetermined.{saved-byte, belongs-iff, undetermined-iff}
+use Rattle.stripes.proofs.Saved.{fatal-lost as Saved·fatal-lost, reached-determined as Saved·reached-determined, undetermined-after}
 
 -- ---- where the stripes of a disk are listed in rising order
 module _ (L : Layout) (e : ℕ → Bool) where
@@ -73,3 +77,32 @@ module _ (L : Layout) (two : TwoStripes L) (e : ℕ → Bool) where
     λ lossy. ambiguous L two (whole B) e lossy some (whole-inside B),
     λ both. by-cases (λ (f : Bool). f ≡ true) (fatal L e) (λ lossy. refl) (λ fine. absurd (all-unique L e (two-ordered L two) fine B both)),
   )
+
+  -- A loss is fatal exactly if some disk is undetermined.
+  pub fatal-lost : (fatal L e ≡ true) ↔ (0 < lost L e)
+  fatal-lost = Saved·fatal-lost L two e
+
+  module _ (x : Stretch) where
+    -- A disk is undetermined exactly if two codewords agree on the survivors and differ in it.
+    pub undetermined-differ : x .offset + x .width ≤ x .block → 0 < x .width → (d : ℕ) → d < L .disks
+        → (undetermined L e d ≡ true) ↔ AmbiguousIn L x e d
+    undetermined-differ = undetermined-iff L two x e
+
+    -- Every determined disk is saved: sums of survivors give it the bytes of the codeword that the survivors belong to.
+    pub all-saved : (a b : List ℕ) → Codeword L x b → Agree L x e a b → (d : ℕ) → d < L .disks → determined L e d ≡ true
+        → (p : ℕ) → p < x .width → savedByte L x e a d p ≡ byte x b d p
+    all-saved = saved-byte L two x e
+
+    -- There is such a codeword exactly if the sums of the survivors cancel in each part that the erased disks make.
+    pub parts-judged : x .offset + x .width ≤ x .block → (a : List ℕ) → length a ≡ L .disks * x .block → Bytes a
+        → (partsCancel L x e a ≡ true) ↔ Belongs L x e a
+    parts-judged = belongs-iff L two x e
+
+  module _ (w : List Entry) (peels : Peels L e w) where
+    -- What repairs bring back is determined,
+    pub reached-determined : (d : ℕ) → d < L .disks → e d ≡ true → after e w d ≡ false → determined L e d ≡ true
+    reached-determined = Saved·reached-determined L two e w peels
+
+    -- and whether a disk is undetermined stays the same after repairs.
+    pub left-same : (d : ℕ) → d < L .disks → undetermined L e d ≡ undetermined L (after e w) d
+    left-same = undetermined-after L two e w peels
