@@ -254,10 +254,13 @@ pub differ-in : (L : Layout) (x : Stretch) (e : ℕ → Bool) (d : ℕ) → Ambi
 differ-in L x e d (a, b, first, second, same, (p, h, differ)) =
     (a, b, first, second, same, λ q. differ (ap (λ (a : List ℕ). byte x a d p) q))
 
--- So after a fatal loss the survivors do not determine the array.
-pub ambiguous : (L : Layout) → TwoStripes L → (x : Stretch) (e : ℕ → Bool)
-    → fatal L e ≡ true → 0 < x .width → x .offset + x .width ≤ x .block → Ambiguous L x e
-ambiguous L two x e lossy some fits =
-    let (d, l, h) = core-some L e lossy in
-    differ-in L x e d
-    (ones-differ L x fits some (core L e) e (paired-sum L (core L e) (core-paired L two e lossy)) (core-sub L e) d l h)
+-- So after a fatal loss the survivors leave a disk of the core open, and do not determine the array.
+module _ (L : Layout) (two : TwoStripes L) (x : Stretch) (e : ℕ → Bool) (lossy : fatal L e ≡ true)
+    (some : 0 < x .width) (fits : x .offset + x .width ≤ x .block) where
+  pub ambiguous-in : (d : ℕ) × (d < L .disks) × AmbiguousIn L x e d
+  ambiguous-in =
+      let (d, l, h) = core-some L e lossy in
+      (d, l, ones-differ L x fits some (core L e) e (paired-sum L (core L e) (core-paired L two e lossy)) (core-sub L e) d l h)
+
+  pub ambiguous : Ambiguous L x e
+  ambiguous = let (d, l, both) = ambiguous-in in differ-in L x e d both

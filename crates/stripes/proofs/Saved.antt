@@ -7,20 +7,18 @@ use mathlib.Core.Logic.{_↔_}
 use mathlib.Core.List.{List}
 use Prim.Native.Nat.{ℕ, _+_, _*_, _≤_, _<_}
 use native.Mathlib.Omega.{arith}
-use borrow.Author.Tests.{eqb-true, eqb-false}
-use lib.Dec.{eqb}
 use lib.ListN.{length}
-use Rattle.stripes.specs.Fold.{every, bit, count}
+use Rattle.stripes.specs.Fold.{bit, count}
 use Rattle.stripes.specs.System.{Layout, TwoStripes, whole, byte, Codeword}
-use Rattle.stripes.specs.Erased.{Agree, Belongs, Ambiguous, AmbiguousIn}
+use Rattle.stripes.specs.Erased.{Agree, Belongs, AmbiguousIn}
 use Rattle.stripes.specs.Repair.{Entry, Peels, repairs, after, fatal, rebuilt}
 use Rattle.stripes.specs.Undetermined.{undetermined, determined, lost, savedByte, saved}
 use Rattle.stripes.specs.declared.Stretch.{Stretch}
-use Rattle.stripes.proofs.Fold.{and-left, by-cases, same-test, every-at, every-fails, count-ext, count-some, count-found, count-split}
-use Rattle.stripes.proofs.Bytes.{byte-changed, whole-equal, whole-inside, length-changed, changed-is, changed-outside, changed-self}
+use Rattle.stripes.proofs.Fold.{and-left, by-cases, same-test, count-ext, count-some, count-found, count-split}
+use Rattle.stripes.proofs.Bytes.{byte-changed, whole-inside, length-changed, changed-is, changed-outside, changed-self}
 use Rattle.stripes.proofs.Peel.{after-sub, peel-count, repairs-peels}
 use Rattle.stripes.proofs.Degree.{two-ordered}
-use Rattle.stripes.proofs.Core.{ambiguous}
+use Rattle.stripes.proofs.Core.{differ-in, ambiguous-in}
 use Rattle.stripes.proofs.Restore.{Bounded, length-rebuilt, rebuilt-outside, rebuilt-left, restore, none-left, restored-is, unique}
 use Rattle.stripes.proofs.Undetermined.{saved-byte, undetermined-iff}
 
@@ -53,31 +51,6 @@ pub determined-count : (L : Layout) (e : ℕ → Bool) → count (L .disks) (det
 unfolding lost
 determined-count L e = count-split (L .disks) e (determined L e) (undetermined L e) (λ d l. either-bit L e d)
 
--- ---- two codewords that differ
-
--- Two codewords are different exactly if they differ in a disk.
-module _ (L : Layout) (B : ℕ) (e : ℕ → Bool) where
-  pub differ-in : Ambiguous L (whole B) e → (d : ℕ) × (d < L .disks) × AmbiguousIn L (whole B) e d
-  unfolding whole
-  differ-in (a, b, first, second, agree, different) = go (every (L .disks) same) refl
-    where
-      same : ℕ → Bool
-      same d = every B (λ p. eqb (byte (whole B) a d p) (byte (whole B) b d p))
-
-      go : (t : Bool) → every (L .disks) same ≡ t → (d : ℕ) × (d < L .disks) × AmbiguousIn L (whole B) e d
-      go true h =
-          absurd (different
-          (whole-equal (L .disks) B a b (first .sized) (second .sized)
-          (λ d p l k. eqb-true (byte (whole B) a d p) (byte (whole B) b d p) (every-at B _ (every-at (L .disks) same h d l) p k))))
-      go false h =
-          let (d, l, k) = every-fails (L .disks) same h in
-          let (p, w, q) = every-fails B _ k in
-          (d, l, (a, b, first, second, agree, (p, w, eqb-false (byte (whole B) a d p) (byte (whole B) b d p) q)))
-
-  pub differ-somewhere : (d : ℕ) → AmbiguousIn L (whole B) e d → Ambiguous L (whole B) e
-  differ-somewhere d (a, b, first, second, agree, (p, w, differ)) =
-      (a, b, first, second, agree, λ q. differ (ap (λ (c : List ℕ). byte (whole B) c d p) q))
-
 -- ---- repairs change nothing about what is determined
 
 -- Two codewords that agree on the survivors have the same bytes on the disks that repairs bring back.
@@ -105,12 +78,12 @@ module _ (L : Layout) (two : TwoStripes L) where
   unfolding whole lost
   fatal-lost e = (
     λ lossy.
-        let (d, l, differ) = differ-in L 1 e (ambiguous L two (whole 1) e lossy (omega arith) (whole-inside 1)) in
-        count-some (L .disks) (undetermined L e) d l (in-bytes e d l .1 differ),
+        let (d, l, both) = ambiguous-in L two (whole 1) e lossy (omega arith) (whole-inside 1) in
+        count-some (L .disks) (undetermined L e) d l (in-bytes e d l .1 both),
     λ some.
         let (d, l, h) = count-found (L .disks) (undetermined L e) some in
         by-cases (λ (t : Bool). t ≡ true) (fatal L e) (λ lossy. refl)
-        (λ fine. absurd (unique L bounded e fine 1 (differ-somewhere L 1 e d (in-bytes e d l .0 h)))),
+        (λ fine. absurd (unique L bounded e fine 1 (differ-in L (whole 1) e d (in-bytes e d l .0 h)))),
   )
 
   -- So where it is not fatal, none is, and every erased disk is determined.
