@@ -14,7 +14,7 @@ use Rattle.stripes.specs.Erased.{Agree, Belongs, AmbiguousIn}
 use Rattle.stripes.specs.Repair.{Entry, Peels, repairs, after, fatal, rebuilt}
 use Rattle.stripes.specs.Undetermined.{undetermined, determined, lost, savedByte, saved}
 use Rattle.stripes.specs.declared.Stretch.{Stretch}
-use Rattle.stripes.proofs.Fold.{and-left, by-cases, same-test, count-ext, count-some, count-found, count-split}
+use Rattle.stripes.proofs.Fold.{and-left, fails-with, by-cases, same-test, count-ext, count-some, count-found, count-split}
 use Rattle.stripes.proofs.Bytes.{byte-changed, whole-inside, length-changed, changed-is, changed-outside, changed-self}
 use Rattle.stripes.proofs.Peel.{after-sub, peel-count, repairs-peels}
 use Rattle.stripes.proofs.Degree.{two-ordered}
@@ -60,10 +60,6 @@ agree-after L bounded x inside e w peels a b first second same d l k p h =
     sym (restore L x inside bounded a first e a (first .sized) w peels (λ i m n q g. refl) d l k p h)
     ∙ restore L x inside bounded b second e a (first .sized) w peels same d l k p h
 
--- Disks that survive a loss survive what repairs leave of it.
-after-none : (e : ℕ → Bool) (w : List Entry) (d : ℕ) → e d ≡ false → after e w d ≡ false
-after-none e w d h = by-cases (λ (t : Bool). t ≡ false) (after e w d) (λ k. sym (after-sub e w d k) ∙ h) (λ k. refl)
-
 module _ (L : Layout) (two : TwoStripes L) where
   bounded : Bounded L
   bounded = two-ordered L two .bounded
@@ -104,7 +100,7 @@ module _ (L : Layout) (two : TwoStripes L) where
         (a, b, first, second, agree-after L bounded (whole 1) (whole-inside 1) e w peels a b first second same, differ))
         (λ h.
         let (a, b, first, second, same, differ) = in-bytes (after e w) d l .0 h in
-        in-bytes e d l .1 (a, b, first, second, (λ i m k. same i m (after-none e w i k)), differ))
+        in-bytes e d l .1 (a, b, first, second, (λ i m k. same i m (fails-with (after e w i) (e i) (after-sub e w i) k)), differ))
 
     pub lost-after : lost L e ≡ lost L (after e w)
     unfolding lost
@@ -114,8 +110,7 @@ module _ (L : Layout) (two : TwoStripes L) where
     pub reached-determined : (d : ℕ) → d < L .disks → e d ≡ true → after e w d ≡ false → determined L e d ≡ true
     reached-determined d l h gone =
         determined-is L e d h
-        (by-cases (λ (t : Bool). t ≡ false) (undetermined L e d)
-        (λ k. sym (undetermined-erased L (after e w) d (sym (undetermined-after d l) ∙ k)) ∙ gone) (λ k. refl))
+        (fails-with (undetermined L e d) (after e w d) (λ k. undetermined-erased L (after e w) d (sym (undetermined-after d l) ∙ k)) gone)
 
     -- So each repair saves one of the determined disks, and the others are those of what is left.
     pub saved-count : count (L .disks) (determined L e) ≡ length w + count (L .disks) (determined L (after e w))
