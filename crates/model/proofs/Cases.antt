@@ -2,13 +2,16 @@
 -- one byte. What the definitions give, and what the paper says or what its rules come to by hand: they agree.
 -- Assumes nothing.
 use mathlib.Core.Path.{_≡_, refl}
+use mathlib.Core.Bool.{Bool, true, false}
 use mathlib.Core.List.{List, [], _∷_, _++_, map}
 use Prim.Native.Nat.{ℕ}
 use lib.ListN.{replicate}
 use Rattle.stripes.specs.Fold.{xsum, gate, every, bit, count, lowest, tabulate, _⊕_}
 use Rattle.stripes.specs.System.{among, on, whole, byte, sumOver, stripeSum, sumsToZero, changed, consistent, firstOf, otherThan}
 use Rattle.stripes.specs.Erased.{erasures, without, below}
-use Rattle.stripes.specs.Repair.{mapAfter, alone, allowed, firstAllowed, someAllowed, nextDisk, repairOf, peel, repairs, after, residual, lost, fatal, sumOfOthers, repaired, rebuilt, zeroed, allAllowed, clears, residualCount}
+use Rattle.stripes.specs.Repair.{mapAfter, alone, allowed, firstAllowed, someAllowed, nextDisk, repairOf, peel, repairs, after, residual, fatal, sumOfOthers, repaired, rebuilt, zeroed, allAllowed, clears, residualCount}
+use Rattle.stripes.specs.Joined.{united, partBy, part, joined}
+use Rattle.stripes.specs.Undetermined.{undetermined, determined, lost, survivorSum, partSum, partsCancel, savedByte, saved}
 use Rattle.stripes.specs.Cycle.{closing, core, partner, trace, lowestOf, cycleOf, shownCycle}
 use Rattle.model.specs.Grid.{grid, layoutOf, rectangle, rows, columns, across, disks, diskAt, isData, arrayBytes, arrayOf, sideFits, sizeFits, blockFits, mapFits, down}
 use Rattle.model.specs.Equations.{cell, rowData, columnData}
@@ -19,6 +22,7 @@ use Rattle.model.specs.Chain.{entryAt, nextNumber, visited, chainNumbers
 use Rattle.model.specs.Plan.{sheetTests, planTests, planOutcome, outcomeStatus, outcomeCount, lossOutcome, lossSheet, planSheet}
 use Rattle.model.specs.Turn.{clear, lossTold, contradiction, repairsMade, turnRepairs, contradicts, turnOf}
 use Rattle.model.specs.Rebuild.{bufferTests, rebuildTests, rebuildRefusal, rebuildTurn}
+use Rattle.model.specs.Save.{mapTests, saveTests, saveStatus, saveAnswer, saveArray, savingStatus, savingCount, saveLayout}
 use Rattle.model.specs.Follow.{followedArray, followTests, followStatus, followOutcome, followArray}
 use Rattle.model.specs.Listing.{digit, decimal, repairWord, fatalWord, refusedWord, entryLines, listed, listing}
 use Rattle.model.specs.declared.Size.{Size}
@@ -75,8 +79,12 @@ followed : Size → (a m sheet : List ℕ) → List ℕ
 followed z a m sheet =
     outcomeStatus (followOutcome z 1 a m sheet) ∷ outcomeCount (followOutcome z 1 a m sheet) 99 ∷ followArray z 1 a m sheet
 
+-- What save gives for an array and a map: the number, the count, the array.
+rescued : Size → (a m : List ℕ) → List ℕ
+rescued z a m = savingStatus (saveAnswer z 1 a m) ∷ savingCount (saveAnswer z 1 a m) 99 ∷ saveArray z 1 a m
+
 unfoldable pub cases : List Case
-unfolding two wide high A W H planned turned restored followed
+unfolding two wide high A W H planned turned restored followed rescued
 cases =
     -- Data 1 2 / 4 8 seals to A, whatever stands in the parities' place.
     record {
@@ -241,10 +249,38 @@ cases =
           ∷ 114 ∷ 101 ∷ 112 ∷ 97 ∷ 105 ∷ 114 ∷ 32 ∷ 51 ∷ 10 ∷ 48 ∷ 32 ∷ 48 ∷ 10 ∷ 51 ∷ 32 ∷ 49 ∷ 10 ∷ 56 ∷ 32 ∷ 50 ∷ 10
           ∷ 0 ∷ 3 ∷ W;
     }
+    -- Save on A: with disks 0, 1, 3, 4 and 8 erased disk 8 comes back and the others keep their bytes; where disk 2 then holds 7, all
+    -- erased blocks become 0.
+    ∷ record {
+      number = 0;
+      computed =
+          rescued two (9 ∷ 8 ∷ 3 ∷ 7 ∷ 6 ∷ 12 ∷ 5 ∷ 10 ∷ 4 ∷ []) (1 ∷ 1 ∷ 0 ∷ 1 ∷ 1 ∷ 0 ∷ 0 ∷ 0 ∷ 1 ∷ [])
+          ++ rescued two (9 ∷ 8 ∷ 7 ∷ 7 ∷ 6 ∷ 12 ∷ 5 ∷ 10 ∷ 4 ∷ []) (1 ∷ 1 ∷ 0 ∷ 1 ∷ 1 ∷ 0 ∷ 0 ∷ 0 ∷ 1 ∷ []);
+      expected = 0 ∷ 1 ∷ 9 ∷ 8 ∷ 3 ∷ 7 ∷ 6 ∷ 12 ∷ 5 ∷ 10 ∷ 15 ∷ 7 ∷ 99 ∷ 0 ∷ 0 ∷ 7 ∷ 0 ∷ 0 ∷ 12 ∷ 5 ∷ 10 ∷ 0 ∷ [];
+    }
     ∷ []
 
 -- Every case holds, and the paper's nine are there.
 pub cases-hold : (map (λ (c : Case). c .computed) cases ≡ map (λ (c : Case). c .expected) cases)
-    × (map (λ (c : Case). c .number) cases ≡ 1 ∷ 2 ∷ 3 ∷ 4 ∷ 5 ∷ 6 ∷ 7 ∷ 8 ∷ 9 ∷ replicate 9 0)
-unfolding cases sealStatus sealArray encoded encodedByte writeStatus writeArray writeTests written writtenByte isParityOf refusal arrayTests sideFits sizeFits blockFits arrayBytes arrayOf disks across down rows columns diskAt isData rowData columnData cell byte whole xsum _⊕_ tabulate gate every bit count lowest among on sumOver stripeSum sumsToZero grid layoutOf mapFits erasures without alone allowed firstAllowed someAllowed nextDisk repairOf peel repairs after residual residualCount lost fatal changed sumOfOthers repaired rebuilt zeroed consistent below closing core partner firstOf otherThan trace lowestOf cycleOf shownCycle numberBytes numberAt chainBytes sheetOf blankSheet sheetTests planTests lossOutcome lossSheet planOutcome planSheet outcomeStatus outcomeCount mapAfter clear lossTold contradiction repairsMade turnRepairs contradicts turnOf bufferTests rebuildTests rebuildRefusal rebuildTurn entryAt nextNumber visited chainNumbers within different chainFits entriesAt chainEntries allAllowed clears followedArray followTests followStatus followOutcome followArray rectangle digit decimal repairWord fatalWord refusedWord entryLines listed listing
+    × (map (λ (c : Case). c .number) cases ≡ 1 ∷ 2 ∷ 3 ∷ 4 ∷ 5 ∷ 6 ∷ 7 ∷ 8 ∷ 9 ∷ replicate 10 0)
+unfolding cases sealStatus sealArray encoded encodedByte writeStatus writeArray writeTests written writtenByte isParityOf refusal arrayTests sideFits sizeFits blockFits arrayBytes arrayOf disks across down rows columns diskAt isData rowData columnData cell byte whole xsum _⊕_ tabulate gate every bit count lowest among on sumOver stripeSum sumsToZero grid layoutOf mapFits erasures without alone allowed firstAllowed someAllowed nextDisk repairOf peel repairs after residual residualCount lost fatal changed sumOfOthers repaired rebuilt zeroed consistent below closing core partner firstOf otherThan trace lowestOf cycleOf shownCycle numberBytes numberAt chainBytes sheetOf blankSheet sheetTests planTests lossOutcome lossSheet planOutcome planSheet outcomeStatus outcomeCount mapAfter clear lossTold contradiction repairsMade turnRepairs contradicts turnOf bufferTests rebuildTests rebuildRefusal rebuildTurn entryAt nextNumber visited chainNumbers within different chainFits entriesAt chainEntries allAllowed clears followedArray followTests followStatus followOutcome followArray united partBy part joined undetermined determined survivorSum partSum partsCancel savedByte saved mapTests saveTests saveStatus saveAnswer saveArray savingStatus savingCount rectangle digit decimal repairWord fatalWord refusedWord entryLines listed listing
 cases-hold = (refl, refl)
+
+-- The example of paper 02, P3, on the sealed array 1 2 4 7 / 8 16 32 56 / 64 128 3 195 / 73 146 39 252. Nine disks are erased: eight are
+-- lost, and disk 6 is not; its byte is 32, whatever the erased blocks hold.
+abbrev nine : ℕ → Bool
+nine = erasures (1 ∷ 1 ∷ 0 ∷ 0 ∷ 1 ∷ 1 ∷ 1 ∷ 0 ∷ 0 ∷ 0 ∷ 1 ∷ 1 ∷ 0 ∷ 0 ∷ 1 ∷ 1 ∷ [])
+
+pub nine-hold : (lost (layoutOf (rectangle 3 3) 16) nine ≡ 8) × (determined (layoutOf (rectangle 3 3) 16) nine 6 ≡ true)
+    × (savedByte (layoutOf (rectangle 3 3) 16) (whole 1) nine (9 ∷ 9 ∷ 4 ∷ 7 ∷ 9 ∷ 9 ∷ 9 ∷ 56 ∷ 64 ∷ 128 ∷ 9 ∷ 9 ∷ 73 ∷ 146 ∷ 9 ∷ 9 ∷ []) 6 0 ≡ 32)
+unfolding lost determined undetermined savedByte partSum survivorSum sumOver on among joined part partBy united firstOf otherThan without erasures count bit gate xsum _⊕_ byte whole layoutOf rectangle grid rows columns
+nine-hold = (refl, refl, refl)
+
+-- Without disk 6 no stripe has fewer than two erased disks, and yet survivors can contradict: here disk 2 holds 5 in place of 4.
+abbrev eight : ℕ → Bool
+eight = erasures (1 ∷ 1 ∷ 0 ∷ 0 ∷ 1 ∷ 1 ∷ 0 ∷ 0 ∷ 0 ∷ 0 ∷ 1 ∷ 1 ∷ 0 ∷ 0 ∷ 1 ∷ 1 ∷ [])
+
+pub eight-hold : (partsCancel (layoutOf (rectangle 3 3) 16) (whole 1) eight (9 ∷ 9 ∷ 4 ∷ 7 ∷ 9 ∷ 9 ∷ 32 ∷ 56 ∷ 64 ∷ 128 ∷ 9 ∷ 9 ∷ 73 ∷ 146 ∷ 9 ∷ 9 ∷ []) ≡ true)
+    × (partsCancel (layoutOf (rectangle 3 3) 16) (whole 1) eight (9 ∷ 9 ∷ 5 ∷ 7 ∷ 9 ∷ 9 ∷ 32 ∷ 56 ∷ 64 ∷ 128 ∷ 9 ∷ 9 ∷ 73 ∷ 146 ∷ 9 ∷ 9 ∷ []) ≡ false)
+unfolding partsCancel partSum survivorSum sumOver on among joined part partBy united firstOf otherThan without erasures every gate xsum _⊕_ byte whole layoutOf rectangle grid rows columns
+eight-hold = (refl, refl)

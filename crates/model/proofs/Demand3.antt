@@ -229,7 +229,7 @@ turn-seven z B a m sheet k ok small = rw (rebuild-accepted z B a m sheet k ok) (
         (λ few. last fine few (consistent L (whole B) (rebuilt L (whole B) a w)) refl) (lt-or-le k (length w))
 
 -- The edition of paper 01 is lawful.
-superparity-lawful : (z : Size) → sizeFits z ≡ true → Lawful (superparity z (narrow .base)) narrow
+pub superparity-lawful : (z : Size) → sizeFits z ≡ true → Lawful (superparity z (narrow .base)) narrow
 unfolding superparity
 superparity-lawful z fits =
     let above : rows z < 16 = rows-below z fits in

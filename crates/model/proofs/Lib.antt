@@ -14,6 +14,7 @@ pub mod Contents
 pub mod Turns
 pub mod Losses
 pub mod Demand3
+pub mod Save
 pub mod Follow
 pub mod Look
 pub mod Listings

@@ -9,7 +9,8 @@ use lib.ListN.{length, length-map}
 use Rattle.stripes.specs.Fold.{count}
 use Rattle.stripes.specs.System.{Layout, TwoStripes, whole, Codeword, Bytes, consistent, Ordered}
 use Rattle.stripes.specs.Erased.{erasures, Agree, Belongs}
-use Rattle.stripes.specs.Repair.{Entry, Peels, repairs, lost, fatal, rebuilt}
+use Rattle.stripes.specs.Repair.{Entry, Peels, repairs, fatal, rebuilt}
+use Rattle.stripes.specs.Undetermined.{lost}
 use Rattle.stripes.specs.Cycle.{Cycle, shownCycle}
 use Rattle.model.specs.Sheet.{Format, sheetOf, blankSheet}
 use Rattle.model.specs.Plan.{lossOutcome, lossSheet, outcomeStatus}
@@ -18,10 +19,11 @@ use Rattle.model.specs.Edition.{Edition}
 use Rattle.model.specs.Demand3.{Planned, Lists, InTurns, turnsFor, Results, Demand3}
 use Rattle.model.specs.declared.Outcome.the-variants.{Repairs, Fatal}
 use Rattle.stripes.proofs.Fold.{by-cases}
+use Rattle.stripes.proofs.Bytes.{whole-inside}
 use Rattle.stripes.proofs.Peel.{repairs-peels}
 use Rattle.stripes.proofs.Degree.{two-ordered}
 use Rattle.stripes.proofs.Trace.{shown}
-use Rattle.stripes.proofs.Theorems.{fatal-ambiguous, all-repaired, all-unique, all-ordered, all-judged, all-restored}
+use Rattle.stripes.proofs.Theorems.{fatal-ambiguous, lost-counted, all-repaired, all-unique, all-ordered, all-judged, all-restored}
 use Rattle.model.proofs.Turns.{all-clear, Shape, shape, last-made, array-restored, map-cleared, all-made, undone, made-before, turns-number}
 
 -- What is to be shown of an edition, with sheets of a format.
@@ -60,12 +62,13 @@ seven-six e = omega arith
 module _ (E : Edition) (f : Format) (law : Lawful E f) (e : ℕ → Bool) where
   plan-fatal : fatal (E .layout) e ≡ true
       → Planned E f e (Fatal (lost (E .layout) e)) (sheetOf f (f .loopKind) (shownCycle (E .layout) e))
-  unfolding outcomeStatus
+  unfolding outcomeStatus whole
   plan-fatal lossy =
       let cycle : Cycle (E .layout) e (shownCycle (E .layout) e) = shown (E .layout) (law .two) e lossy in
       record {
         fatal = λ B some. (λ s. fatal-ambiguous (E .layout) (law .two) e B some .0 lossy, λ both. refl);
-        loop = λ s. (refl, (_, refl, law .loopsFit e _ cycle, law .loops e _ cycle));
+        lost = λ s. (lost (E .layout) e, refl, λ B. lost-counted (E .layout) (law .two) e (whole B) (whole-inside B));
+        loop = λ s. (_, refl, law .loopsFit e _ cycle, law .loops e _ cycle);
         repairs = λ no. absurd (no refl);
         few = λ few s. true≢false (sym lossy ∙ law .few e few);
       }
@@ -80,6 +83,7 @@ module _ (E : Edition) (f : Format) (law : Lawful E f) (e : ℕ → Bool) where
       let room = law .limitFits in
       record {
         fatal = λ B some. (λ s. absurd (zero-six s), λ both. absurd (all-unique L e (two-ordered L (law .two)) fine B both));
+        lost = λ s. absurd (zero-six s);
         loop = λ s. absurd (zero-six s);
         repairs = λ no.
             (ap Repairs number, omega arith, (repairs L e, (refl, omega arith, number, all-ordered L e (two-ordered L (law .two)) fine)));

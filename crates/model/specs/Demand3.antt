@@ -11,8 +11,8 @@ use lib.Dec.{eqb}
 use lib.ListN.{length, take, drop}
 use Rattle.stripes.specs.Fold.{count}
 use Rattle.stripes.specs.System.{Layout, whole, Codeword}
-use Rattle.stripes.specs.Erased.{erasures, Agree, Belongs, Ambiguous}
-use Rattle.stripes.specs.Repair.{Entry, repairs, lost, fatal, mapAfter, rebuilt, zeroed, InOrder}
+use Rattle.stripes.specs.Erased.{erasures, Agree, Belongs, Ambiguous, LostCount}
+use Rattle.stripes.specs.Repair.{Entry, repairs, fatal, mapAfter, rebuilt, zeroed, InOrder}
 use Rattle.model.specs.Sheet.{Format, sheetOf, blankSheet}
 use Rattle.model.specs.Plan.{outcomeStatus}
 use Rattle.model.specs.Turn.{Turn}
@@ -31,8 +31,10 @@ LoopSheet E f e sheet = (w : List Entry) × (sheet ≡ sheetOf f (f .loopKind) w
 pub record Planned (E : Edition) (f : Format) (e : ℕ → Bool) (answer : Outcome) (sheet : List ℕ) : Type 0 where
   -- It calls the loss fatal, by 6, exactly if two different sealed arrays of that size and block length agree on every survivor.
   pub fatal : (B : ℕ) → 0 < B → (outcomeStatus answer ≡ 6) ↔ Ambiguous (E .layout) (whole B) e
-  -- Then it counts the lost disks, and its sheet shows a loop of erased disks.
-  pub loop : outcomeStatus answer ≡ 6 → (answer ≡ Fatal (lost (E .layout) e)) × LoopSheet E f e sheet
+  -- Then it counts the lost disks: those in which two sealed arrays differ that agree on every survivor. Its sheet shows a loop of
+  -- erased disks.
+  pub lost : outcomeStatus answer ≡ 6 → (n : ℕ) × (answer ≡ Fatal n) × ((B : ℕ) → 0 < B → LostCount (E .layout) (whole B) e n)
+  pub loop : outcomeStatus answer ≡ 6 → LoopSheet E f e sheet
   -- Otherwise it counts the erased disks, no more than a loss can have then, and its sheet lists their repairs.
   pub repairs : (outcomeStatus answer ≡ 6 → ⊥)
       → (answer ≡ Repairs (count (E .layout .disks) e)) × (count (E .layout .disks) e ≤ E .mostRepairs)

@@ -11,5 +11,6 @@ pub mod Rebuild
 pub mod Follow
 pub mod Listing
 pub mod Edition
+pub mod Save
 pub mod Demand2
 pub mod Demand3

@@ -7,7 +7,8 @@ use lib.Dec.{eqb}
 use lib.ListN.{length}
 use Rattle.stripes.specs.System.{Layout}
 use Rattle.stripes.specs.Erased.{erasures}
-use Rattle.stripes.specs.Repair.{repairs, lost, fatal}
+use Rattle.stripes.specs.Repair.{repairs, fatal}
+use Rattle.stripes.specs.Undetermined.{lost}
 use Rattle.stripes.specs.Cycle.{shownCycle}
 use Rattle.model.specs.Grid.{layoutOf, sizeFits, mapFits}
 use Rattle.model.specs.Refusal.{Test, _unless_, refusal}

@@ -21,8 +21,16 @@ pub enum Checked {
 pub enum Outcome {
     // The number of repairs.
     Repairs(usize),
-    // The loss is fatal; the number of disks that no repair reaches (paper 01: lost cards).
+    // The loss is fatal; the number of undetermined disks (paper 02: lost cards).
     Fatal(usize),
+    // A refusal by its number.
+    Refused(u32),
+}
+
+// What save answers. It never calls a loss fatal.
+pub enum Saving {
+    // The number of disks that were saved.
+    Saved(usize),
     // A refusal by its number.
     Refused(u32),
 }

@@ -8,7 +8,7 @@ use Prim.Native.Nat.{ℕ, _+_, _*_, _≤_, _<_}
 use lib.ListN.{length, take, drop}
 use Rattle.stripes.specs.Fold.{count}
 use Rattle.stripes.specs.System.{Layout, Ordered, TwoStripes, whole, byte, Codeword, Bytes, consistent}
-use Rattle.stripes.specs.Erased.{Agree, Belongs, Ambiguous, AmbiguousIn}
+use Rattle.stripes.specs.Erased.{Agree, Belongs, Ambiguous, AmbiguousIn, LostCount}
 use Rattle.stripes.specs.Repair.{Entry, Peels, repairs, after, residual, fatal, rebuilt, InOrder}
 use Rattle.stripes.specs.Cycle.{Cycle}
 use Rattle.stripes.specs.Undetermined.{undetermined, determined, lost, partsCancel, savedByte}
@@ -87,6 +87,11 @@ module _ (L : Layout) (two : TwoStripes L) (e : ℕ → Bool) where
     pub undetermined-differ : x .offset + x .width ≤ x .block → 0 < x .width → (d : ℕ) → d < L .disks
         → (undetermined L e d ≡ true) ↔ AmbiguousIn L x e d
     undetermined-differ = undetermined-iff L two x e
+
+    -- So the undetermined disks are the lost ones.
+    pub lost-counted : x .offset + x .width ≤ x .block → 0 < x .width → LostCount L x e (lost L e)
+    unfolding lost
+    lost-counted inside some = (undetermined L e, refl, undetermined-differ inside some)
 
     -- Every determined disk is saved: sums of survivors give it the bytes of the codeword that the survivors belong to.
     pub all-saved : (a b : List ℕ) → Codeword L x b → Agree L x e a b → (d : ℕ) → d < L .disks → determined L e d ≡ true

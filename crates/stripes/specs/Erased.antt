@@ -1,11 +1,13 @@
 -- Erased disks, and the survivors beside them.
 -- Assumes nothing.
 use mathlib.Core.Path.{_≡_}
-use mathlib.Core.Bool.{Bool, false, not, _&&_}
+use mathlib.Core.Bool.{Bool, true, false, not, _&&_}
+use mathlib.Core.Logic.{_↔_}
 use mathlib.Core.List.{List}
 use Prim.Native.Nat.{ℕ, _<_}
 use lib.Dec.{eqb, ltb}
 use lib.ListN.{getD}
+use Rattle.stripes.specs.Fold.{count}
 use Rattle.stripes.specs.System.{Layout, byte, Codeword}
 use Rattle.stripes.specs.declared.Stretch.{Stretch}
 
@@ -38,3 +40,7 @@ abbrev pub AmbiguousIn : Layout → Stretch → (ℕ → Bool) → ℕ → Type 
 AmbiguousIn L x e d =
     (a : List ℕ) × (b : List ℕ) × Codeword L x a × Codeword L x b × Agree L x e a b
     × ((p : ℕ) × (p < x .width) × (byte x a d p ≡ byte x b d p → ⊥))
+
+-- There are n such disks.
+abbrev pub LostCount : Layout → Stretch → (ℕ → Bool) → (n : ℕ) → Type 0
+LostCount L x e n = (t : ℕ → Bool) × (n ≡ count (L .disks) t) × ((d : ℕ) → d < L .disks → (t d ≡ true) ↔ AmbiguousIn L x e d)

@@ -7,7 +7,10 @@ use Rattle.stripes.specs.System.{Layout, lower, higher}
 
 -- Each part is named by one of its stripes. The parts of stripes a and b become one, which has the name of a's.
 unfoldable pub united : (a b : ℕ) → (part : ℕ → ℕ) → ℕ → ℕ
-united a b part s = cond (eqb (part s) (part b)) (part a) (part s)
+united a b part =
+    let x : ℕ = part a in
+    let y : ℕ = part b in
+    λ s. let z : ℕ = part s in cond (eqb z y) x z
 
 -- The part of each stripe after the first k disks: at first every stripe is a part by itself, and each disk of c makes one part of
 -- the two that it lies on.

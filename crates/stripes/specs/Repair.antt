@@ -87,11 +87,6 @@ residualCount L e = count (L .disks) (residual L e)
 unfoldable pub fatal : Layout → (ℕ → Bool) → Bool
 fatal L e = ltb 0 (residualCount L e)
 
--- The number of lost disks (paper 01: lost cards): those that remain when no disk can be repaired. Plan's count is defined by
--- this name, and fatality by what plan's order leaves.
-unfoldable pub lost : Layout → (ℕ → Bool) → ℕ
-lost L e = residualCount L e
-
 -- A list of repairs in plan's order that leaves nothing erased.
 pub record InOrder (L : Layout) (e : ℕ → Bool) (w : List Entry) : Type 0 where
   -- Each is allowed at its step,
