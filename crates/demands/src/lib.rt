@@ -1,27 +1,30 @@
 // What is proved of the definitions, said of the calls: demand 2 of seal, check and write, demand 3 of plan and rebuild's turns on
-// one input, and of follow that it does as rebuild.
+// one input, of follow that it does as rebuild, and of save what it gives back.
 ghost use mathlib.Core.Path.{_≡_};
 ghost use mathlib.Core.Bool.{true, false};
 ghost use mathlib.Core.Logic.{_↔_};
+ghost use mathlib.Core.List.{List};
 ghost use Prim.Native.Nat.{ℕ, _*_, _/_, _≤_, _<_};
 ghost use lib.ListN.{length, take};
 ghost use Rattle.stripes.specs.Fold.{count};
 ghost use Rattle.stripes.specs.System.{whole};
 ghost use Rattle.stripes.specs.Erased.{erasures, Belongs};
 ghost use Rattle.stripes.specs.Repair.{fatal};
-ghost use Rattle.model.specs.Grid.{disks};
+ghost use Rattle.model.specs.Grid.{columnBase, disks};
 ghost use Rattle.model.specs.Refusal.{refusal, arrayTests};
 ghost use Rattle.model.specs.Array.{sealStatus, sealArray, checked, checkStatus, writeStatus, writeArray};
 ghost use Rattle.model.specs.Sheet.{narrow, sheetBytes, sheetsIn};
 ghost use Rattle.model.specs.Plan.{planTests, sheetLayout, planOutcome, planSheet, outcomeStatus};
 ghost use Rattle.model.specs.Rebuild.{bufferRefusal, rebuildRefusal, rebuildTurn};
 ghost use Rattle.model.specs.Follow.{Usable, followOutcome, followArray};
+ghost use Rattle.model.specs.Save.{saveLayout, mapTests, saveAnswer, saveArray, AsTurn, SaveDemand};
 ghost use Rattle.model.specs.Edition.{superparity};
 ghost use Rattle.model.specs.Demand2.{SealDemand, CheckDemand, WriteDemand};
 ghost use Rattle.model.specs.Demand3.{Planned, Demand3};
 ghost use Rattle.series.specs.Total.{start, turnsIn, endOf, totalOf, Written};
 use model::Checked;
 use model::Outcome;
+use model::Saving;
 use model::Size;
 use series::Turns;
 
@@ -144,4 +147,23 @@ pub fn follow_sheet(size: Size, block: usize, array: &mut [u8], map: &[u8], shee
     ensures kept { λ r. ⌜ (fatal (sheetLayout size) (erasures (now (map .entry))) ≡ true → now (array .exit) ≡ now (array .entry)) ⌝ }
 {
     follow::follow(size, block, array, map, sheet)
+}
+
+// Saves what the survivors determine. Where the refusals before 7 let the input through, the promise of paper 02 holds; where the loss is
+// not fatal, the answer and the array are those of rebuild in one turn, refusals included.
+pub fn save_disks(size: Size, block: usize, array: &mut [u8], map: &[u8]) -> Saving
+    ensures answer { λ r. ⌜ r ≡ saveAnswer size block (now (array .entry)) (now (map .entry)) ⌝ }
+    ensures array { λ r. ⌜ now (array .exit) ≡ saveArray size block (now (array .entry)) (now (map .entry)) ⌝ }
+    ensures demand { λ r. ⌜
+        (refusal (mapTests size block (length (now (array .entry))) (now (map .entry))) ≡ 0
+        → SaveDemand (superparity size (columnBase size)) block (now (array .entry)) (now (map .entry)) r (now (array .exit)))
+        ⌝ }
+    ensures rebuilt { λ r. ⌜
+        (fatal (saveLayout size) (erasures (now (map .entry))) ≡ false
+        → (sheet : List ℕ) → length sheet ≡ sheetBytes narrow
+        → (k : ℕ) → 0 < k → count (disks size) (erasures (now (map .entry))) ≤ k
+        → AsTurn r (now (array .exit)) (rebuildTurn size block (now (array .entry)) (now (map .entry)) sheet k))
+        ⌝ }
+{
+    save::save(size, block, array, map)
 }

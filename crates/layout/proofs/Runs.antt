@@ -1,21 +1,23 @@
 -- Which stripes a disk lies on, and where the disks of a stripe stand: the laws of `disksOn` and `placeOn`.
 -- Assumes nothing.
-use mathlib.Core.Path.{_≡_, refl, sym, _∙_, ap, subst}
-use mathlib.Core.Bool.{Bool, true, _&&_}
+use mathlib.Core.Path.{_≡_, refl, sym, _∙_, ap, ap₂, subst}
+use mathlib.Core.Bool.{Bool, true, false, _&&_}
 use mathlib.Core.Logic.{⊎-elim}
+use mathlib.Core.List.{_∷_, []}
 use Prim.Native.Nat.{ℕ, _+_, _*_, _-_, _/_, _%_, _≤_, _<_}
 use native.Mathlib.Nat.{add-sub-of-le, eq-of-mul-eq-mul-right}
 use native.Mathlib.Omega.{arith}
-use borrow.Author.Tests.{eq-eqb, eqb-true, lt-ltb, le-ltb}
-use Rattle.stripes.specs.Fold.{xsum}
-use Rattle.stripes.specs.System.{on, sumOver, TwoStripes}
+use borrow.Author.Tests.{eq-eqb, ne-eqb, eqb-true, lt-ltb, le-ltb, ltb-true, ltb-false}
+use lib.Dec.{ltb}
+use Rattle.stripes.specs.Fold.{xsum, count}
+use Rattle.stripes.specs.System.{on, otherThan, sumOver, TwoStripes}
 use Rattle.model.specs.Grid.{rows, columns, across, layoutOf, disks, diskAt, down, grid}
 use Rattle.model.specs.declared.Size.{Size}
-use Rattle.stripes.proofs.Fold.{lt-or-le, xsum-ext, and-right, count-le}
-use Rattle.stripes.proofs.Degree.{degree, touching}
+use Rattle.stripes.proofs.Fold.{lt-or-le, xsum-ext, and-right, count-le, count-found, count-some, count-none, count-zero-none}
+use Rattle.stripes.proofs.Degree.{degree, touching, other-first, other-second}
 use Rattle.stripes.proofs.Counts.{count-injects}
 use Rattle.model.proofs.Grid.{Fits, across-positive, on-row, on-column, row-over, column-over, column-inside, row-of, column-of, disk-below, disk-is, row-within, column-within, layout-disks, size-fits, layout-two}
-use Rattle.layout.specs.Stripe.{disksOn, placeOn, Numbered}
+use Rattle.layout.specs.Stripe.{hasDisks, runDisk, disksOn, placeOn, Numbered}
 use Rattle.layout.specs.declared.stripe.Run.{Run}
 
 -- ---- the disks of a stripe as a run
@@ -95,6 +97,82 @@ module _ (z : Size) (base : ℕ) (above : rows z < base) where
           let run = column-run (s - base) (omega arith) in
           rw (le-ltb s base h)
           (subst (λ (t : ℕ). RunOf z base t (record { first = s - base; step = across z; count = down z }) (λ d. d / across z)) e run)
+
+-- ---- numbers on which a disk lies
+module _ (z : Size) (base : ℕ) where
+  -- One of its disks, and that there is none.
+  pub some-disk : (s : ℕ) → hasDisks z base s ≡ true → (d : ℕ) × (d < disks z) × (on (layoutOf z base) d s ≡ true)
+  unfolding hasDisks
+  some-disk s e = count-found (disks z) _ (ltb-true 0 _ e)
+
+  pub no-disk : (s : ℕ) → hasDisks z base s ≡ false → (d : ℕ) → d < disks z → on (layoutOf z base) d s ≡ false
+  unfolding hasDisks
+  no-disk s e = let none = ltb-false 0 (count (disks z) (λ d. on (layoutOf z base) d s)) e in count-zero-none (disks z) _ (omega arith)
+
+  has-disk : (d s : ℕ) → d < disks z → on (layoutOf z base) d s ≡ true → true ≡ hasDisks z base s
+  unfolding hasDisks
+  has-disk d s l o = sym (lt-ltb 0 _ (count-some (disks z) _ d l o))
+
+  -- Below the base these are the rows, from there on the columns.
+  pub row-held : (s : ℕ) → s < base → ltb s (down z) ≡ hasDisks z base s
+  unfolding hasDisks down
+  row-held s h =
+      ⊎-elim
+      (λ l.
+      lt-ltb s (down z) l
+      ∙ has-disk (diskAt z s 0) s (disk-below z s 0 (omega arith) (omega arith)) (on-row z base (diskAt z s 0) s h ∙ eq-eqb s _ (sym (row-of z s 0 (across-positive z)))))
+      (λ l.
+      le-ltb s (down z) l
+      ∙ sym (ap (ltb 0) (count-none (disks z) (λ d m. on-row z base d s h ∙ ne-eqb s _ (λ e. let b = row-within z d m in omega arith)))))
+      (lt-or-le s (down z))
+
+  -- The stripes of the disk in a row and a column.
+  through-at : (r c : ℕ) → c < across z → layoutOf z base .through (diskAt z r c) ≡ r ∷ (base + c) ∷ []
+  unfolding layoutOf grid across
+  through-at r c l = ap₂ (λ (i j : ℕ). i ∷ (base + j) ∷ []) (row-of z r c l) (column-of z r c l)
+
+  module _ (above : rows z < base) where
+    pub column-held : (s : ℕ) → base ≤ s → ltb (s - base) (across z) ≡ hasDisks z base s
+    unfolding hasDisks across
+    column-held s h =
+        let c : ℕ = s - base in
+        let e : base + c ≡ s = add-sub-of-le h in
+        ⊎-elim
+        (λ (l : c < across z).
+        lt-ltb c (across z) l
+        ∙ has-disk (diskAt z 0 c) s (disk-below z 0 c (omega arith) (omega arith))
+        (ap (on (layoutOf z base) (diskAt z 0 c)) (sym e) ∙ on-column z base above (diskAt z 0 c) c (disk-below z 0 c (omega arith) (omega arith))
+        ∙ eq-eqb c _ (sym (column-of z 0 c l))))
+        (λ (l : across z ≤ c).
+        le-ltb c (across z) l
+        ∙ sym (ap (ltb 0) (count-none (disks z) (λ d m.
+        ap (on (layoutOf z base) d) (sym e) ∙ on-column z base above d c m ∙ ne-eqb c _ (λ q. let b = column-within z d in omega arith)))))
+        (lt-or-le c (across z))
+
+    -- The stripe besides a row through its disk number k, and besides a column.
+    pub row-other : (s k : ℕ) → s < base → k < disksOn z base s .count → base + k ≡ otherThan s (layoutOf z base .through (runDisk (disksOn z base s) k))
+    unfolding disksOn diskAt
+    row-other s k h =
+        let at : s * across z + k * 1 ≡ diskAt z s k = omega arith in
+        rw (lt-ltb s base h)
+        (λ l.
+        sym
+        (ap (λ (d : ℕ). otherThan s (layoutOf z base .through d)) at ∙ ap (otherThan s) (through-at s k l)
+        ∙ other-first s (base + k) (λ e. omega arith)))
+
+    pub column-other : (s k : ℕ) → base ≤ s → hasDisks z base s ≡ true → k < disksOn z base s .count
+        → k ≡ otherThan s (layoutOf z base .through (runDisk (disksOn z base s) k))
+    unfolding disksOn diskAt down
+    column-other s k h some =
+        let c : ℕ = s - base in
+        let e : base + c ≡ s = add-sub-of-le h in
+        let inside : c < across z = ltb-true c (across z) (column-held s h ∙ some) in
+        let at : c + k * across z ≡ diskAt z k c = omega arith in
+        rw (le-ltb s base h)
+        (λ l.
+        sym
+        (ap₂ (λ (t d : ℕ). otherThan t (layoutOf z base .through d)) (sym e) at ∙ ap (otherThan (base + c)) (through-at k c inside)
+        ∙ other-second k (base + c) (λ q. omega arith)))
 
 -- ---- places
 module _ (z : Size) (base s : ℕ) (run : Run) (place : ℕ → ℕ) (r : RunOf z base s run place) where

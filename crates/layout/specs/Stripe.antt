@@ -1,10 +1,12 @@
 -- Where the disks of a stripe stand, as numbers.
 -- Assumes nothing.
 use mathlib.Core.Path.{_≡_}
-use mathlib.Core.Bool.{true, cond}
+use mathlib.Core.Bool.{Bool, true, cond}
 use Prim.Native.Nat.{ℕ, _+_, _*_, _-_, _/_, _%_, _≤_, _<_}
 use lib.Dec.{ltb}
-use Rattle.model.specs.Grid.{rows, across, down, sizeFits}
+use Rattle.stripes.specs.Fold.{count}
+use Rattle.stripes.specs.System.{on}
+use Rattle.model.specs.Grid.{rows, across, down, disks, layoutOf, sizeFits}
 use Rattle.model.specs.declared.Size.{Size}
 use Rattle.layout.specs.declared.stripe.Run.{Run}
 
@@ -18,6 +20,14 @@ pub record Numbered (z : Size) (base : ℕ) : Type 0 where
   pub fits : sizeFits z ≡ true
   pub above : rows z < base
   pub small : base + across z ≤ stripeLimit
+
+-- Some disk lies on stripe s.
+unfoldable pub hasDisks : Size → (base s : ℕ) → Bool
+hasDisks z base s = ltb 0 (count (disks z) (λ d. on (layoutOf z base) d s))
+
+-- Disk number k of a run.
+abbrev pub runDisk : Run → ℕ → ℕ
+runDisk run k = run .first + k * run .step
 
 -- The disks of row r stand one apart, the disks of column c (stripe base + c) one row apart.
 unfoldable pub disksOn : Size → (base s : ℕ) → Run

@@ -1,10 +1,15 @@
 // The stripes of a disk, and the disks of a stripe. Column c is stripe base + c.
 ghost use mathlib.Core.Path.{_≡_};
+ghost use mathlib.Core.Bool.{true};
 ghost use mathlib.Core.List.{[], _∷_};
 ghost use Prim.Native.Nat.{_<_};
+ghost use Rattle.stripes.specs.System.{otherThan};
 ghost use Rattle.model.specs.Grid.{layoutOf, disks};
-ghost use Rattle.layout.specs.Stripe.{Numbered, disksOn, placeOn};
+ghost use Rattle.layout.specs.Stripe.{Numbered, hasDisks, runDisk, disksOn, placeOn};
 use model::Size;
+
+// The stripe of column 0 where no sheet gives it: column c is stripe COLUMN_BASE + c in what check answers.
+pub const COLUMN_BASE: usize = 16;
 
 // The two stripes of a disk.
 pub struct Pair {
@@ -30,6 +35,20 @@ pub fn bound(size: Size, base: usize) -> usize
     ensures { λ r. ⌜ r ≡ layoutOf size base .stripeBound ⌝ }
 {
     base + crate::across(size)
+}
+
+// Some disk lies on the stripe: it is a row or a column. From the last row to the base, and from the bound on, there are numbers of
+// no stripe.
+pub fn has_disks(size: Size, base: usize, stripe: usize) -> bool
+    requires { ⌜ Numbered size base ⌝ }
+    ensures { λ r. ⌜ r ≡ hasDisks size base stripe ⌝ }
+{
+    let across = crate::across(size);
+    let down = crate::down(size);
+    if stripe < base {
+        return stripe < down;
+    }
+    stripe - base < across
 }
 
 // `count` disks that stand `step` apart from disk `first` on.
@@ -70,4 +89,17 @@ pub fn place_on(size: Size, base: usize, disk: usize, stripe: usize) -> usize
         return disk % across;
     }
     disk / across
+}
+
+// The other stripe of disk number k of a stripe.
+pub fn other_at(size: Size, base: usize, stripe: usize, k: usize) -> usize
+    requires { ⌜ Numbered size base ⌝ }
+    requires { ⌜ hasDisks size base stripe ≡ true ⌝ }
+    requires { ⌜ k < disksOn size base stripe .count ⌝ }
+    ensures { λ r. ⌜ r ≡ otherThan stripe (layoutOf size base .through (runDisk (disksOn size base stripe) k)) ⌝ }
+{
+    if stripe < base {
+        return base + k;
+    }
+    k
 }

@@ -27,7 +27,7 @@ use Rattle.model.specs.Sheet.{Format, narrow, sheetBytes}
 use Rattle.model.specs.Plan.{sheetTests, sheetLayout, outcomeStatus, outcomeCount}
 use Rattle.model.specs.Turn.{Turn, repairsMade, contradiction, wholeRebuild}
 use Rattle.model.specs.Rebuild.{bufferTests, bufferRefusal, rebuildTurn}
-use Rattle.model.specs.Save.{saveLayout, mapTests, saveTests, saveStatus, saveAnswer, saveArray, savingStatus, savingCount, SaveDemand}
+use Rattle.model.specs.Save.{saveLayout, mapTests, saveTests, saveStatus, saveAnswer, saveArray, savingStatus, savingCount, AsTurn, SaveDemand}
 use Rattle.model.specs.declared.Size.{Size}
 use Rattle.model.specs.declared.Outcome.the-variants.{Refused as Outcome·Refused}
 use Rattle.model.specs.declared.Saving.{Saving}
@@ -186,16 +186,9 @@ module _ (z : Size) (B : ℕ) (a m : List ℕ) where
   unfolding bufferRefusal bufferTests sheetTests mapTests arrayTests refusal
   refused-alike s long = rw long
 
-  -- The answer and the array are those of a rebuild: the same status and count.
-  abbrev pub AsTurn : Turn → Type 0
-  AsTurn t =
-      (savingStatus (saveAnswer z B a m) ≡ outcomeStatus (t .answer))
-      × ((c : ℕ) → savingCount (saveAnswer z B a m) c ≡ outcomeCount (t .answer) c)
-      × (saveArray z B a m ≡ t .array)
-
   -- Where the loss is not fatal, save is a rebuild without turns.
   as-whole-rebuild : ArrayFits z B (length a) → mapFits z m ≡ true → Bytes a → fatal (saveLayout z) (erasures m) ≡ false
-      → AsTurn (wholeRebuild (sheetLayout z) narrow (whole B) a m)
+      → AsTurn (saveAnswer z B a m) (saveArray z B a m) (wholeRebuild (sheetLayout z) narrow (whole B) a m)
   unfolding wholeRebuild repairsMade contradiction savingStatus savingCount outcomeStatus outcomeCount whole
   as-whole-rebuild array map small fine = go (partsCancel L (whole B) e a) refl
     where
@@ -219,7 +212,7 @@ module _ (z : Size) (B : ℕ) (a m : List ℕ) where
           let judged = all-judged L e (two-ordered L two) fine B a sized small in
           same-test (partsCancel L (whole B) e a) _ (λ h. judged .1 (belongs .0 h)) (λ h. belongs .1 (judged .0 h))
 
-      go : (t : Bool) → partsCancel L (whole B) e a ≡ t → AsTurn (wholeRebuild (sheetLayout z) narrow (whole B) a m)
+      go : (t : Bool) → partsCancel L (whole B) e a ≡ t → AsTurn (saveAnswer z B a m) (saveArray z B a m) (wholeRebuild (sheetLayout z) narrow (whole B) a m)
       go true fit =
           let (answer, left) = save-judged array map in
           let all = all-determined L two e fine ∙ sym (repairs-count L e fine) in
@@ -230,13 +223,13 @@ module _ (z : Size) (B : ℕ) (a m : List ℕ) where
 
   -- So it gives what rebuild gives with a limit that is no less than the number of erased disks, refusals included.
   pub save-as-rebuild : fatal (saveLayout z) (erasures m) ≡ false → Bytes a → (s : List ℕ) → length s ≡ sheetBytes narrow
-      → (k : ℕ) → 0 < k → count (disks z) (erasures m) ≤ k → AsTurn (rebuildTurn z B a m s k)
+      → (k : ℕ) → 0 < k → count (disks z) (erasures m) ≤ k → AsTurn (saveAnswer z B a m) (saveArray z B a m) (rebuildTurn z B a m s k)
   unfolding savingStatus savingCount outcomeStatus outcomeCount
   save-as-rebuild fine small s long k some enough =
       rw (rebuild-whole z B a m s k some enough, refused-alike s long) (go (eqb (refusal (mapTests z B (length a) m)) 0) refl)
     where
       go : (t : Bool) → eqb (refusal (mapTests z B (length a) m)) 0 ≡ t
-          → AsTurn (cond t (wholeRebuild (sheetLayout z) narrow (whole B) a m)
+          → AsTurn (saveAnswer z B a m) (saveArray z B a m) (cond t (wholeRebuild (sheetLayout z) narrow (whole B) a m)
           (record { answer = Outcome·Refused (refusal (mapTests z B (length a) m)); array = a; map = m; sheet = s }))
       go true e = let (array, map) = map-fits (eqb-true _ 0 e) in as-whole-rebuild array map small fine
       go false e = let (answer, left) = save-first (eqb-false _ 0 e) in rw (answer, left) (refl, λ c. refl, refl)

@@ -15,6 +15,8 @@ use Rattle.stripes.specs.Repair.{zeroed}
 use Rattle.stripes.specs.Undetermined.{determined, partsCancel, saved}
 use Rattle.model.specs.Grid.{layoutOf, columnBase, mapFits}
 use Rattle.model.specs.Refusal.{Test, _unless_, refusal, arrayTests}
+use Rattle.model.specs.Plan.{outcomeStatus, outcomeCount}
+use Rattle.model.specs.Turn.{Turn}
 use Rattle.model.specs.Edition.{Edition}
 use Rattle.model.specs.declared.Size.{Size}
 use Rattle.model.specs.declared.Saving.{Saving}
@@ -53,6 +55,12 @@ savingStatus (Refused k) = k
 unfoldable pub savingCount : Saving → ℕ → ℕ
 savingCount (Saved c) before = c
 savingCount (Refused k) before = before
+
+-- An answer of save and the array after it are those of a turn of rebuild: the same number, the same count, the same array.
+abbrev pub AsTurn : Saving → (array : List ℕ) → Turn → Type 0
+AsTurn answer array t =
+    (savingStatus answer ≡ outcomeStatus (t .answer)) × ((before : ℕ) → savingCount answer before ≡ outcomeCount (t .answer) before)
+    × (array ≡ t .array)
 
 -- ---- What it promises, over any edition of the array, where the refusals before 7 let the input through
 

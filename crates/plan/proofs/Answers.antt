@@ -9,7 +9,7 @@ use lib.ListN.{length, take}
 use lib.Seq.{take-all}
 use Rattle.stripes.specs.System.{Layout}
 use Rattle.stripes.specs.Erased.{erasures}
-use Rattle.stripes.specs.Repair.{repairs, lost}
+use Rattle.stripes.specs.Repair.{repairs}
 use Rattle.model.specs.Grid.{sizeFits}
 use Rattle.model.specs.Refusal.{refusal}
 use Rattle.model.specs.Sheet.{narrow, sheetOf}
@@ -39,10 +39,10 @@ module _ (L : Layout) (e : ℕ → Bool) (k : ℕ) (list after : List ℕ) where
     ),
   )
 
-  pub drafts-fatal : {disks left : ℕ} → Lossy L e disks left list → after ≡ sheetOf narrow 2 (listed list disks) → Drafts (Fatal left)
-  unfolding lossOutcome draftSheet lost
+  pub drafts-fatal : {disks unknown : ℕ} → Lossy L e disks unknown list → after ≡ sheetOf narrow 2 (listed list disks) → Drafts (Fatal unknown)
+  unfolding lossOutcome draftSheet
   drafts-fatal f written = (
-    ap Fatal (f .rest) ∙ (rw (f .lossy)),
+    ap Fatal (f .undetermined) ∙ (rw (f .lossy)),
     (written ∙ ap (sheetOf narrow 2) (f .entries) ∙ (rw (f .lossy)), λ h. absurd (true≢false (sym (f .lossy) ∙ h))),
   )
 

@@ -35,9 +35,9 @@ pub fn draft(size: Size, map: &[u8], sheet: &mut [u8], list: &mut [u32], limit: 
             );
             Outcome::Repairs(count)
         }
-        Solved::Cycle { disks, left } => {
+        Solved::Cycle { disks, lost } => {
             sheet::write(sheet::LOOP_KIND, list, disks, sheet);
-            Outcome::Fatal(left)
+            Outcome::Fatal(lost)
         }
     }
 }

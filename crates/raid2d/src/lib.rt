@@ -9,16 +9,18 @@ ghost use Rattle.model.specs.Array.{sealStatus, sealArray, checked, checkStatus
 ghost use Rattle.model.specs.Plan.{planOutcome, planSheet, outcomeStatus, outcomeCount};
 ghost use Rattle.model.specs.Rebuild.{rebuildTurn};
 ghost use Rattle.model.specs.Follow.{followOutcome, followArray};
+ghost use Rattle.model.specs.Save.{saveAnswer, saveArray, savingStatus, savingCount};
 use model::Checked;
 use model::Outcome;
+use model::Saving;
 use model::Size;
 
 // The version of the library: 10000 times the major number, 100 times the minor number, and the patch.
 #[no_mangle]
 pub extern "C" fn raid2d_version_number() -> u32
-    ensures { λ r. ⌜ r ≡ 600 ⌝ }
+    ensures { λ r. ⌜ r ≡ 700 ⌝ }
 {
-    600
+    700
 }
 
 // The lengths of a map and of an array.
@@ -246,4 +248,40 @@ pub extern "C" fn raid2d_follow(
 {
     let answer = follow::follow(Size { rows, columns }, block, array, map, sheet);
     report(answer, count)
+}
+
+// The same of what save answers.
+fn report_saving(answer: Saving, count: &mut usize) -> u32
+    ensures status { λ r. ⌜ r ≡ savingStatus answer ⌝ }
+    ensures count { λ r. ⌜ now (count .exit) ≡ savingCount answer (now (count .entry)) ⌝ }
+{
+    match answer {
+        Saving::Saved(number) => {
+            *count = number;
+            0
+        }
+        Saving::Refused(status) => status,
+    }
+}
+
+#[no_mangle]
+pub extern "C" fn raid2d_save(
+    rows: usize,
+    columns: usize,
+    block: usize,
+    array: &mut [u8],
+    map: &[u8],
+    count: &mut usize,
+) -> u32
+    ensures status { λ r. ⌜
+        r ≡ savingStatus (saveAnswer (rectangle rows columns) block (now (array .entry)) (now (map .entry)))
+        ⌝ }
+    ensures array { λ r. ⌜ now (array .exit) ≡ saveArray (rectangle rows columns) block (now (array .entry)) (now (map .entry)) ⌝ }
+    ensures count { λ r. ⌜
+        now (count .exit) ≡ savingCount (saveAnswer (rectangle rows columns) block (now (array .entry)) (now (map .entry)))
+        (now (count .entry))
+        ⌝ }
+{
+    let answer = save::save(Size { rows, columns }, block, array, map);
+    report_saving(answer, count)
 }

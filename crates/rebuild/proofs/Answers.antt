@@ -12,7 +12,8 @@ use borrow.Author.Tests.{not-true, not-false}
 use lib.ListN.{length, take}
 use Rattle.stripes.specs.System.{whole}
 use Rattle.stripes.specs.Erased.{erasures}
-use Rattle.stripes.specs.Repair.{mapAfter, repairs, lost, fatal, rebuilt, zeroed, clears}
+use Rattle.stripes.specs.Undetermined.{lost}
+use Rattle.stripes.specs.Repair.{mapAfter, repairs, fatal, rebuilt, zeroed, clears}
 use Rattle.stripes.proofs.Peel.{repairs-peels}
 use Rattle.stripes.proofs.Clears.{repairs-clear}
 use Rattle.model.specs.Grid.{mapFits}

@@ -65,7 +65,7 @@ module _ (z : Size) (m : List ℕ) where
       pub repairs-reported : mapFits z m ≡ true → Listing·listed repairWord (listed list count) ≡ reported z m
       repairs-reported map = accepted map (rw (f .fine) (ap (Listing·listed repairWord) (f .entries)))
 
-    module _ {list : List ℕ} {count left : ℕ} (f : Lossy L e count left list) where
+    module _ {list : List ℕ} {count unknown : ℕ} (f : Lossy L e count unknown list) where
       pub cycle-printable : 32 ≤ length list → Printable list count
       cycle-printable room = printable room (listed-fits (cycle-fits z size e (f .lossy)) list count (f .entries))
 

@@ -62,6 +62,6 @@ pub fn report(out: &mut [u8], size: Size, map: &[u8]) -> usize
     let answer = solve::solve(size, sheet::BASE, map, &mut list);
     match answer {
         Solved::Repairs(count) => listed(out, b"repair ", &list, count),
-        Solved::Cycle { disks, left: _left } => listed(out, b"fatal ", &list, disks),
+        Solved::Cycle { disks, lost: _lost } => listed(out, b"fatal ", &list, disks),
     }
 }

@@ -12,7 +12,7 @@ ghost use Rattle.sums.specs.Held.{Held};
 ghost use Rattle.restore.specs.Restored.{fits, restored};
 
 pub mod repair;
-mod zero;
+pub mod zero;
 
 use model::Size;
 use stripes::Stretch;

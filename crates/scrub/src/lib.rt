@@ -1,12 +1,10 @@
 // Check: tests whether an array is sealed. In the field's words, a scrub.
 ghost use mathlib.Core.Path.{_≡_};
 ghost use Rattle.model.specs.Array.{checked};
+use layout::stripe::COLUMN_BASE;
 use model::Checked;
 use model::Size;
 use stripes::Stretch;
-
-// The stripe of column 0: column c is stripe BASE + c in what check answers.
-const BASE: usize = 16;
 
 // Tests the sum of every stripe, rows first.
 pub fn check(size: Size, block: usize, array: &[u8]) -> Checked
@@ -21,8 +19,8 @@ pub fn check(size: Size, block: usize, array: &[u8]) -> Checked
         offset: 0,
         width: block,
     };
-    let lowest = sums::nonzero::lowest_nonzero(size, BASE, all, array);
-    if lowest < layout::stripe::bound(size, BASE) {
+    let lowest = sums::nonzero::lowest_nonzero(size, COLUMN_BASE, all, array);
+    if lowest < layout::stripe::bound(size, COLUMN_BASE) {
         return Checked::Unsealed(lowest);
     }
     Checked::Sealed

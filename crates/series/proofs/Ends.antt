@@ -14,7 +14,8 @@ use lib.ListN.{length, take}
 use Rattle.stripes.specs.Fold.{count}
 use Rattle.stripes.specs.System.{whole}
 use Rattle.stripes.specs.Erased.{erasures}
-use Rattle.stripes.specs.Repair.{repairs, lost, fatal}
+use Rattle.stripes.specs.Undetermined.{lost}
+use Rattle.stripes.specs.Repair.{repairs, fatal}
 use Rattle.stripes.proofs.Fold.{same-test, lt-or-le, length-tabulate, count-some, count-found}
 use Rattle.stripes.proofs.Peel.{repairs-peels}
 use Rattle.stripes.proofs.Parts.{peels-take}

@@ -8,9 +8,13 @@ use native.Mathlib.Nat.{pos-of-ne-zero}
 use borrow.Author.Tests.{lt-ltb}
 use lib.Dec.{ltb}
 use lib.ListN.{length}
-use Rattle.stripes.specs.System.{Layout}
-use Rattle.stripes.specs.Repair.{fatal}
+use Rattle.stripes.specs.System.{Layout, TwoStripes}
+use Rattle.stripes.specs.Erased.{erasures}
+use Rattle.stripes.specs.Repair.{repairs, residual, fatal}
+use Rattle.stripes.specs.Undetermined.{lost}
 use Rattle.stripes.specs.Cycle.{shownCycle}
+use Rattle.stripes.proofs.Peel.{repairs-peels}
+use Rattle.stripes.proofs.Saved.{lost-after}
 use Rattle.entries.specs.Listed.{listed}
 use Rattle.solve.specs.Memory.{Peeled}
 use Rattle.solve.specs.Solved.{Repairable, Lossy}
@@ -24,12 +28,19 @@ module _ {L : Layout} {e : ℕ → Bool} {made left : ℕ} {work stripes list : 
   pub solves-repairs : left ≡ 0 → Repairable L e made list
   solves-repairs none = record { fine = is-fine none; number = p .number; entries = p .listed }
 
-  -- Disks are left: their number, and a cycle.
+  -- Disks are left: a cycle. What repairs leave has as many undetermined disks as the loss.
   module _ (some : left ≡ 0 → ⊥) where
     pub is-lossy : fatal L e ≡ true
     unfolding fatal
     is-lossy = ap (λ (n : ℕ). ltb 0 n) (sym (p .rest)) ∙ lt-ltb 0 left (pos-of-ne-zero some)
 
-    pub solves-cycle : {disks : ℕ} (after : List ℕ) → disks ≡ length (shownCycle L e) → listed after disks ≡ shownCycle L e
-        → Lossy L e disks left after
-    solves-cycle after number entries = record { lossy = is-lossy; number = number; rest = p .rest; entries = entries }
+    pub solves-cycle : TwoStripes L → {unknown : ℕ} → unknown ≡ lost L (erasures work) → {disks : ℕ} (after : List ℕ)
+        → disks ≡ length (shownCycle L e) → listed after disks ≡ shownCycle L e → Lossy L e disks unknown after
+    unfolding residual
+    solves-cycle two counted after number entries =
+        record {
+          lossy = is-lossy;
+          number = number;
+          undetermined = counted ∙ ap (lost L) (p .erased) ∙ sym (lost-after L two e (repairs L e) (repairs-peels L e));
+          entries = entries;
+        }

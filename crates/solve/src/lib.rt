@@ -18,8 +18,8 @@ use model::Size;
 pub enum Solved {
     // The number of repairs.
     Repairs(usize),
-    // The number of disks in the cycle, and of disks that plan's order leaves.
-    Cycle { disks: usize, left: usize },
+    // The number of disks in the cycle, and of undetermined disks.
+    Cycle { disks: usize, lost: usize },
 }
 
 // `solve` in memory that is lent. What it held does not matter.
@@ -41,9 +41,10 @@ fn solve_in(
     if found.left == 0 {
         return Solved::Repairs(found.made);
     }
+    let lost = parts::lost::undetermined_count(size, base, work, stripes);
     Solved::Cycle {
         disks: fatal::show(size, base, map, work, stripes, counts, list),
-        left: found.left,
+        lost: lost,
     }
 }
 

@@ -61,6 +61,12 @@ total-mono (suc n) f g h =
     let here = h n (lt-suc-self n) in
     omega arith
 
+pub total-upto : (k n : ℕ) (f : ℕ → ℕ) → k ≤ n → total k f ≤ total n f
+unfolding total
+total-upto k zero f h = let none : k ≡ 0 = omega arith in rw none (le-refl _)
+total-upto k (suc n) f h =
+    ⊎-elim (λ (e : k ≡ suc n). rw e (le-refl _)) (λ (l : k < suc n). let before = total-upto k n f (omega arith) in omega arith) (eq-or-lt-of-le h)
+
 -- Where no part is larger and the sum is not smaller, the parts are equal.
 pub total-squeeze : (n : ℕ) (f g : ℕ → ℕ) → ((i : ℕ) → i < n → f i ≤ g i) → total n g ≤ total n f → (i : ℕ) → i < n → f i ≡ g i
 unfolding total
@@ -89,6 +95,9 @@ pub count-total : (n : ℕ) (t : ℕ → Bool) → count n t ≡ total n (λ i. 
 unfolding total count
 count-total zero t = refl
 count-total (suc n) t = ap (λ (x : ℕ). x + bit (t n)) (count-total n t)
+
+pub count-upto : (k n : ℕ) (t : ℕ → Bool) → k ≤ n → count k t ≤ count n t
+count-upto k n t h = rw (count-total, count-total) (total-upto k n (λ i. bit (t i)) h)
 
 -- Just one number equals k.
 -- The bit of the number k where the test holds of it, and by itself.

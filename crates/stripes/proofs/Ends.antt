@@ -3,17 +3,18 @@
 -- Assumes nothing.
 use mathlib.Core.Path.{_≡_, refl, sym, _∙_, ap, ap₂}
 use mathlib.Core.Bool.{Bool, true, false, cond, not, _&&_, and-false, false≢true}
+use mathlib.Core.Logic.{⊎-elim}
 use Prim.Native.Nat.{ℕ, _+_, _<_}
 use native.Mathlib.Omega.{arith}
 use borrow.Author.Tests.{ne-eqb, eqb-true, not-true}
 use lib.Dec.{eqb}
 use Rattle.stripes.specs.Fold.{_⊕_, xsum, gate, bit, count}
-use Rattle.stripes.specs.System.{Layout, TwoStripes, lower, higher, on, sumOver}
+use Rattle.stripes.specs.System.{Layout, TwoStripes, lower, higher, on, otherThan, sumOver}
 use Rattle.stripes.specs.Joined.{joined, crosses}
 use Rattle.stripes.proofs.Xor.{⊕-comm, ⊕-self, ⊕-assoc, ⊕-cancel}
 use Rattle.stripes.proofs.Fold.{by-cases, xsum-ext, xsum-zero, xsum-⊕, xsum-swap, gate-⊕, gate-zero, gate-swap, gate-one, gate-or, gate-xsum, xsum-at, and-right}
 use Rattle.stripes.proofs.Sums.{sumOver-ext, sumOver-⊕}
-use Rattle.stripes.proofs.Degree.{total, total-ext, total-zero, total-swap, count-total, count-where, on-two, on-among}
+use Rattle.stripes.proofs.Degree.{total, total-ext, total-zero, total-swap, count-total, count-where, other-first, other-second, on-two, on-which, on-among}
 use Rattle.stripes.proofs.Joined.{lower-is, higher-is, lower-bound, higher-bound, joined-least}
 
 -- ---- a disk on its two stripes
@@ -110,6 +111,22 @@ module _ (L : Layout) (two : TwoStripes L) (some : ℕ → Bool) where
       ∙ ap₂ (λ (x y : ℕ). x ⊕ y) (xsum-at (L .stripeBound) (lower L d) (lower-bound L two d l) (λ s. gate (some s) v))
       (xsum-at (L .stripeBound) (higher L d) (higher-bound L two d l) (λ s. gate (some s) v))
       ∙ sym (gate-one (some (lower L d)) (some (higher L d)) v)
+
+  -- A disk on one of them crosses if its other stripe is not among them.
+  pub crosses-from : (d : ℕ) → d < L .disks → (s : ℕ) → on L d s ≡ true → some s ≡ true → crosses L some d ≡ not (some (otherThan s (L .through d)))
+  unfolding crosses
+  crosses-from d l s there e =
+      let order = two .order d l in
+      let apart : two .high d ≡ two .low d → ⊥ = λ h. omega arith in
+      rw (higher-is L two d l, lower-is L two d l, two .two d l)
+      (⊎-elim
+      (λ (q : s ≡ two .low d). rw q (simp (sym (ap some q) ∙ e) (ap (λ (t : ℕ). not (some t)) (sym (other-first (two .low d) (two .high d) apart)))))
+      (λ (q : s ≡ two .high d).
+      rw q
+      (simp (sym (ap some q) ∙ e)
+      (by-cases (λ (t : Bool). cond t false true ≡ not t) (some (two .low d)) (λ h. refl) (λ h. refl)
+      ∙ ap (λ (t : ℕ). not (some t)) (sym (other-second (two .low d) (two .high d) apart)))))
+      (on-which L two d l s there))
 
   pub cut-sum : (f : ℕ → ℕ) → xsum (L .stripeBound) (λ s. gate (some s) (sumOver L f s)) ≡ xsum (L .disks) (λ d. gate (crosses L some d) (f d))
   unfolding sumOver

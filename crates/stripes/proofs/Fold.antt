@@ -4,8 +4,8 @@ use mathlib.Core.Path.{_≡_, refl, sym, _∙_, ap, ap₂, subst}
 use mathlib.Core.Bool.{Bool, true, false, cond, not, _&&_, _||_, and-assoc, and-true, and-false, true≢false, false≢true}
 use mathlib.Core.Logic.{_⊎_, inl, inr, ⊎-elim}
 use mathlib.Core.List.{List}
-use Prim.Native.Nat.{ℕ, zero, suc, _+_, _*_, _≤_, _<_, zero-le, suc-le-suc}
-use native.Mathlib.Nat.{add-zero, add-comm, add-suc, zero-mul, suc-mul, eq-or-lt-of-le, le-of-suc-le-suc, lt-suc-self, le-step, le-refl, le-of-lt, lt-irrefl, not-suc-le-zero, lt-of-lt-of-le, zero-lt-suc, pos-of-ne-zero}
+use Prim.Native.Nat.{ℕ, zero, suc, _+_, _*_, _-_, _≤_, _<_, zero-le, suc-le-suc}
+use native.Mathlib.Nat.{add-sub-of-le, add-zero, add-comm, add-suc, zero-mul, suc-mul, eq-or-lt-of-le, le-of-suc-le-suc, lt-suc-self, le-step, le-refl, le-of-lt, lt-irrefl, not-suc-le-zero, lt-of-lt-of-le, zero-lt-suc, pos-of-ne-zero}
 use native.Mathlib.Omega.{arith}
 use borrow.Author.Tests.{ltb-true, ltb-false, eq-eqb, ne-eqb, eqb-true, eqb-false}
 use lib.Dec.{ltb, eqb}
@@ -284,6 +284,13 @@ count-add m (suc n) t =
     let step : count (m + suc n) t ≡ count (m + n) t + bit (t (m + n)) = ap (λ (k : ℕ). count k t) (add-suc m n) in
     let up = count-add m n t in
     omega arith
+
+-- Numbers of which the test fails change no count.
+pub count-over : (t : ℕ → Bool) (j k : ℕ) → j ≤ k → ((i : ℕ) → j ≤ i → i < k → t i ≡ false) → count k t ≡ count j t
+count-over t j k le none =
+    let all : j + (k - j) ≡ k = add-sub-of-le le in
+    ap (λ (n : ℕ). count n t) (sym all) ∙ count-add j (k - j) t
+    ∙ ap (λ (n : ℕ). count j t + n) (count-none (k - j) (λ i l. none (j + i) (omega arith) (omega arith))) ∙ add-zero (count j t)
 
 -- Where the test fails from m on, it holds of at most m numbers.
 pub count-short : (m n : ℕ) (t : ℕ → Bool) → ((i : ℕ) → m ≤ i → i < n → t i ≡ false) → count n t ≤ m

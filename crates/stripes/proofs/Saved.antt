@@ -7,19 +7,23 @@ use mathlib.Core.Logic.{_↔_}
 use mathlib.Core.List.{List}
 use Prim.Native.Nat.{ℕ, _+_, _*_, _≤_, _<_}
 use native.Mathlib.Omega.{arith}
+use borrow.Author.Tests.{eqb-true, eqb-false, ne-eqb}
+use lib.Dec.{eqb}
 use lib.ListN.{length}
-use Rattle.stripes.specs.Fold.{bit, count}
-use Rattle.stripes.specs.System.{Layout, TwoStripes, whole, byte, Codeword}
-use Rattle.stripes.specs.Erased.{Agree, Belongs, AmbiguousIn}
+use Rattle.stripes.specs.Fold.{gate, bit, count}
+use Rattle.stripes.specs.System.{Layout, TwoStripes, lower, whole, byte, Codeword}
+use Rattle.stripes.specs.Erased.{without, Agree, Belongs, AmbiguousIn}
 use Rattle.stripes.specs.Repair.{Entry, Peels, repairs, after, fatal, rebuilt}
-use Rattle.stripes.specs.Undetermined.{undetermined, determined, lost, savedByte, saved}
+use Rattle.stripes.specs.Joined.{joined}
+use Rattle.stripes.specs.Undetermined.{undetermined, determined, lost, survivorSum, partSum, savedByte, saved}
 use Rattle.stripes.specs.declared.Stretch.{Stretch}
-use Rattle.stripes.proofs.Fold.{and-left, fails-with, by-cases, same-test, count-ext, count-some, count-found, count-split}
+use Rattle.stripes.proofs.Fold.{xsum-ext, and-left, and-both, fails-with, by-cases, same-test, count-ext, count-mono, count-without, count-some, count-found, count-split}
 use Rattle.stripes.proofs.Bytes.{byte-changed, whole-inside, length-changed, changed-is, changed-outside, changed-self}
-use Rattle.stripes.proofs.Peel.{after-sub, peel-count, repairs-peels}
+use Rattle.stripes.proofs.Sums.{sumOver-ext}
+use Rattle.stripes.proofs.Peel.{without-sub, without-other, without-apart, after-sub, peel-count, repairs-peels}
 use Rattle.stripes.proofs.Degree.{two-ordered}
 use Rattle.stripes.proofs.Core.{differ-in, ambiguous-in}
-use Rattle.stripes.proofs.Restore.{Bounded, length-rebuilt, rebuilt-outside, rebuilt-left, restore, none-left, restored-is, unique}
+use Rattle.stripes.proofs.Restore.{Bounded, agree-gate, length-rebuilt, rebuilt-outside, rebuilt-left, restore, none-left, restored-is, unique}
 use Rattle.stripes.proofs.Undetermined.{saved-byte, undetermined-iff}
 
 -- ---- determined and undetermined disks
@@ -121,7 +125,62 @@ module _ (L : Layout) (two : TwoStripes L) where
         let all = peel-count L e w peels in
         omega arith
 
+  -- ---- a disk is determined exactly if the count of lost disks stays the same where it is not erased
+  module _ (e : ℕ → Bool) (d : ℕ) (l : d < L .disks) where
+    -- Fewer erased disks leave no more of them open.
+    undetermined-fewer : (i : ℕ) → i < L .disks → undetermined L (without e d) i ≡ true → undetermined L e i ≡ true
+    undetermined-fewer i m h =
+        let (a, b, first, second, same, differ) = in-bytes (without e d) i m .0 h in
+        in-bytes e i m .1 (a, b, first, second, (λ j n k. same j n (fails-with (without e d j) (e j) (without-sub e d j) k)), differ)
+
+    -- Codewords that agree on the survivors agree on a determined disk too.
+    undetermined-without : undetermined L e d ≡ false → (i : ℕ) → i < L .disks → undetermined L e i ≡ undetermined L (without e d) i
+    undetermined-without one i m =
+        same-test (undetermined L e i) (undetermined L (without e d) i)
+        (λ h.
+        let (a, b, first, second, same, differ) = in-bytes e i m .0 h in
+        in-bytes (without e d) i m .1 (
+          a,
+          b,
+          first,
+          second,
+          (λ j n k p q.
+              by-cases (λ (t : Bool). eqb j d ≡ t → byte (whole 1) a j p ≡ byte (whole 1) b j p) (eqb j d)
+              (λ _ u. rw (eqb-true j d u) (agree-in a b first second same p q))
+              (λ _ u. same j n (sym (without-other e d j (eqb-false j d u)) ∙ k) p q) refl),
+          differ,
+        ))
+        (undetermined-fewer i m)
+      where
+        agree-in : (a b : List ℕ) → Codeword L (whole 1) a → Codeword L (whole 1) b → Agree L (whole 1) e a b → (p : ℕ) → p < whole 1 .width
+            → byte (whole 1) a d p ≡ byte (whole 1) b d p
+        agree-in a b first second same p q =
+            by-cases (λ (t : Bool). eqb (byte (whole 1) a d p) (byte (whole 1) b d p) ≡ t → byte (whole 1) a d p ≡ byte (whole 1) b d p)
+            (eqb (byte (whole 1) a d p) (byte (whole 1) b d p)) (λ _ u. eqb-true _ _ u)
+            (λ _ u. absurd (true≢false (sym (in-bytes e d l .1 (a, b, first, second, same, (p, q, eqb-false _ _ u))) ∙ one))) refl
+
+    pub lost-tells : (lost L (without e d) ≡ lost L e) ↔ (undetermined L e d ≡ false)
+    unfolding lost
+    lost-tells = (
+      λ same. by-cases (λ (t : Bool). t ≡ false) (undetermined L e d)
+          (λ h.
+          let less = count-mono (L .disks) {t = undetermined L (without e d)} {u = λ i. undetermined L e i && not (eqb i d)} (λ i m k. and-both (undetermined-fewer i m k) (ap not (ne-eqb i d (without-apart e d i (undetermined-erased L (without e d) i k))))) in
+          let one = count-without (L .disks) (undetermined L e) d l h in
+          absurd (omega arith))
+          (λ h. refl),
+      λ one. sym (count-ext (L .disks) (undetermined-without one)),
+    )
+
 -- ---- the array with the determined disks saved
+
+-- The byte of a determined disk depends on the survivors alone.
+pub saved-byte-same : (L : Layout) (x : Stretch) (e : ℕ → Bool) (a b : List ℕ) → Agree L x e a b
+    → (d p : ℕ) → p < x .width → savedByte L x e a d p ≡ savedByte L x e b d p
+unfolding savedByte partSum survivorSum
+saved-byte-same L x e a b same d p h =
+    xsum-ext (L .stripeBound)
+    (λ s k. ap (gate (joined L (without e d) s (lower L d))) (sumOver-ext L (λ i l. agree-gate L x e a b same i l p h) s))
+
 pub length-saved : (L : Layout) (x : Stretch) (a : List ℕ) (e : ℕ → Bool) → length (saved L x a e) ≡ length a
 unfolding saved
 length-saved L x a e = length-changed x a _

@@ -8,7 +8,7 @@ use Prim.Native.Nat.{ℕ, _+_, _*_, _≤_, _<_}
 use lib.ListN.{length, take, drop}
 use Rattle.stripes.specs.Fold.{count}
 use Rattle.stripes.specs.System.{Layout, Ordered, TwoStripes, whole, byte, Codeword, Bytes, consistent}
-use Rattle.stripes.specs.Erased.{Agree, Belongs, Ambiguous, AmbiguousIn, LostCount}
+use Rattle.stripes.specs.Erased.{without, Agree, Belongs, Ambiguous, AmbiguousIn, LostCount}
 use Rattle.stripes.specs.Repair.{Entry, Peels, repairs, after, residual, fatal, rebuilt, InOrder}
 use Rattle.stripes.specs.Cycle.{Cycle}
 use Rattle.stripes.specs.Undetermined.{undetermined, determined, lost, partsCancel, savedByte}
@@ -22,7 +22,7 @@ use Rattle.stripes.proofs.Trace.{cycle-fatal, shown}
 use Rattle.stripes.proofs.Restore.{judge, restored-is, unique}
 use Rattle.stripes.proofs.Parts.{repairs-rest, fatal-rest}
 use Rattle.stripes.proofs.Undetermined.{saved-byte, belongs-iff, undetermined-iff}
-use Rattle.stripes.proofs.Saved.{fatal-lost as Saved·fatal-lost, reached-determined as Saved·reached-determined, undetermined-after}
+use Rattle.stripes.proofs.Saved.{fatal-lost as Saved·fatal-lost, reached-determined as Saved·reached-determined, undetermined-after, lost-tells}
 
 -- ---- where the stripes of a disk are listed in rising order
 module _ (L : Layout) (e : ℕ → Bool) where
@@ -81,6 +81,11 @@ module _ (L : Layout) (two : TwoStripes L) (e : ℕ → Bool) where
   -- A loss is fatal exactly if some disk is undetermined.
   pub fatal-lost : (fatal L e ≡ true) ↔ (0 < lost L e)
   fatal-lost = Saved·fatal-lost L two e
+
+  -- Which disks are determined can be told from the number of lost disks alone: a disk is, exactly if the number stays the same where
+  -- that disk is not erased.
+  pub told-by-count : (d : ℕ) → d < L .disks → (lost L (without e d) ≡ lost L e) ↔ (undetermined L e d ≡ false)
+  told-by-count = lost-tells L two e
 
   module _ (x : Stretch) where
     -- A disk is undetermined exactly if two codewords agree on the survivors and differ in it.

@@ -1,2 +1,4 @@
 pub mod Added
+pub mod Parts
 pub mod Strided
+pub mod Listed

@@ -5,8 +5,9 @@ use mathlib.Core.List.{List}
 use Prim.Native.Nat.{ℕ, _+_, _*_, _≤_, _<_}
 use lib.Dec.{eqb}
 use lib.ListN.{length, getD}
-use Rattle.stripes.specs.Fold.{_⊕_, xsum, gate, every}
+use Rattle.stripes.specs.Fold.{_⊕_, xsum, gate}
 use Rattle.zeros.specs.Stored.{stored}
+use Rattle.xor.specs.Parts.{zeroFrom, storedFrom}
 
 -- The stretches of w bytes, `count` of them that stand `step` apart from `first` on, lie within the list.
 abbrev pub Within : List ℕ → (first step count w : ℕ) → Type 0
@@ -28,8 +29,8 @@ added l at n f = stored l at n (λ i. getD l (at + i) 0 ⊕ f i)
 
 -- The list with stretch number `skip`, n bytes of it, the sum of the others.
 unfoldable pub filled : ℕ → List ℕ → (first step count skip : ℕ) → List ℕ
-filled n a first step count skip = stored a (first + skip * step) n (λ i. strided a (first + i) step count skip)
+filled n a first step count skip = storedFrom a (first + skip * step) (λ j. strided a j step count skip) first n
 
 -- The sum of the stretches but number `skip` is zero at each of n places.
 unfoldable pub cancelled : ℕ → List ℕ → (first step count skip : ℕ) → Bool
-cancelled n a first step count skip = every n (λ i. eqb (strided a (first + i) step count skip) 0)
+cancelled n a first step count skip = zeroFrom (λ j. strided a j step count skip) first n

@@ -10,7 +10,7 @@ ghost use Rattle.xor.specs.Strided.{Within, cancelled};
 use crate::sum::sum;
 
 // The first w bytes of v are all zero.
-fn is_zero(v: [u8; 128], w: usize) -> bool
+pub(crate) fn is_zero(v: [u8; 128], w: usize) -> bool
     requires { ⌜ w ≤ 128 ⌝ }
     ensures { λ r. ⌜ r ≡ every w (λ i. eqb (getD v i 0) 0) ⌝ }
 {

@@ -5,7 +5,7 @@ use Prim.Native.Nat.{_≤_, _-_, _+_, _*_}
 use native.Mathlib.Omega.{arith}
 use borrow.Author.Needs.{needs}
 use lib.ListN.{length}
-use Rattle.xor.proofs.Strided.{upto}
+use Rattle.xor.proofs.Parts.{upto}
 use Rattle.write.specs.Store.{parts}
 use Rattle.write.proofs.Turns.{part-is, parts-next}
 use Rattle.write.proofs.store.store_parts.Statement.{statement}

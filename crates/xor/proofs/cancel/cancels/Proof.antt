@@ -7,8 +7,8 @@ use native.Mathlib.Nat.{le-refl}
 use native.Mathlib.Omega.{arith}
 use borrow.Author.Needs.{needs}
 use borrow.Author.Tests.{not-true, not-false}
-use Rattle.xor.specs.Strided.{cancelled}
-use Rattle.xor.proofs.Strided.{cancelled-after, cancelled-fails}
+use Rattle.xor.specs.Strided.{strided, cancelled}
+use Rattle.xor.proofs.Parts.{zero-after, zero-fails}
 use Rattle.xor.proofs.cancel.cancels.Statement.{statement}
 use Rattle.xor.proofs.cancel.cancels.Tie as tie
 
@@ -19,16 +19,18 @@ wide c = sym (c .before .parts-cancel2 .ensures) ∙ not-false _ (c .if2 .left)
 
 middle : (c : tie.Else3)
     → let a = c .before .before .before .before .before .before .args in cancelled (a .len - a .len % 32) (a .a .now) (a .first) (a .step) (a .count) (a .skip) ≡ true
+unfolding cancelled
 middle c =
     let a = c .before .before .before .before .before .before .args in
-    cancelled-after (a .a .now) (a .first) (a .step) (a .count) (a .skip) _ _ _ _ _ (le-refl _) (omega arith) refl (wide (c .before .before))
+    zero-after (λ j. strided (a .a .now) j (a .step) (a .count) (a .skip)) (a .first) _ _ _ _ _ (le-refl _) (omega arith) refl (wide (c .before .before))
     ∙ sym (c .before .parts-cancel3 .ensures) ∙ not-false _ (c .if3 .left)
 
 narrow : (c : tie.Else4)
     → let a = c .before .before .before .before .before .before .before .before .args in cancelled (a .len - a .len % 16) (a .a .now) (a .first) (a .step) (a .count) (a .skip) ≡ true
+unfolding cancelled
 narrow c =
     let a = c .before .before .before .before .before .before .before .before .args in
-    cancelled-after (a .a .now) (a .first) (a .step) (a .count) (a .skip) _ _ _ _ _ (le-refl _) (omega arith) refl (middle (c .before .before))
+    zero-after (λ j. strided (a .a .now) j (a .step) (a .count) (a .skip)) (a .first) _ _ _ _ _ (le-refl _) (omega arith) refl (middle (c .before .before))
     ∙ sym (c .before .parts-cancel4 .ensures) ∙ not-false _ (c .if4 .left)
 
 parts-cancel-requires : tie.Need-parts-cancel-requires
@@ -43,9 +45,10 @@ parts-cancel-requires-2 : tie.Need-parts-cancel-requires-2
 parts-cancel-requires-2 c κs = (search needs, (λ k h. omega (arith, c .before .before .pre .0 k h), omega arith))
 
 returns-2 : tie.Need-returns-2
+unfolding cancelled
 returns-2 c =
     let a = c .before .before .before .before .args in
-    cancelled-fails (a .a .now) (a .first) (a .step) (a .count) (a .skip) 0 _ _ _ (omega arith) (omega arith)
+    zero-fails (λ j. strided (a .a .now) j (a .step) (a .count) (a .skip)) (a .first) 0 _ _ _ (omega arith) (omega arith)
     (sym (c .before .parts-cancel2 .ensures) ∙ not-true _ (c .if2 .taken))
 
 mul-parts-cancel : tie.Need-mul-parts-cancel
@@ -58,9 +61,10 @@ parts-cancel-requires-3 : tie.Need-parts-cancel-requires-3
 parts-cancel-requires-3 c κs = (search needs, (λ k h. omega (arith, c .before .before .before .before .pre .0 k h), omega arith))
 
 returns-3 : tie.Need-returns-3
+unfolding cancelled
 returns-3 c =
     let a = c .before .before .before .before .before .before .args in
-    cancelled-fails (a .a .now) (a .first) (a .step) (a .count) (a .skip) (128 * (a .len / 128)) _ _ _ refl (omega arith)
+    zero-fails (λ j. strided (a .a .now) j (a .step) (a .count) (a .skip)) (a .first) (128 * (a .len / 128)) _ _ _ refl (omega arith)
     (sym (c .before .parts-cancel3 .ensures) ∙ not-true _ (c .if3 .taken))
 
 sub-parts-cancel : tie.Need-sub-parts-cancel
@@ -73,9 +77,10 @@ parts-cancel-requires-4 : tie.Need-parts-cancel-requires-4
 parts-cancel-requires-4 c κs = (search needs, (λ k h. omega (arith, c .before .before .before .before .before .before .pre .0 k h), omega arith))
 
 returns-4 : tie.Need-returns-4
+unfolding cancelled
 returns-4 c =
     let a = c .before .before .before .before .before .before .before .before .args in
-    cancelled-fails (a .a .now) (a .first) (a .step) (a .count) (a .skip) (a .len - a .len % 32) _ _ _ refl (omega arith)
+    zero-fails (λ j. strided (a .a .now) j (a .step) (a .count) (a .skip)) (a .first) (a .len - a .len % 32) _ _ _ refl (omega arith)
     (sym (c .before .parts-cancel4 .ensures) ∙ not-true _ (c .if4 .taken))
 
 returns-5 : tie.Need-returns-5
@@ -90,11 +95,12 @@ parts-cancel-requires-5 : tie.Need-parts-cancel-requires-5
 parts-cancel-requires-5 c κs = (search needs, (λ k h. omega (arith, c .before .before .before .before .before .before .before .before .before .pre .0 k h), omega arith))
 
 returns-6 : tie.Need-returns-6
+unfolding cancelled
 returns-6 c =
     let a = c .before .before .before .before .before .before .before .before .before .before .args in
     c .parts-cancel5 .ensures
     ∙ sym
-    (cancelled-after (a .a .now) (a .first) (a .step) (a .count) (a .skip) _ _ _ _ _ (omega arith) (omega arith) refl (narrow (c .before .before)))
+    (zero-after (λ j. strided (a .a .now) j (a .step) (a .count) (a .skip)) (a .first) _ _ _ _ _ (omega arith) (omega arith) refl (narrow (c .before .before)))
 
 pub cancels-spec : {M : Type 1} → statement M
 cancels-spec =

@@ -8,7 +8,7 @@ use lib.Dec.{eqb}
 use lib.ListN.{getD}
 use Rattle.stripes.specs.Fold.{every}
 use Rattle.zeros.proofs.Gathered.{zero-next}
-use Rattle.xor.proofs.Strided.{zeroAt}
+use Rattle.xor.proofs.Parts.{zeroAt}
 use Rattle.xor.proofs.cancel.is_zero.Statement.{statement}
 use Rattle.xor.proofs.cancel.is_zero.Tie as tie
 

@@ -6,8 +6,8 @@ use Prim.Native.Nat.{ℕ, _≤_, _-_, _*_}
 use native.Mathlib.Omega.{arith}
 use borrow.Author.Needs.{needs}
 use borrow.Author.Tests.{not-true, not-false}
-use Rattle.xor.specs.Strided.{cancelled}
-use Rattle.xor.proofs.Strided.{upto, cancelled-none, turn-fails, turn-passes}
+use Rattle.xor.specs.Strided.{strided, cancelled}
+use Rattle.xor.proofs.Parts.{upto, zero-none, turn-fails, turn-passes}
 use Rattle.xor.proofs.cancel.parts_cancel.Statement.{statement}
 use Rattle.xor.proofs.cancel.parts_cancel.Tie as tie
 
@@ -18,7 +18,8 @@ abbrev μ-loop : tie.MeasureT-loop
 μ-loop a first step count skip parts w i₀ i = parts - i
 
 loop-holds : tie.Need-loop-holds Inv-loop μ-loop
-loop-holds c = (search needs, cancelled-none _ _ _ _ _ _)
+unfolding cancelled
+loop-holds c = let a = c .before .args in (search needs, zero-none (λ j. strided (a .a .now) j (a .step) (a .count) (a .skip)) (a .first) (a .w))
 
 mul-sum : tie.Need-mul-sum Inv-loop μ-loop
 mul-sum c = omega (arith, upto (c .before .before .before .args .w) (c .loop-test .taken))
@@ -36,12 +37,15 @@ is-zero-requires : tie.Need-is-zero-requires Inv-loop μ-loop
 is-zero-requires c κs = search needs
 
 returns : tie.Need-returns Inv-loop μ-loop
+unfolding cancelled
 returns c =
     let s = c .before .before .before .before .before .before in
     let l = c .before .before .before .before .loop in
     let v = c .before .before .sum in
     let z = c .before .is-zero in
-    turn-fails (s .args .w) (s .args .a .now) (s .args .first) (s .args .step) (s .args .count) (s .args .skip) (s .args .parts) (l .i) (c .before .before .before .loop-test .taken) (v .result) (z .result) (v .ensures) (z .ensures) (not-true _ (c .if1 .taken))
+    turn-fails (λ j. strided (s .args .a .now) j (s .args .step) (s .args .count) (s .args .skip))
+    (s .args .w) (s .args .first) (s .args .parts) (l .i) (c .before .before .before .loop-test .taken)
+    (v .result) (z .result) (v .ensures) (z .ensures) (not-true _ (c .if1 .taken))
 
 add-i : tie.Need-add-i Inv-loop μ-loop
 add-i c = search needs
@@ -50,12 +54,17 @@ loop-less : tie.Need-loop-less Inv-loop μ-loop
 loop-less c = search needs
 
 loop-again : tie.Need-loop-again Inv-loop μ-loop
+unfolding cancelled
 loop-again c =
     let s = c .before .before .before .before .before .before in
     let l = c .before .before .before .before .loop in
     let v = c .before .before .sum in
-    let z = c .before .is-zero in
-    (search needs, turn-passes (s .args .w) (s .args .a .now) (s .args .first) (s .args .step) (s .args .count) (s .args .skip) (s .args .parts) (l .i) (c .before .before .before .loop-test .taken) (v .result) (z .result) (v .ensures) (z .ensures) (l .inv .1) (not-false _ (c .if1 .left)))
+    let z = c .before .is-zero in (
+      search needs,
+      turn-passes (λ j. strided (s .args .a .now) j (s .args .step) (s .args .count) (s .args .skip))
+          (s .args .w) (s .args .first) (s .args .parts) (l .i) (c .before .before .before .loop-test .taken)
+          (v .result) (z .result) (v .ensures) (z .ensures) (l .inv .1) (not-false _ (c .if1 .left)),
+    )
 
 returns-2 : tie.Need-returns-2 Inv-loop μ-loop
 returns-2 c =

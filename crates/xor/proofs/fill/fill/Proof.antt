@@ -6,29 +6,30 @@ use native.Mathlib.Nat.{le-refl}
 use native.Mathlib.Omega.{arith}
 use borrow.Author.Needs.{needs}
 use Rattle.xor.specs.Strided.{filled}
-use Rattle.xor.proofs.Strided.{filled-then, spaced-later}
+use Rattle.xor.proofs.Parts.{filled-then}
+use Rattle.xor.proofs.Strided.{spaced-aside, spaced-later}
 use Rattle.xor.proofs.fill.fill.Statement.{statement}
 use Rattle.xor.proofs.fill.fill.Tie as tie
 
 -- What is filled after the parts of 32 bytes, and after those of 16.
 middle : (c : tie.After-fill-parts3)
     → let a = c .before .before .before .before .before .before .before .before .args in c .fill-parts3 .last .0 ≡ filled (a .len - a .len % 32) (a .a .now) (a .first) (a .step) (a .count) (a .skip)
+unfolding filled
 middle c =
     let s = c .before .before .before .before .before .before .before .before in
     let a = s .args in
-    let h = s .pre .apart in
     let wide = c .before .before .before .before .fill-parts2 in
-    filled-then (a .a .now) (a .first) (a .step) (a .count) (a .skip) _ (128 * (a .len / 128)) _ _ _ _ _ (omega arith) (le-refl _) (omega arith)
-    (omega arith) (wide .ensures) refl (c .fill-parts3 .ensures)
+    filled-then (spaced-aside (s .pre)) _ (128 * (a .len / 128)) _ _ _ _ _ _ (omega arith) (le-refl _) (omega arith)
+    (omega arith) (wide .ensures) refl (omega arith) (c .fill-parts3 .ensures)
 
 narrow : (c : tie.After-fill-parts4)
     → let a = c .before .before .before .before .before .before .before .before .before .before .before .before .args in c .fill-parts4 .last .0 ≡ filled (a .len - a .len % 16) (a .a .now) (a .first) (a .step) (a .count) (a .skip)
+unfolding filled
 narrow c =
     let s = c .before .before .before .before .before .before .before .before .before .before .before .before in
     let a = s .args in
-    let h = s .pre .apart in
-    filled-then (a .a .now) (a .first) (a .step) (a .count) (a .skip) _ (a .len - a .len % 32) _ _ _ _ _ (omega arith) (le-refl _) (omega arith)
-    (omega arith) (middle (c .before .before .before .before)) refl (c .fill-parts4 .ensures)
+    filled-then (spaced-aside (s .pre)) _ (a .len - a .len % 32) _ _ _ _ _ _ (omega arith) (le-refl _) (omega arith)
+    (omega arith) (middle (c .before .before .before .before)) refl (omega arith) (c .fill-parts4 .ensures)
 
 fill-parts-requires : tie.Need-fill-parts-requires
 fill-parts-requires c κs = (search needs, spaced-later 0 (c .before .before .before .pre) (omega arith) refl (omega arith))
@@ -86,12 +87,12 @@ same-length-3 : tie.Need-same-length-3
 same-length-3 c = search needs
 
 returns-3 : tie.Need-returns-3
+unfolding filled
 returns-3 c =
     let s = c .before .before .before .before .before .before .before .before .before .before .before .before .before .before .before .before .before .before .before in
     let a = s .args in
-    let h = s .pre .apart in
-    filled-then (a .a .now) (a .first) (a .step) (a .count) (a .skip) _ (a .len - 16) _ _ _ _ _ (omega arith) (omega arith) (omega arith) (omega arith)
-    (narrow (c .before .before .before .before .before .before .before)) refl (c .before .before .fill-parts5 .ensures)
+    filled-then (spaced-aside (s .pre)) _ (a .len - 16) _ _ _ _ _ _ (omega arith) (omega arith) (omega arith) (omega arith)
+    (narrow (c .before .before .before .before .before .before .before)) refl (omega arith) (c .before .before .fill-parts5 .ensures)
 
 pub fill-spec : {M : Type 1} → statement M
 fill-spec =

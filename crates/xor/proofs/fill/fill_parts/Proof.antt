@@ -1,12 +1,14 @@
 -- `xor::fill::fill_parts` meets its contract: after each turn w places more hold the sum.
 -- Assumes nothing.
 use mathlib.Core.Path.{_≡_, _∙_, ap}
-use Prim.Native.Nat.{ℕ, _≤_, _-_, _*_}
+use Prim.Native.Nat.{ℕ, _≤_, _-_, _*_, _+_}
 use native.Mathlib.Omega.{arith}
 use borrow.Author.Needs.{needs}
 use lib.ListN.{length}
-use Rattle.xor.specs.Strided.{filled}
-use Rattle.xor.proofs.Strided.{filled-none, length-filled, Turn, turn, turned}
+use Rattle.zeros.proofs.Stored.{length-stored}
+use Rattle.xor.specs.Strided.{strided, filled}
+use Rattle.xor.proofs.Parts.{filled-none, Turn, turn, turned}
+use Rattle.xor.proofs.Strided.{spaced-aside}
 use Rattle.xor.proofs.fill.fill_parts.Statement.{statement}
 use Rattle.xor.proofs.fill.fill_parts.Tie as tie
 
@@ -18,10 +20,12 @@ abbrev μ-loop : tie.MeasureT-loop
 
 -- What a turn may rely on.
 reach : (c : tie.In-loop Inv-loop μ-loop)
-    → let s = c .before .before .before in Turn (s .args .w) (s .args .a .now) (s .args .first) (s .args .step) (s .args .count) (s .args .skip) (c .before .loop .i) (c .before .loop .a)
+    → let a = c .before .before .before .args in Turn (a .w) (a .parts) (a .a .now) (a .first + a .skip * a .step) (c .before .loop .i) (c .before .loop .a)
+unfolding filled
 reach c =
     let s = c .before .before .before in
-    turn (s .args .w) (s .args .a .now) (s .args .first) (s .args .step) (s .args .count) (s .args .skip) (s .args .parts) (s .pre .1) (c .before .loop .i) (c .loop-test .taken) (c .before .loop .a) (c .before .loop .inv .1)
+    turn (s .args .w) (s .args .parts) (spaced-aside (s .pre .1))
+    (c .before .loop .i) (c .loop-test .taken) (c .before .loop .a) (c .before .loop .inv .1)
 
 mul-target : tie.Need-mul-target Inv-loop μ-loop
 mul-target c = omega (arith, c .before .pre .1 .within (c .before .args .skip) (c .before .pre .1 .one))
@@ -30,7 +34,10 @@ add-target : tie.Need-add-target Inv-loop μ-loop
 add-target c = omega (arith, c .before .pre .1 .within (c .before .args .skip) (c .before .pre .1 .one))
 
 loop-holds : tie.Need-loop-holds Inv-loop μ-loop
-loop-holds c = (search needs, filled-none _ _ _ _ _ _)
+unfolding filled
+loop-holds c =
+    let a = c .before .args in
+    (search needs, filled-none (a .w) (a .a .now) (a .first + a .skip * a .step) (λ j. strided (a .a .now) j (a .step) (a .count) (a .skip)) (a .first))
 
 mul-sum : tie.Need-mul-sum Inv-loop μ-loop
 mul-sum c = let t = reach (c .before) in omega arith
@@ -39,7 +46,9 @@ add-sum : tie.Need-add-sum Inv-loop μ-loop
 add-sum c = let t = reach (c .before) in omega arith
 
 sum-requires : tie.Need-sum-requires Inv-loop μ-loop
-sum-requires c κs = (search needs, reach (c .before) .read)
+sum-requires c κs =
+    let t = reach (c .before) in
+    (search needs, λ k h. omega (arith, c .before .before .before .before .pre .1 .within k h))
 
 mul-put : tie.Need-mul-put Inv-loop μ-loop
 mul-put c = let t = reach (c .before .before .before) in omega arith
@@ -48,7 +57,7 @@ add-put : tie.Need-add-put Inv-loop μ-loop
 add-put c = let t = reach (c .before .before .before) in omega arith
 
 put-requires : tie.Need-put-requires Inv-loop μ-loop
-put-requires c κs = (search needs, reach (c .before .before .before) .store)
+put-requires c κs = (search needs, reach (c .before .before .before) .room)
 
 add-i : tie.Need-add-i Inv-loop μ-loop
 add-i c = search needs
@@ -57,17 +66,23 @@ loop-less : tie.Need-loop-less Inv-loop μ-loop
 loop-less c = search needs
 
 loop-again : tie.Need-loop-again Inv-loop μ-loop
+unfolding filled
 loop-again c =
     let s = c .before .before .before .before .before .before .before .before .before in
     let l = c .before .before .before .before .before .before .before .loop in
     let v = c .before .before .before .before .sum in
     let p = c .before .before .put in (
       search needs,
-      turned (s .args .w) (s .args .a .now) (s .args .first) (s .args .step) (s .args .count) (s .args .skip) (s .args .parts) (s .pre .1) (l .i) (c .before .before .before .before .before .before .loop-test .taken) (l .a) (l .inv .1) (v .result) (p .last .0) (v .ensures) (p .ensures),
+      turned (s .args .w) (s .args .parts) (spaced-aside (s .pre .1)) (l .i)
+          (c .before .before .before .before .before .before .loop-test .taken) (l .a)
+          (l .inv .1) (v .result) (p .last .0) (v .ensures) (p .ensures),
     )
 
 same-length : tie.Need-same-length Inv-loop μ-loop
-same-length c = ap length (c .before .loop .inv .1) ∙ length-filled (c .before .before .before .args .w * c .before .loop .i) _ _ _ _ _
+unfolding filled
+same-length c =
+    let a = c .before .before .before .args in
+    ap length (c .before .loop .inv .1) ∙ length-stored (a .a .now) (a .first + a .skip * a .step) (a .w * c .before .loop .i) _
 
 returns : tie.Need-returns Inv-loop μ-loop
 returns c =

@@ -10,7 +10,7 @@ use lib.ListN.{set}
 use Rattle.stripes.specs.Fold.{_⊕_}
 use Rattle.zeros.specs.Stored.{stored}
 use Rattle.zeros.proofs.Stored.{stored-none, stored-next}
-use Rattle.xor.proofs.Strided.{differ, stored-at}
+use Rattle.xor.proofs.Parts.{differ, stored-at}
 use Rattle.xor.proofs.put.difference.Statement.{statement}
 use Rattle.xor.proofs.put.difference.Tie as tie
 

@@ -7,7 +7,7 @@ use native.Mathlib.Omega.{arith}
 use borrow.Author.Needs.{needs}
 use Rattle.xor.specs.Strided.{added}
 use Rattle.xor.proofs.Added.{added-none}
-use Rattle.xor.proofs.Strided.{mix-next, mix-at}
+use Rattle.xor.proofs.Parts.{mix-next, mix-at}
 use Rattle.xor.proofs.sum.mix.Statement.{statement}
 use Rattle.xor.proofs.sum.mix.Tie as tie
 

@@ -1,22 +1,26 @@
 -- `xor::sum::sum` meets its contract: the loop adds one stretch after the other.
 -- Assumes nothing.
-use mathlib.Core.Path.{_≡_}
+use mathlib.Core.Path.{_≡_, _∙_, sym, refl}
 use mathlib.Core.Logic.{⊎-elim}
-use Prim.Native.Nat.{_≤_, _-_}
+use Prim.Native.Nat.{_≤_, _-_, _+_, _*_}
 use native.Mathlib.Omega.{arith}
 use borrow.Author.Needs.{needs}
-use Rattle.xor.proofs.Strided.{Sums, sums-none, sums-next, sums-skip}
+use Rattle.stripes.specs.Fold.{xsum}
+use Rattle.xor.specs.Strided.{strided}
+use Rattle.xor.proofs.Parts.{Holds, holds-none, holds-next}
+use Rattle.xor.proofs.Strided.{strided-next, strided-skip}
 use Rattle.xor.proofs.sum.sum.Statement.{statement}
 use Rattle.xor.proofs.sum.sum.Tie as tie
 
 abbrev Inv-loop : tie.InvT-loop
-Inv-loop a first step count skip w acc₀ k₀ acc k = (k ≤ count) × Sums w acc a first step k skip
+Inv-loop a first step count skip w acc₀ k₀ acc k = (k ≤ count) × Holds w acc (λ j. strided a j step k skip) first
 
 abbrev μ-loop : tie.MeasureT-loop
 μ-loop a first step count skip w acc₀ k₀ acc k = count - k
 
 loop-holds : tie.Need-loop-holds Inv-loop μ-loop
-loop-holds c = let a = c .before .args in (search needs, sums-none (a .w) (a .a .now) (a .first) (a .step) (a .skip) 128 (omega arith))
+unfolding strided xsum
+loop-holds c = let a = c .before .args in (search needs, holds-none (a .w) (a .first) 128 (omega arith) _ (λ j. refl))
 
 mul-mix : tie.Need-mul-mix Inv-loop μ-loop
 mul-mix c = omega (arith, c .before .before .before .before .pre .1 (c .before .before .loop .k) (omega arith))
@@ -39,8 +43,11 @@ loop-again c =
     let l = c .before .before .loop in (
       search needs,
       ⊎-elim
-          (λ w. rw (w .2) (sums-next (a .w) (a .a .now) (a .first) (a .step) (a .skip) (l .k) (w .0 .taken) (l .acc) (w .1 .result) (l .inv .1) (w .1 .ensures)))
-          (λ w. rw (w .1) (sums-skip (a .w) (a .a .now) (a .first) (a .step) (a .skip) (l .k) (w .0 .left) (l .acc) (l .inv .1))) (c .if1 .came),
+          (λ w.
+          rw (w .2)
+          (holds-next (a .w) (a .first) (a .a .now) (l .k * a .step) _ (λ j. strided (a .a .now) j (a .step) (l .k + 1) (a .skip))
+          (strided-next (a .a .now) (a .step) (a .skip) (l .k) (w .0 .taken)) (l .acc) (w .1 .result) (l .inv .1) (w .1 .ensures)))
+          (λ w. rw (w .1) (λ i b. l .inv .1 i b ∙ sym (strided-skip (a .a .now) (a .step) (a .skip) (l .k) (w .0 .left) (a .first + i)))) (c .if1 .came),
     )
 
 returns : tie.Need-returns Inv-loop μ-loop
