@@ -23,6 +23,11 @@ const A: Known<'static> = Known { size: Size::new(2, 2, 1), array: &[1, 2, 3, 4,
 const WIDE: Known<'static> = Known { size: Size::new(2, 3, 1), array: &[1, 2, 4, 7, 8, 16, 32, 56, 9, 18, 36, 63] };
 const HIGH: Known<'static> = Known { size: Size::new(3, 2, 1), array: &[1, 8, 9, 2, 16, 18, 4, 32, 36, 7, 56, 63] };
 
+/// Data 1 2 4 / 8 16 32 / 64 128 27, the size of the nine dead cards.
+const SQUARE: Known<'static> =
+    Known { size: Size::new(3, 3, 1), array: &[1, 2, 4, 7, 8, 16, 32, 56, 64, 128, 27, 219, 73, 146, 63, 228] };
+const NINE: [usize; 9] = [0, 1, 4, 5, 6, 10, 11, 14, 15];
+
 type Found = Result<Outcome, String>;
 
 fn stated(run: &mut Run, case: &str, expected: Outcome, library: impl FnOnce() -> Found, model: Outcome) {
@@ -114,12 +119,28 @@ fn follow(run: &mut Run, case: &str, size: Size, array: &[u8], map: &[u8], begin
     stated(run, &format!("{case}, follow"), expected, || ffi::follow(size, &lost, map, &sheet), model);
 }
 
+/// The same of save.
+fn save(run: &mut Run, case: &str, size: Size, array: &[u8], map: &[u8], expected: Outcome) {
+    let lost = lost(size, array, map);
+    let model = model::save(size, &lost, map);
+    stated(run, &format!("{case}, save"), expected, || ffi::save(size, &lost, map), model);
+}
+
+/// Save on the known array brings back all marked cards but those left, which are lost.
+fn saved(run: &mut Run, case: &str, known: Known, marked: &[usize], left: &[usize]) {
+    let Known { size, array } = known;
+    let written = vec![lost(size, array, &map_of(size.grid, left))];
+    let expected = Outcome { answer: 0, out: Some(marked.len() - left.len()), written };
+    save(run, case, size, array, &map_of(size.grid, marked), expected);
+}
+
 fn restored(run: &mut Run, case: &str, known: Known, marked: &[usize], begins: &[u8]) {
     let Known { size, array } = known;
     let (map, out) = (map_of(size.grid, marked), Some(marked.len()));
     plan(run, case, size.grid, &map, 0, marked.len(), begins);
     turn(run, case, known, marked, AT_ONCE, &[], begins);
     follow(run, case, size, array, &map, begins, Outcome { answer: 0, out, written: vec![array.to_vec()] });
+    saved(run, case, known, marked, &[]);
 }
 
 fn fatal(run: &mut Run, case: &str, known: Known, marked: &[usize], begins: &[u8]) {
@@ -133,6 +154,7 @@ fn fatal(run: &mut Run, case: &str, known: Known, marked: &[usize], begins: &[u8
     }
     no_repairs(run, case, known, marked);
     follow(run, case, size, array, &map, begins, Outcome::writing(BROKEN, kept));
+    saved(run, case, known, marked, marked);
 }
 
 /// Cases 2 to 8. The paper gives no sheets for 5 and 7: there is one loop in 5, and 7 follows plan's order by hand.
@@ -147,7 +169,63 @@ fn losses(run: &mut Run) {
     let map = map_of(A.size.grid, &[0]);
     let written = vec![zeroed.clone(), map.clone(), sheet(&[])];
     rebuild(run, "8", A.size, &contradictory, &map, AT_ONCE, Outcome { answer: 7, out: None, written });
-    follow(run, "8", A.size, &contradictory, &map, &[1, 1, 0, 0, 0], Outcome::writing(7, zeroed));
+    follow(run, "8", A.size, &contradictory, &map, &[1, 1, 0, 0, 0], Outcome::writing(7, zeroed.clone()));
+    save(run, "8", A.size, &contradictory, &map, Outcome::writing(7, zeroed));
+}
+
+/// Cards that are not lost after all. Of the nine dead cards plan counts eight as lost, and save brings back card 6. Without
+/// card 6 every stripe has marked cards, and yet survivors can contradict each other: those of rows 0 and 1 and of columns 0
+/// and 1. With it they cannot.
+fn nine_cards(run: &mut Run) {
+    let Known { size, array } = SQUARE;
+    let eight: Vec<usize> = NINE.into_iter().filter(|&card| card != 6).collect();
+    seals(run, "the nine cards, sealed", SQUARE, &[1, 2, 4, 99, 8, 16, 32, 99, 64, 128, 27, 99, 99, 99, 99, 99]);
+    saved(run, "the nine cards", SQUARE, &NINE, &eight);
+    saved(run, "eight of the nine cards", SQUARE, &eight, &eight);
+    for (cards, erased) in [(&NINE[..], "nine"), (&eight, "eight")] {
+        let counts = planned(size.grid, &map_of(size.grid, cards)).map(|outcome| outcome.out.unwrap_or(0));
+        number(run, &format!("lost cards of {erased}"), FATAL, 8, counts);
+    }
+    for card in (0..size.disks()).filter(|card| !NINE.contains(card)) {
+        let mut damaged = array.to_vec();
+        damaged[card] ^= 16;
+        let map = map_of(size.grid, &eight);
+        let zeroed = damaged.iter().zip(&map).map(|(&byte, &mark)| if mark == 1 { 0 } else { byte }).collect();
+        save(run, "eight of the nine cards, contradicted", size, &damaged, &map, Outcome::writing(7, zeroed));
+        // The nine agree with any survivors: the change goes over to card 6 where its sum has the changed card.
+        let mut after = lost(size, &damaged, &map_of(size.grid, &NINE));
+        after[6] = array[6] ^ if [2, 3, 7, 8, 9, 12, 13].contains(&card) { 16 } else { 0 };
+        let expected = Outcome { answer: 0, out: Some(1), written: vec![after] };
+        save(run, "the nine cards, a survivor changed", size, &damaged, &map_of(size.grid, &NINE), expected);
+    }
+}
+
+/// All sealed arrays of one bit to a block, as sets of the disks that have a 1.
+fn sealed_sets(grid: Grid) -> Vec<usize> {
+    let size = Size { grid, block: 1 };
+    let sealed = |data: usize| {
+        let bits: Vec<u8> = (0..grid.rows * grid.columns).map(|bit| (data >> bit & 1) as u8).collect();
+        let array =
+            sealed_by_hand(size, |disk, _| bits[disk / (grid.columns + 1) * grid.columns + disk % (grid.columns + 1)]);
+        array.iter().rev().fold(0, |set, &bit| set << 1 | bit as usize)
+    };
+    (0..1 << (grid.rows * grid.columns)).map(sealed).collect()
+}
+
+/// A card is lost exactly if two sealed arrays agree on all survivors and differ in it; they differ by a sealed array that
+/// has zeros on the survivors. So the lost cards of every map are counted from all sealed arrays.
+fn lost_by_definition(run: &mut Run) {
+    for grid in grids_up_to(3) {
+        let sealed = sealed_sets(grid);
+        for marked in 0..1 << grid.disks() {
+            let lost = sealed.iter().filter(|&set| set & !marked == 0).fold(0, |lost, set| lost | set);
+            let known: u32 = usize::count_ones(lost);
+            if known > 0 {
+                let counts = planned(grid, &map_of_bits(grid, marked)).map(|outcome| outcome.out.unwrap_or(0));
+                number(run, &format!("lost cards, {grid}, set {marked}"), FATAL, known as usize, counts);
+            }
+        }
+    }
 }
 
 /// Case 3 in turns, and once more with 9 for 8 on card 4, which row 1 contradicts: only the turn that restores the last
@@ -202,7 +280,7 @@ fn higher_than_wide(run: &mut Run) {
     }
 }
 
-/// Cases 10 and 11 for plan, rebuild and follow: sizes, a map byte of 2.
+/// Cases 10 and 11 for plan, rebuild, follow and save: sizes, a map byte of 2.
 fn refused(run: &mut Run, case: &str, size: Size, map: &[u8], status: usize) {
     let array = vec![7; map.len() * size.block];
     for limit in [AT_ONCE, 0] {
@@ -214,7 +292,9 @@ fn refused(run: &mut Run, case: &str, size: Size, map: &[u8], status: usize) {
     }
     let expected = Outcome::writing(status, array.clone());
     let model = model::follow(size, &array, map, &OLD);
-    stated(run, &format!("{case}, follow"), expected, || ffi::follow(size, &array, map, &OLD), model);
+    stated(run, &format!("{case}, follow"), expected.clone(), || ffi::follow(size, &array, map, &OLD), model);
+    let model = model::save(size, &array, map);
+    stated(run, &format!("{case}, save"), expected, || ffi::save(size, &array, map), model);
     if status != 2 {
         let expected = Outcome { answer: status, out: None, written: vec![OLD.to_vec()] };
         let model = model::plan(size.grid, map, &OLD);
@@ -336,6 +416,7 @@ pub fn run(run: &mut Run) {
     seals(run, "1", A, &[1, 2, 99, 4, 8, 7, 6, 5, 4]);
     losses(run);
     turns(run);
+    nine_cards(run);
     write(run, "9", A, 0, 0, &[9, 2, 11, 4, 8, 12, 13, 10, 7]);
     wider_than_high(run);
     higher_than_wide(run);
@@ -346,4 +427,5 @@ pub fn run(run: &mut Run) {
     refused(run, "11", A.size, &[0, 0, 0, 0, 2, 0, 0, 0, 0], 4);
     counted(run);
     limit(run);
+    lost_by_definition(run);
 }

@@ -21,11 +21,14 @@ struct Kept {
 pub struct Equations {
     grid: Grid,
     kept: Vec<Kept>,
+    /// The unknowns that occur in a sum that cancels on every stripe. The sums found span all such sums, so these are all
+    /// unknowns that can be changed, together with others, without a change of any stripe's sum.
+    free: Disks,
 }
 
 impl Equations {
     pub fn new(grid: Grid) -> Equations {
-        Equations { grid, kept: Vec::new() }
+        Equations { grid, kept: Vec::new(), free: [0; 4] }
     }
 
     /// Adds the block of a disk as an unknown. It is left out, and the answer is no, if its column of the equations
@@ -43,8 +46,15 @@ impl Equations {
         }
         if stripes != 0 {
             self.kept.push(Kept { disks, stripes, pivot: stripes.trailing_zeros() as usize });
+        } else {
+            (0..4).for_each(|i| self.free[i] |= disks[i]);
         }
         stripes != 0
+    }
+
+    /// Whether the equations leave the block of an unknown open: two solutions differ in it.
+    pub fn leave_open(&self, disk: usize) -> bool {
+        has(&self.free, disk)
     }
 
     /// The blocks of the unknowns that make every stripe's sum zero, for these sums of the other disks: an array with
@@ -60,13 +70,46 @@ impl Equations {
                 }
             }
             for (disk, bytes) in solution.chunks_exact_mut(block).enumerate() {
-                if kept.disks[disk / 64] >> (disk % 64) & 1 == 1 {
+                if has(&kept.disks, disk) {
                     add(bytes, &value);
                 }
             }
         }
         sums.iter().flatten().all(|&byte| byte == 0).then_some(solution)
     }
+}
+
+fn has(disks: &Disks, disk: usize) -> bool {
+    disks[disk / 64] >> (disk % 64) & 1 == 1
+}
+
+/// Sets of stripes, one bit for each stripe, on which no erased disk counts: it lies on none or on two stripes of a set. So
+/// the survivors that lie on just one add up to zero in a sealed array. All such sets are sums of these.
+pub fn checks(grid: Grid, erased: &[usize]) -> Vec<u32> {
+    let mut kept: Vec<(Disks, usize, u32)> = Vec::new();
+    let mut checks = Vec::new();
+    for stripe in (0..=grid.rows).chain(16..=16 + grid.columns) {
+        let (mut disks, mut set) = ([0; 4], 1 << stripe);
+        for &disk in erased.iter().filter(|&&disk| stripes_through(grid, disk).contains(&stripe)) {
+            disks[disk / 64] |= 1 << (disk % 64);
+        }
+        for (others, pivot, stripes) in &kept {
+            if has(&disks, *pivot) {
+                set ^= stripes;
+                (0..4).for_each(|i| disks[i] ^= others[i]);
+            }
+        }
+        match (0..grid.disks()).find(|&disk| has(&disks, disk)) {
+            Some(pivot) => kept.push((disks, pivot, set)),
+            None => checks.push(set),
+        }
+    }
+    checks
+}
+
+/// Whether a disk lies on just one stripe of a set.
+pub fn crosses(grid: Grid, set: u32, disk: usize) -> bool {
+    stripes_through(grid, disk).iter().filter(|&&stripe| set >> stripe & 1 == 1).count() == 1
 }
 
 /// The two stripes through a disk: row r is stripe r, column c is stripe 16 + c.

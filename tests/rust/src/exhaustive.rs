@@ -6,7 +6,7 @@ use crate::random::Random;
 use crate::rebuild::{self, AT_ONCE};
 use crate::sheet::SHEET;
 use crate::size::{Grid, Size};
-use crate::{cores, follow, losses, plan, turns, Run};
+use crate::{cores, follow, losses, plan, save, turns, Run};
 
 /// Random losses of four disks, and as many of other numbers, in parts.
 const PARTS: usize = 20;
@@ -17,7 +17,7 @@ const SHARING: usize = 64;
 /// One loss in so many is also rebuilt in turns.
 const IN_TURNS: usize = 4;
 
-/// Plan, rebuild and follow for one map, on a sealed array and on a damaged one. Some are rebuilt in turns too.
+/// Plan, rebuild, follow and save for one map, on a sealed array and on a damaged one. Some are rebuilt in turns too.
 pub fn loss(run: &mut Run, size: Size, sealed: &[u8], map: &[u8]) {
     let sheet = run.random.bytes(SHEET);
     plan::compare(&mut run.tally, size.grid, map, &sheet);
@@ -26,6 +26,7 @@ pub fn loss(run: &mut Run, size: Size, sealed: &[u8], map: &[u8]) {
         turns::any_limit(run, size, sealed, map);
     }
     follow::sealed_and_damaged(run, size, sealed, map);
+    save::sealed_and_damaged(run, size, sealed, map);
 }
 
 /// One part of the maps of a grid.
@@ -46,7 +47,7 @@ fn some_maps(run: &mut Run, grid: Grid, rebuilt: usize, sets: std::ops::Range<us
     }
 }
 
-/// Every map of a grid for plan, and one in so many for rebuild and follow too, on arrays that change now and then.
+/// Every map of a grid for plan, and one in so many for the other calls too, on arrays that change now and then.
 fn all_maps(run: &mut Run, grid: Grid, rebuilt: usize) {
     let name = format!("all maps, {grid}");
     let sets = 1_usize << grid.disks();

@@ -1,4 +1,4 @@
-//! Every refusal of plan, rebuild and follow alone, every pair of them, and every larger set: of those that apply, the
+//! Every refusal of plan, rebuild, follow and save alone, every pair of them, and every larger set: of those that apply, the
 //! first in the paper's list is due.
 
 use crate::inputs::{random_grid, sealed_array};
@@ -6,12 +6,12 @@ use crate::random::Random;
 use crate::rebuild::{self, AT_ONCE};
 use crate::sheet::place_of;
 use crate::size::Size;
-use crate::{arguments, follow, losses, plan, sheets, Run};
+use crate::{arguments, follow, losses, plan, save, sheets, Run};
 
 /// How often each set of faults is tried, each time with other values.
 const TURNS: usize = 10;
 
-/// The arguments of rebuild and follow; those of plan are among them.
+/// The arguments of rebuild and follow; those of plan and save are among them.
 struct Arguments {
     size: Size,
     array: Vec<u8>,
@@ -101,6 +101,7 @@ pub fn run(run: &mut Run) {
                 rebuild::compare(&mut run.tally, a.size, &a.array, &a.map, &a.sheet, limit);
             }
             follow::compare(&mut run.tally, a.size, &a.array, &a.map, &a.sheet);
+            save::compare(&mut run.tally, a.size, &a.array, &a.map);
         }
     }
     run.tally.report("every set of refusals", &[0, 1, 2, 3, 4, 5, 6, 7, 10, 11, 12]);

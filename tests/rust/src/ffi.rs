@@ -45,6 +45,10 @@ extern "C" {
                          map: *const u8, map_len: usize,
                          sheet: *const u8, sheet_len: usize,
                          count: *mut usize) -> u32;
+    pub fn raid2d_save(rows: usize, columns: usize, block: usize,
+                       array: *mut u8, array_len: usize,
+                       map: *const u8, map_len: usize,
+                       count: *mut usize) -> u32;
 }
 
 /// The lengths of a map and of an array.
@@ -152,5 +156,17 @@ pub fn follow(size: Size, array: &[u8], map: &[u8], sheet: &[u8]) -> Result<Outc
     };
     map.only_read()?;
     sheet.only_read()?;
+    Ok(Outcome { answer: status as usize, out: count.value()?, written: vec![array.written()?] })
+}
+
+pub fn save(size: Size, array: &[u8], map: &[u8]) -> Result<Outcome, String> {
+    let Size { grid: Grid { rows, columns }, block } = size;
+    let mut array = Lent::new("array", array);
+    let mut map = Lent::new("map", map);
+    let mut count = Out::new();
+    let (array_at, array_len) = (array.pointer(), array.len());
+    let (map_at, map_len) = (map.pointer(), map.len());
+    let status = unsafe { raid2d_save(rows, columns, block, array_at, array_len, map_at, map_len, count.pointer()) };
+    map.only_read()?;
     Ok(Outcome { answer: status as usize, out: count.value()?, written: vec![array.written()?] })
 }

@@ -1,4 +1,4 @@
-//! Maps to try plan, rebuild and follow on, and what a lost array holds.
+//! Maps to try plan, rebuild, follow and save on, and what a lost array holds.
 
 use crate::equations::Equations;
 use crate::inputs::{place, sealed_array};
@@ -90,8 +90,24 @@ pub fn ring(random: &mut Random, grid: Grid, rows: usize, more: usize) -> Vec<us
     disks
 }
 
+/// Rectangles that share no row and no column, and so many disks more, or as many as close no further loop: these are not
+/// lost, though no repair reaches those that stand between two rectangles.
+pub fn rectangles_and_more(random: &mut Random, grid: Grid, rectangles: usize, more: usize) -> Vec<usize> {
+    let (r, c) = (shuffled(random, grid.rows + 1), shuffled(random, grid.columns + 1));
+    let mut equations = Equations::new(grid);
+    let corners = |i: usize| [(0, 0), (0, 1), (1, 0), (1, 1)].map(|(x, y)| grid.disk_at(r[2 * i + x], c[2 * i + y]));
+    let mut disks: Vec<usize> = (0..rectangles).flat_map(corners).collect();
+    for &disk in &disks {
+        equations.add(disk);
+    }
+    let others = shuffled(random, grid.disks()).into_iter().filter(|disk| !disks.contains(disk));
+    let others: Vec<usize> = others.filter(|&disk| equations.add(disk)).take(more).collect();
+    disks.extend(others);
+    disks
+}
+
 /// How many kinds of losses there are below, and which of them is none.
-pub const KINDS: usize = 9;
+pub const KINDS: usize = 10;
 pub const NONE: usize = 0;
 
 /// A random loss of one kind; the first five can be restored.
@@ -122,6 +138,11 @@ pub fn map(random: &mut Random, grid: Grid, kind: usize) -> Vec<u8> {
         7 => {
             let count = random.between(4, grid.disks());
             some(random, grid, count)
+        }
+        8 => {
+            let most_rectangles = (grid.rows.min(grid.columns) + 1) / 2;
+            let (rectangles, more) = (random.between(1, most_rectangles), random.between(1, most));
+            rectangles_and_more(random, grid, rectangles, more)
         }
         _ => (0..grid.disks()).collect(),
     };

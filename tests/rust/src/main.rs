@@ -27,6 +27,7 @@ mod outcome;
 mod plan;
 mod random;
 mod rebuild;
+mod save;
 mod seal;
 mod sets;
 mod sheet;
@@ -62,7 +63,7 @@ struct Call {
     answers: &'static [usize],
 }
 
-const CALLS: [Call; 7] = [
+const CALLS: [Call; 8] = [
     Call { name: "seal", contents: seal::contents, refusals: seal::refusals, draws: 30_000, answers: &[0, 1, 2, 3] },
     Call {
         name: "check",
@@ -100,6 +101,13 @@ const CALLS: [Call; 7] = [
         refusals: follow::refusals,
         draws: 60_000,
         answers: &[0, 1, 2, 3, 4, 5, 7, 10, 11],
+    },
+    Call {
+        name: "save",
+        contents: save::contents,
+        refusals: save::refusals,
+        draws: 60_000,
+        answers: &[0, 1, 2, 3, 4, 7],
     },
 ];
 
@@ -147,6 +155,7 @@ fn gate(run: &mut Run, rounds: usize) {
     faults::run(run);
     steps::run(run);
     turns::run(run, rounds);
+    save::run(run, rounds);
     exhaustive::run(run, rounds);
 }
 

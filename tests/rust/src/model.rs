@@ -209,9 +209,10 @@ pub fn erased_disks(map: &[u8]) -> Vec<usize> {
 struct Loss {
     fatal: bool,
     equations: Equations,
-    /// The repairs that can be made, in plan's order, and the number of the disks that are then lost.
+    /// The repairs that can be made, in plan's order.
     repairs: Vec<Record>,
-    lost: usize,
+    /// The disks in which two sealed arrays with the same survivors differ.
+    lost: Vec<usize>,
 }
 
 impl Loss {
@@ -220,17 +221,20 @@ impl Loss {
         let mut equations = Equations::new(grid);
         let independent = erased.iter().filter(|&&disk| equations.add(disk)).count();
         let fatal = independent < erased.len();
-        let (repairs, lost) = sheet::plans_order(grid, &erased);
+        let lost: Vec<usize> = erased.iter().copied().filter(|&disk| equations.leave_open(disk)).collect();
+        let (repairs, left) = sheet::plans_order(grid, &erased);
         // Demand 3 and the limit of repairs say so. A model that contradicts itself would be nothing to compare with.
-        assert_eq!(fatal, !lost.is_empty(), "rank and repairs differ, {grid}, map {map:?}");
+        assert_eq!(fatal, !left.is_empty(), "rank and repairs differ, {grid}, map {map:?}");
+        assert_eq!(fatal, !lost.is_empty(), "rank and lost disks differ, {grid}, map {map:?}");
+        assert!(lost.iter().all(|disk| left.contains(disk)), "a lost disk is repaired, {grid}, map {map:?}");
         assert!(repairs.len() <= grid.most_repairs(), "too many repairs, {grid}, map {map:?}");
-        Loss { fatal, equations, repairs, lost: lost.len() }
+        Loss { fatal, equations, repairs, lost }
     }
 
     /// The status of plan, its count and its sheet. Which loop a fatal loss shows is free.
     fn planned(&self) -> (usize, Option<usize>, Vec<u8>) {
         if self.fatal {
-            return (FATAL, Some(self.lost), sheet::ANY_LOOP.to_vec());
+            return (FATAL, Some(self.lost.len()), sheet::ANY_LOOP.to_vec());
         }
         (SUCCESS, Some(self.repairs.len()), sheet::of_repairs(&self.repairs))
     }
@@ -337,4 +341,23 @@ pub fn follow(size: Size, array: &[u8], map: &[u8], sheet: &[u8]) -> Outcome {
         return Outcome::writing(CONTRADICTORY, with_erased(size.block, array, map, &vec![0; array.len()]));
     }
     Outcome { answer: SUCCESS, out: Some(steps.len()), written: vec![restored] }
+}
+
+/// Every marked card that is not lost gets its block, and lost blocks keep their bytes. With 7 all marked blocks are zero.
+pub fn save(size: Size, array: &[u8], map: &[u8]) -> Outcome {
+    let mut refusal = array_refusal(size, array);
+    if refusal == SUCCESS && !map_fits(size.grid, map) {
+        refusal = 4;
+    }
+    if refusal != SUCCESS {
+        return Outcome::writing(refusal, array.to_vec());
+    }
+    let loss = Loss::new(size.grid, map);
+    let Some(erased) = loss.equations.solve(sums_of_survivors(size, array, map)) else {
+        return Outcome::writing(CONTRADICTORY, with_erased(size.block, array, map, &vec![0; array.len()]));
+    };
+    let mut saved = map.to_vec();
+    loss.lost.iter().for_each(|&disk| saved[disk] = 0);
+    let out = Some(erased_disks(&saved).len());
+    Outcome { answer: SUCCESS, out, written: vec![with_erased(size.block, array, &saved, &erased)] }
 }

@@ -119,3 +119,11 @@ pub fn show(bytes: &[u8]) -> String {
     let more = if bytes.len() > WHOLE { " .." } else { "" };
     format!("{} bytes [{}{more}]", bytes.len(), shown.trim_start())
 }
+
+/// A promise that is judged without the model, and its complaint.
+pub fn must(holds: bool, words: &str) -> Result<(), String> {
+    if holds {
+        return Ok(());
+    }
+    Err(words.to_string())
+}

@@ -8,7 +8,7 @@ use crate::outcome::Outcome;
 use crate::rebuild::{self, AT_ONCE};
 use crate::sheet::{chain, Record, RECORDS, SHEET};
 use crate::size::{Grid, Size};
-use crate::tally::show;
+use crate::tally::{must, show};
 use crate::{cores, ffi, model, Run};
 
 /// Maps of a small grid that make a part.
@@ -18,13 +18,6 @@ const PARTS: usize = 10;
 const PART: usize = 5;
 /// Limits that are 0 or 1 where they are shortened, and the greatest.
 const GREAT: [usize; 6] = [1 << 8, 1 << 16, 1 << 32, (1 << 32) + 1, 1 << 63, AT_ONCE];
-
-fn must(holds: bool, words: &str) -> Result<(), String> {
-    if holds {
-        return Ok(());
-    }
-    Err(words.to_string())
-}
 
 /// The repairs that a sheet lists.
 fn repairs_of(sheet: &[u8]) -> Result<Vec<Record>, String> {
