@@ -1,6 +1,6 @@
 /*
  * Losses of known shapes, plan's order of their repairs, and what is expected
- * of the sheet and the blocks: what the tests of plan, rebuild and follow
+ * of the sheet and the blocks: what the tests of plan, rebuild, follow and save
  * share.
  */
 #ifndef LOSS_H

@@ -1,6 +1,6 @@
 /*
- * What plan and rebuild make of a loss, and follow of plan's sheet, and the
- * bytes they leave: the order's cases with their exact bytes, and losses of
+ * What plan, rebuild and save make of a loss, and follow of plan's sheet, and
+ * the bytes they leave: the order's cases with their exact bytes, and losses of
  * known shapes at every size. Rebuild repairs all of a loss in one turn here.
  */
 #include <string.h>
@@ -41,8 +41,49 @@ static void expect_follow(const struct call *c, size_t status, size_t count,
     end_call(&follow);
 }
 
-/* Plan, rebuild and follow make these repairs, and the array is as expected.
-   Rebuild clears the map. */
+/* A call of save on the array and the map of the call. The bytes expected of
+   its array are those expected of the call's. */
+static struct call save_of(const struct call *c)
+{
+    struct call save = fitting_call(SAVE, c->size);
+
+    memcpy(save.array.bytes, c->array.bytes, save.array.len);
+    memcpy(save.map.bytes, c->map.bytes, save.map.len);
+    expect_as_now(&save);
+    memcpy(save.array.expected, c->array.expected, save.array.len);
+    return save;
+}
+
+static void expect_save(const struct call *c, size_t status, size_t count,
+                        const char *what)
+{
+    struct call save = save_of(c);
+
+    expect_run(&save, status, count, what);
+    end_call(&save);
+}
+
+/* Save restores all erased disks but those that the expected sheet lists, so
+   many in a cycle: these keep their bytes. */
+static void expect_saved_beside_cycle(const struct call *c, size_t records,
+                                      const char *what)
+{
+    struct call save = save_of(c);
+    size_t block = c->size.block, erased = 0, i;
+
+    for (i = 0; i < save.map.len; i++)
+        erased += save.map.bytes[i];
+    for (i = 1; i <= records; i++) {
+        size_t at = c->sheet.expected[3 * i - 1] * block;
+
+        memcpy(save.array.expected + at, save.array.bytes + at, block);
+    }
+    expect_run(&save, 0, erased - records, what);
+    end_call(&save);
+}
+
+/* Plan, rebuild, follow and save restore so many disks, and the array is as
+   expected. Rebuild clears the map. */
 static void expect_restored(struct call *c, size_t repairs, const char *what)
 {
     struct repairs list = in_plans_order(c);
@@ -52,6 +93,7 @@ static void expect_restored(struct call *c, size_t repairs, const char *what)
     expect_list(c, &list, 0, list.count);
     expect_plan(c, 0, repairs, what);
     expect_follow(c, 0, repairs, what);
+    expect_save(c, 0, repairs, what);
     memset(c->map.expected, 0, c->map.len);
     expect_run(c, 0, repairs, what);
 }
@@ -70,8 +112,8 @@ static void expect_fatal(struct call *c, size_t lost, const char *what)
     expect_run(c, 6, lost, what);
 }
 
-/* Rebuild and follow find that the survivors belong to no sealed array. With
-   7 of rebuild the whole sheet is zero too, and the map keeps its bytes. */
+/* Rebuild, follow and save find that the survivors belong to no sealed array.
+   With 7 of rebuild the whole sheet is zero too, and the map keeps its bytes. */
 static void expect_contradiction(struct call *c, const char *what)
 {
     struct repairs list = in_plans_order(c);
@@ -80,6 +122,7 @@ static void expect_contradiction(struct call *c, const char *what)
     expect_plan(c, 0, list.count, what);
     expect_zero_blocks(c);
     expect_follow(c, 7, OUT_BEFORE, what);
+    expect_save(c, 7, OUT_BEFORE, what);
     expect_kind(c, 0);
     expect_run(c, 7, OUT_BEFORE, what);
 }
@@ -228,6 +271,7 @@ static void lose_closed_stair(struct size s)
     expect(records == 2 * (shorter + 1),
            "disks of the longest cycle, %zu rows, %zu columns", s.rows,
            s.columns);
+    expect_saved_beside_cycle(&c, records, "a cycle as long as can be");
     expect_fatal(&c, records, "a cycle as long as can be");
     end_call(&c);
 }
@@ -249,6 +293,7 @@ static void lose_rectangle(struct size s)
     expect_record(&c, 2, s.columns, 16 + s.columns);
     expect_record(&c, 3, disk_at(s, s.rows, s.columns), s.rows);
     expect_record(&c, 4, disk_at(s, s.rows, 1), 17);
+    expect_saved_beside_cycle(&c, 4, "a rectangle and two more");
     expect_fatal(&c, 4, "a rectangle and two more");
     end_call(&c);
 }
@@ -269,6 +314,7 @@ static void lose_all(struct size s)
     c.function = REBUILD;
     memcpy(c.sheet.expected, c.sheet.bytes, c.sheet.len);
     fill(c.sheet.bytes, c.sheet.len);
+    expect_save(&c, 0, 0, "all disks");
     expect_fatal(&c, c.map.len, "all disks");
     end_call(&c);
 }
@@ -401,6 +447,11 @@ static void run_case(const struct worked_case *w)
         expect_zero_blocks(&c);
     expect_follow(&c, w->status == 6 ? 10 : w->status,
                   w->status == 0 ? w->count : OUT_BEFORE, w->what);
+    if (w->status == 6)
+        expect_saved_beside_cycle(&c, w->count, w->what);
+    else
+        expect_save(&c, w->status, w->status == 0 ? w->count : OUT_BEFORE,
+                    w->what);
     if (w->status == 7)
         expect_kind(&c, 0);
     if (w->status == 0)
@@ -434,8 +485,11 @@ static void cases_10_and_11(void)
         { FOLLOW, { 1, 1, 1 }, 1 }, { FOLLOW, { 16, 16, 1 }, 1 },
         { FOLLOW, { 1, 2, 1 }, 1 }, { FOLLOW, { 15, 16, 1 }, 1 },
         { FOLLOW, { 2, 2, 0 }, 2 }, { FOLLOW, { 2, 2, 4097 }, 2 },
+        { SAVE, { 1, 1, 1 }, 1 }, { SAVE, { 16, 16, 1 }, 1 },
+        { SAVE, { 2, 1, 1 }, 1 }, { SAVE, { 16, 15, 1 }, 1 },
+        { SAVE, { 2, 2, 0 }, 2 }, { SAVE, { 2, 2, 4097 }, 2 },
         { PLAN, { 2, 2, 1 }, 4 }, { REBUILD, { 2, 2, 1 }, 4 },
-        { FOLLOW, { 2, 2, 1 }, 4 }
+        { FOLLOW, { 2, 2, 1 }, 4 }, { SAVE, { 2, 2, 1 }, 4 }
     };
     size_t i;
 

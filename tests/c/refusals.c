@@ -27,7 +27,7 @@ enum argument {
     SHEET_LENGTH, LOSS,                    /* plan, rebuild and follow */
     LIMIT,                                 /* rebuild only */
     CHAIN, STEP,                           /* follow only */
-    DAMAGE,                                /* rebuild and follow */
+    DAMAGE,                                /* rebuild, follow and save */
     ARGUMENTS
 };
 
@@ -45,7 +45,7 @@ struct values {
 
 /* The tests of a call in the order's sequence, and what it returns where one
    fails. Accepted is what it returns where none fails: arbitrary bytes are
-   not sealed, and rebuild and follow get an array that is. For look that is
+   not sealed, and rebuild, follow and save get an array that is. For look that is
    the block's length. */
 struct tests {
     enum function function;
@@ -60,7 +60,8 @@ struct tests {
 /* Tests that several calls make. */
 #define SIZE_TESTS { ROWS, 1 }, { COLUMNS, 1 }
 #define ARRAY_TESTS SIZE_TESTS, { BLOCK, 2 }, { ARRAY_LENGTH, 3 }
-#define MAP_TESTS { MAP_LENGTH, 4 }, { MAP_BYTE, 4 }, { SHEET_LENGTH, 5 }
+#define MAP_TESTS { MAP_LENGTH, 4 }, { MAP_BYTE, 4 }
+#define SHEET_TESTS MAP_TESTS, { SHEET_LENGTH, 5 }
 
 static const struct tests tests[] = {
     { SEAL, 0, 4, { ARRAY_TESTS } },
@@ -69,11 +70,12 @@ static const struct tests tests[] = {
     { LOOK, 0, 8, { { ROWS, 0 }, { COLUMNS, 0 }, { BLOCK, 0 },
                     { ARRAY_LENGTH, 0 }, { MAP_LENGTH, 0 }, { MAP_BYTE, 0 },
                     { NO_DISK, 0 }, { ERASED, 0 } } },
-    { PLAN, 0, 6, { SIZE_TESTS, MAP_TESTS, { LOSS, 6 } } },
-    { REBUILD, 0, 10, { ARRAY_TESTS, MAP_TESTS, { LIMIT, 12 }, { LOSS, 6 },
+    { PLAN, 0, 6, { SIZE_TESTS, SHEET_TESTS, { LOSS, 6 } } },
+    { REBUILD, 0, 10, { ARRAY_TESTS, SHEET_TESTS, { LIMIT, 12 }, { LOSS, 6 },
                         { DAMAGE, 7 } } },
-    { FOLLOW, 0, 11, { ARRAY_TESTS, MAP_TESTS, { CHAIN, 10 }, { STEP, 11 },
-                       { LOSS, 11 }, { DAMAGE, 7 } } }
+    { FOLLOW, 0, 11, { ARRAY_TESTS, SHEET_TESTS, { CHAIN, 10 }, { STEP, 11 },
+                       { LOSS, 11 }, { DAMAGE, 7 } } },
+    { SAVE, 0, 7, { ARRAY_TESTS, MAP_TESTS, { DAMAGE, 7 } } }
 };
 
 /* Follow's sheet has one record, number 32: disk 1 by row 0. These are bytes
@@ -290,7 +292,7 @@ static void damage(struct call *c, const struct arguments *a)
         *cell(c->array.bytes, s, s.rows, 1, place) ^= 64;
 }
 
-/* What plan, rebuild and follow are tried on: a sealed array that has lost
+/* What calls from plan on are tried on: a sealed array that has lost
    disk 1, or the four corners of the grid, which is fatal. */
 static void prepare_loss(struct call *c, const struct arguments *a)
 {
@@ -335,7 +337,7 @@ static void prepare_sheet(struct call *c, const struct arguments *a)
 }
 
 /* With 6 the sheet lists the corners; with 7 the erased disk 1 is zero, and
-   the sheet but for follow. Returns what the out-parameter is expected to
+   the sheet but for follow and save. Returns what the out-parameter is expected to
    be. */
 static size_t expect_refusal(struct call *c, struct size s, size_t status)
 {
@@ -348,7 +350,7 @@ static size_t expect_refusal(struct call *c, struct size s, size_t status)
         (uint8_t)disk_at(s, s.rows, 0), 16, 0
     };
 
-    if ((status == 6 || status == 7) && c->function != FOLLOW)
+    if (status == 6 || (status == 7 && c->function == REBUILD))
         memset(c->sheet.expected, 0, c->sheet.len);
     if (status == 6)
         memcpy(c->sheet.expected, corners, sizeof corners);
@@ -368,7 +370,7 @@ static struct call call_with(enum function function, const struct arguments *a)
     c.limit = a->of[LIMIT];
     if (a->of[ERASED] && c.disk < c.map.len)
         c.map.bytes[c.disk] = 1;
-    if (function == PLAN || function == REBUILD || function == FOLLOW)
+    if (function >= PLAN)
         prepare_loss(&c, a);
     if (function == FOLLOW)
         prepare_sheet(&c, a);
@@ -447,11 +449,11 @@ struct wrapped {
 static void all_refuse(const struct wrapped *w, struct size size)
 {
     const enum function functions[] = {
-        SEAL, CHECK, WRITE, LOOK, REBUILD, FOLLOW, PLAN
+        SEAL, CHECK, WRITE, LOOK, REBUILD, FOLLOW, SAVE, PLAN
     };
     size_t i;
 
-    for (i = 0; i < (w->status == 1 ? 7 : 6); i++) {
+    for (i = 0; i < (w->status == 1 ? 8 : 7); i++) {
         struct call c = new_call(functions[i], size, w->array_len, w->disks,
                                  1, RAID2D_SHEET_BYTES);
 
@@ -521,7 +523,7 @@ static void empty_buffers(struct size size)
         size_t result;
     } calls[] = {
         { SEAL, 3 }, { CHECK, 3 }, { WRITE, 3 }, { LOOK, 0 }, { PLAN, 4 },
-        { REBUILD, 3 }, { FOLLOW, 3 }
+        { REBUILD, 3 }, { FOLLOW, 3 }, { SAVE, 3 }
     };
     size_t i, null;
 

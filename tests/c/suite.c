@@ -318,10 +318,13 @@ static size_t call_library(struct call *c, size_t *out)
         return raid2d_rebuild(rows, columns, block, c->array.bytes,
                               c->array.len, c->map.bytes, c->map.len,
                               c->sheet.bytes, c->sheet.len, c->limit, out);
-    default:
+    case FOLLOW:
         return raid2d_follow(rows, columns, block, c->array.bytes,
                              c->array.len, c->map.bytes, c->map.len,
                              c->sheet.bytes, c->sheet.len, out);
+    default:
+        return raid2d_save(rows, columns, block, c->array.bytes, c->array.len,
+                           c->map.bytes, c->map.len, out);
     }
 }
 
@@ -356,7 +359,7 @@ size_t run(struct call *c)
 void expect_run(struct call *c, size_t result, size_t out, const char *what)
 {
     static const char *const names[] = {
-        "seal", "check", "write", "look", "plan", "rebuild", "follow"
+        "seal", "check", "write", "look", "plan", "rebuild", "follow", "save"
     };
     size_t actual = run(c), actual_out;
     int bytes = lent_is_as_expected(&c->array) && lent_is_as_expected(&c->map)
@@ -444,6 +447,7 @@ int main(int argc, char **argv)
     test_answers();
     test_losses();
     test_turns();
+    test_saves();
     test_sheets();
     printf("%lu passed, %lu failed\n", passed, failed);
     return failed == 0 ? 0 : 1;

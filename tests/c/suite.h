@@ -41,7 +41,7 @@ struct known {
    rows for columns, so that it is higher than wide. */
 extern const struct known array_a, array_wide, array_high;
 
-enum function { SEAL, CHECK, WRITE, LOOK, PLAN, REBUILD, FOLLOW };
+enum function { SEAL, CHECK, WRITE, LOOK, PLAN, REBUILD, FOLLOW, SAVE };
 
 /* A call: its numbers, what it is lent, and its out-parameter, a size_t that
    is lent too. Calls pass over what they have no parameter for. */
@@ -113,6 +113,7 @@ void test_refusals(void);
 void test_answers(void);
 void test_losses(void);
 void test_turns(void);
+void test_saves(void);
 void test_sheets(void);
 
 #endif
