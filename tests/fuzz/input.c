@@ -79,6 +79,8 @@ static size_t limit_of(uint8_t code)
 
 static enum call call_of(uint8_t flags)
 {
+    if (flags & FLAG_SAVE)
+        return SAVE;
     if (flags & FLAG_REBUILD)
         return REBUILD;
     return flags & FLAG_FOLLOW ? FOLLOW : PLAN;

@@ -1,11 +1,11 @@
 /*
- * An input of the fuzzer: a call of raid2d_plan or raid2d_follow, or turns of
- * raid2d_rebuild, in a few hundred bytes.
+ * An input of the fuzzer: a call of raid2d_plan, raid2d_follow or raid2d_save,
+ * or turns of raid2d_rebuild, in a few hundred bytes.
  *
  *   byte 0       bit 0: follow, else plan. Bit 1: what is lent begins right
  *                behind a page without access, else it ends right before one.
  *                Bit 2: NULL is passed for what is empty. Bit 3: rebuild,
- *                whatever bit 0 is.
+ *                whatever bit 0 is. Bit 5: save, whatever these are.
  *   bytes 1..3   rows, columns and block: small numbers as they are, others
  *                by a table
  *   bytes 4..6   how much longer the array, the map and the sheet are than
@@ -45,9 +45,15 @@ enum {
     INPUT_MAX = AT_MAP + 18 * 18
 };
 
-enum { FLAG_FOLLOW = 1, FLAG_BEHIND = 2, FLAG_NULL = 4, FLAG_REBUILD = 8 };
+enum {
+    FLAG_FOLLOW = 1,
+    FLAG_BEHIND = 2,
+    FLAG_NULL = 4,
+    FLAG_REBUILD = 8,
+    FLAG_SAVE = 32
+};
 
-enum call { PLAN, FOLLOW, REBUILD };
+enum call { PLAN, FOLLOW, REBUILD, SAVE };
 
 /* The array is sealed; or one byte of one disk is changed; or two disks of a
    row, of a column, or four in the corners of a rectangle are changed by the

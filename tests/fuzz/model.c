@@ -1,5 +1,5 @@
 /*
- * The model: what plan, follow and rebuild must answer. Written from the
+ * The model: what plan, follow, rebuild and save must answer. Written from the
  * order's words, and from nothing of the library.
  */
 #include <string.h>
@@ -124,6 +124,123 @@ static int map_fits(struct grid g, const uint8_t *map, size_t map_len)
         if (map[disk] != 0 && map[disk] != 1)
             return 0;
     return 1;
+}
+
+/* ---- equations */
+
+/* What is known of the erased disks: some of them, one byte for each disk of
+   the grid, add up to a block. */
+struct equation {
+    uint8_t disks[DISKS_MAX];
+    uint8_t sum[4096];
+};
+
+/* At first one for each stripe: its erased disks add up to what its survivors
+   do. */
+static struct equation equations[STRIPES];
+
+static void add_bytes(uint8_t *to, const uint8_t *bytes, size_t len)
+{
+    size_t i;
+
+    for (i = 0; i < len; i++)
+        to[i] ^= bytes[i];
+}
+
+static void put_in(struct equation *e, size_t disk, int erased,
+                   const uint8_t *bytes, size_t block)
+{
+    if (erased)
+        e->disks[disk] = 1;
+    else
+        add_bytes(e->sum, bytes, block);
+}
+
+/* A block of 0 bytes says that nothing but the map is of interest. */
+static void set_up(struct grid g, size_t block, const uint8_t *array,
+                   const uint8_t *map)
+{
+    size_t disk, k;
+
+    for (k = 0; k < STRIPES; k++) {
+        memset(equations[k].disks, 0, DISKS_MAX);
+        memset(equations[k].sum, 0, block);
+    }
+    for (disk = 0; disk < disks_of(g); disk++) {
+        const uint8_t *bytes = block > 0 ? array + disk * block : NULL;
+
+        put_in(&equations[row_of(g, disk)], disk, map[disk], bytes, block);
+        put_in(&equations[column_of(g, disk)], disk, map[disk], bytes, block);
+    }
+}
+
+/* Takes a disk out of all equations but number `kept`, which has it. */
+static void take_out(size_t disk, size_t kept, size_t disks, size_t block)
+{
+    size_t k;
+
+    for (k = 0; k < STRIPES; k++)
+        if (k != kept && equations[k].disks[disk]) {
+            add_bytes(equations[k].disks, equations[kept].disks, disks);
+            add_bytes(equations[k].sum, equations[kept].sum, block);
+        }
+}
+
+/* Elimination: each disk in turn is kept in one equation that is not kept for
+   a disk before it, if there is such a one, and taken out of all others. */
+static void solve(size_t disks, size_t block)
+{
+    uint8_t is_kept[STRIPES] = {0};
+    size_t disk, k;
+
+    for (disk = 0; disk < disks; disk++)
+        for (k = 0; k < STRIPES; k++)
+            if (!is_kept[k] && equations[k].disks[disk]) {
+                is_kept[k] = 1;
+                take_out(disk, k, disks, block);
+                break;
+            }
+}
+
+/* The disk that an equation has alone, and so determines. As many as there are
+   disks if it has none or several. */
+static size_t determined_by(const struct equation *e, size_t disks)
+{
+    size_t disk = 0;
+
+    if (count_erased(e->disks, disks) != 1)
+        return disks;
+    while (!e->disks[disk])
+        disk++;
+    return disk;
+}
+
+/* The equation says that no disk adds up to something. */
+static int is_contradiction(const struct equation *e, size_t disks,
+                            size_t block)
+{
+    size_t place = 0;
+
+    if (count_erased(e->disks, disks) > 0)
+        return 0;
+    while (place < block && e->sum[place] == 0)
+        place++;
+    return place < block;
+}
+
+size_t find_lost(struct grid g, const uint8_t *map, uint8_t *is_lost)
+{
+    size_t disks = disks_of(g), disk, k;
+
+    set_up(g, 0, NULL, map);
+    solve(disks, 0);
+    memcpy(is_lost, map, disks);
+    for (k = 0; k < STRIPES; k++) {
+        disk = determined_by(&equations[k], disks);
+        if (disk < disks)
+            is_lost[disk] = 0;
+    }
+    return count_erased(is_lost, disks);
 }
 
 /* ---- plan */
@@ -258,12 +375,14 @@ static const char *judge_refusal(const struct planned *p, uint32_t status)
 
 static const char *judge_outcome(const struct planned *p)
 {
-    uint8_t work[DISKS_MAX], sheet[SHEET_BYTES];
+    uint8_t work[DISKS_MAX], is_lost[DISKS_MAX], sheet[SHEET_BYTES];
     size_t repairs, lost;
 
     memcpy(work, p->map, p->map_len);
     repairs = plan_repairs(p->grid, work, sheet);
-    lost = count_erased(work, p->map_len);
+    lost = find_lost(p->grid, p->map, is_lost);
+    if ((lost > 0) != (count_erased(work, p->map_len) > 0))
+        return "the model contradicts itself";
     if (p->status != (lost > 0 ? FATAL : DONE))
         return "plan and the model differ on whether the loss is fatal";
     if (p->count != (lost > 0 ? lost : repairs))
@@ -286,11 +405,11 @@ const char *judge_plan(const struct planned *p)
     return judge_outcome(p);
 }
 
-/* ---- follow and rebuild */
+/* ---- follow, rebuild and save */
 
-/* The refusals with which both begin. */
+/* The refusals with which all begin. */
 static uint32_t refusal(struct grid g, size_t block, size_t array_len,
-                        const uint8_t *map, size_t map_len, size_t sheet_len)
+                        const uint8_t *map, size_t map_len)
 {
     if (!grid_fits(g))
         return WRONG_SIDE;
@@ -300,9 +419,19 @@ static uint32_t refusal(struct grid g, size_t block, size_t array_len,
         return WRONG_ARRAY;
     if (!map_fits(g, map, map_len))
         return WRONG_MAP;
-    if (sheet_len != SHEET_BYTES)
-        return WRONG_SHEET;
     return DONE;
+}
+
+/* The same, and that of the sheet. */
+static uint32_t sheet_refusal(struct grid g, size_t block, size_t array_len,
+                              const uint8_t *map, size_t map_len,
+                              size_t sheet_len)
+{
+    uint32_t status = refusal(g, block, array_len, map, map_len);
+
+    if (status == DONE && sheet_len != SHEET_BYTES)
+        return WRONG_SHEET;
+    return status;
 }
 
 int read_chain(const uint8_t *sheet, uint8_t order[RECORDS])
@@ -406,7 +535,8 @@ uint32_t model_follow(struct grid g, size_t block,
                       size_t *count)
 {
     uint8_t order[RECORDS];
-    uint32_t status = refusal(g, block, array_len, map, map_len, sheet_len);
+    uint32_t status = sheet_refusal(g, block, array_len, map, map_len,
+                                    sheet_len);
     int steps, i;
 
     if (status != DONE)
@@ -441,8 +571,9 @@ uint32_t model_rebuild(struct grid g, size_t block,
                        uint8_t *sheet, size_t sheet_len,
                        size_t limit, size_t *count)
 {
-    uint8_t left[DISKS_MAX], planned[SHEET_BYTES];
-    uint32_t status = refusal(g, block, array_len, map, map_len, sheet_len);
+    uint8_t left[DISKS_MAX], is_lost[DISKS_MAX], planned[SHEET_BYTES];
+    uint32_t status = sheet_refusal(g, block, array_len, map, map_len,
+                                    sheet_len);
     size_t repairs, made, k;
 
     if (status != DONE)
@@ -452,7 +583,7 @@ uint32_t model_rebuild(struct grid g, size_t block,
     memcpy(left, map, map_len);
     repairs = plan_repairs(g, left, planned);
     if (count_erased(left, map_len) > 0) {
-        *count = count_erased(left, map_len);
+        *count = find_lost(g, map, is_lost);
         return FATAL;
     }
     made = limit < repairs ? limit : repairs;
@@ -467,5 +598,32 @@ uint32_t model_rebuild(struct grid g, size_t block,
         map[planned[record_at(k)]] = 0;
     list_first(sheet, planned, made);
     *count = made;
+    return DONE;
+}
+
+uint32_t model_save(struct grid g, size_t block,
+                    uint8_t *array, size_t array_len,
+                    const uint8_t *map, size_t map_len, size_t *count)
+{
+    uint32_t status = refusal(g, block, array_len, map, map_len);
+    size_t disk, k, saved = 0;
+
+    if (status != DONE)
+        return status;
+    set_up(g, block, array, map);
+    solve(map_len, block);
+    for (k = 0; k < STRIPES; k++)
+        if (is_contradiction(&equations[k], map_len, block)) {
+            zero_erased(block, array, map, map_len);
+            return CONTRADICTION;
+        }
+    for (k = 0; k < STRIPES; k++) {
+        disk = determined_by(&equations[k], map_len);
+        if (disk < map_len) {
+            memcpy(array + disk * block, equations[k].sum, block);
+            saved++;
+        }
+    }
+    *count = saved;
     return DONE;
 }

@@ -1,6 +1,6 @@
 /*
- * What plan, follow and rebuild must answer, in plain C, written from the order
- * alone: its rules, its numbers and its formats. Only the words are those of
+ * What plan, follow, rebuild and save must answer, in plain C, written from the
+ * order alone: its rules, its numbers and its formats. Only the words are those of
  * include/raid2d.h. It goes disk by disk and byte by byte.
  */
 #ifndef MODEL_H
@@ -49,13 +49,17 @@ int may_repair(struct grid g, const uint8_t *work, size_t disk, size_t stripe);
 /*
  * Plan's order on a working map, until no repair is allowed. Writes the sheet
  * that lists the repairs, takes the repaired disks off the map, and returns
- * the number of repairs: at most 32, since no stripe is used twice. What is
- * left on the map are the lost disks.
+ * the number of repairs: at most 32, since no stripe is used twice. Where a disk
+ * is left on the map, the loss is fatal.
  */
 size_t plan_repairs(struct grid g, uint8_t *work, uint8_t *sheet);
 
 /* How many disks a map says are erased. */
 size_t count_erased(const uint8_t *map, size_t disks);
+
+/* How many of them are lost: two sealed arrays with the same survivors differ
+   in them. is_lost gets a byte for each disk: 1 for these, else 0. */
+size_t find_lost(struct grid g, const uint8_t *map, uint8_t *is_lost);
 
 /*
  * The chain of a sheet from elsewhere: its record numbers in order, and how
@@ -90,6 +94,11 @@ uint32_t model_rebuild(struct grid g, size_t block,
                        uint8_t *map, size_t map_len,
                        uint8_t *sheet, size_t sheet_len,
                        size_t limit, size_t *count);
+
+/* What raid2d_save must do, with its parameters. */
+uint32_t model_save(struct grid g, size_t block,
+                    uint8_t *array, size_t array_len,
+                    const uint8_t *map, size_t map_len, size_t *count);
 
 /* A call of raid2d_plan: what it was lent, and what it left and returned. */
 struct planned {

@@ -61,17 +61,32 @@ static int mark_in_forest(struct draft *d, uint8_t *part, size_t disk)
     return 1;
 }
 
+/* At first every stripe is a part by itself. */
+static void part_all(uint8_t *part)
+{
+    size_t i;
+
+    for (i = 0; i < STRIPES; i++)
+        part[i] = (uint8_t)i;
+}
+
+/* Marks about this many disks more that close no loop. */
+static void grow_forest(struct draft *d, uint8_t *part, size_t wanted)
+{
+    size_t tries;
+
+    for (tries = 0; wanted > 0 && tries < 400; tries++)
+        if (mark_in_forest(d, part, draw(&d->random, (uint32_t)d->disks)))
+            wanted--;
+}
+
 /* A loss that can be repaired, of about this many disks. */
 static void draw_forest(struct draft *d, size_t wanted)
 {
     uint8_t part[STRIPES];
-    size_t i, tries;
 
-    for (i = 0; i < STRIPES; i++)
-        part[i] = (uint8_t)i;
-    for (tries = 0; wanted > 0 && tries < 400; tries++)
-        if (mark_in_forest(d, part, draw(&d->random, (uint32_t)d->disks)))
-            wanted--;
+    part_all(part);
+    grow_forest(d, part, wanted);
 }
 
 static size_t draw_row(struct draft *d)
@@ -97,6 +112,25 @@ static void draw_corners(struct draft *d)
     d->map[disk_around(d->grid, down, right)] = 1;
 }
 
+/* So many rectangles along a diagonal, and about so many disks more that close
+   no further loop: some of these follow from the survivors though no repair
+   reaches them. */
+static void draw_rectangles(struct draft *d, size_t rectangles, size_t more)
+{
+    size_t row = draw_row(d), column = draw_column(d), i;
+    uint8_t part[STRIPES];
+
+    part_all(part);
+    for (i = 0; i < 4 * rectangles; i++) {
+        size_t disk = disk_around(d->grid, row + i / 2,
+                                  column + i / 4 * 2 + i % 2);
+
+        mark_in_forest(d, part, disk);
+        d->map[disk] = 1;
+    }
+    grow_forest(d, part, more);
+}
+
 /* A stair of this many steps from an arbitrary disk on. It comes back to its
    beginning, but for so many disks that are left out. */
 static void draw_stair(struct draft *d, size_t steps, size_t left_out)
@@ -109,7 +143,8 @@ static void draw_stair(struct draft *d, size_t steps, size_t left_out)
 }
 
 /* As many disks as can be repaired, or fewer; such a loss with a loop in it;
-   one loop, or a longest one that is open; all disks or none. */
+   one loop, or a longest one that is open; all disks or none; rectangles with
+   disks between them, or all that there is room for with few between them. */
 static void draw_loss(struct draft *d)
 {
     size_t rows = d->grid.rows, columns = d->grid.columns;
@@ -117,7 +152,7 @@ static void draw_loss(struct draft *d)
     uint32_t most = (uint32_t)(rows + columns + 1);
 
     memset(d->map, 0, INPUT_MAX - AT_MAP);
-    switch (draw(&d->random, 8)) {
+    switch (draw(&d->random, 10)) {
     case 0:
         draw_forest(d, most);
         break;
@@ -133,6 +168,13 @@ static void draw_loss(struct draft *d)
         break;
     case 4:
         memset(d->map, one_in(d, 2), d->disks);
+        break;
+    case 5:
+        draw_rectangles(d, 1 + draw(&d->random, (uint32_t)longest / 2),
+                        draw(&d->random, most + 1));
+        break;
+    case 6:
+        draw_rectangles(d, longest / 2, draw(&d->random, 4));
         break;
     default:
         draw_forest(d, draw(&d->random, most + 1));
@@ -380,12 +422,18 @@ static uint8_t draw_limit(struct draft *d)
     }
 }
 
-static int is_rebuild(const struct draft *d)
+static int is_save(const struct draft *d)
 {
-    return (d->bytes[AT_FLAGS] & FLAG_REBUILD) != 0;
+    return (d->bytes[AT_FLAGS] & FLAG_SAVE) != 0;
 }
 
-/* What a call needs beside the loss: rebuild a limit, others plan's sheet. */
+static int is_rebuild(const struct draft *d)
+{
+    return !is_save(d) && (d->bytes[AT_FLAGS] & FLAG_REBUILD) != 0;
+}
+
+/* What a call needs beside the loss: rebuild a limit, others plan's sheet. Save
+   does not look at it. */
 static void fit_to_loss(struct draft *d)
 {
     if (is_rebuild(d))
@@ -394,15 +442,19 @@ static void fit_to_loss(struct draft *d)
         plan_sheet(d);
 }
 
+static void change_survivors(struct draft *d)
+{
+    d->bytes[AT_CONTENTS] = (uint8_t)draw(&d->random, CONTENTS);
+    d->bytes[AT_DISK] = (uint8_t)draw(&d->random, (uint32_t)d->disks);
+}
+
 /* Another limit, or other survivors. */
 static void change_turns(struct draft *d)
 {
-    if (one_in(d, 2)) {
+    if (one_in(d, 2))
         d->bytes[AT_LIMIT] = draw_limit(d);
-    } else {
-        d->bytes[AT_CONTENTS] = (uint8_t)draw(&d->random, CONTENTS);
-        d->bytes[AT_DISK] = (uint8_t)draw(&d->random, (uint32_t)d->disks);
-    }
+    else
+        change_survivors(d);
 }
 
 /* ---- the rest of an input */
@@ -469,8 +521,8 @@ static void draw_input(struct draft *d)
 
     memset(d->bytes, 0, AT_MAP);
     d->bytes[AT_FLAGS] = (uint8_t)draw(&d->random, 4) | !one_in(d, 4);
-    if (one_in(d, 3))
-        d->bytes[AT_FLAGS] |= FLAG_REBUILD;
+    if (one_in(d, 2))
+        d->bytes[AT_FLAGS] |= one_in(d, 2) ? FLAG_REBUILD : FLAG_SAVE;
     d->bytes[AT_ROWS] = draw_side(d);
     d->bytes[AT_COLUMNS] = draw_side(d);
     d->bytes[AT_BLOCK] = (uint8_t)(1 + draw(&d->random, one_in(d, 2) ? 4 : 40));
@@ -483,6 +535,17 @@ static void draw_input(struct draft *d)
         draw_sheet(d);
     else
         fit_to_loss(d);
+}
+
+/* What matters to the call beside the loss: survivors, a limit, a sheet. */
+static void change_rest(struct draft *d)
+{
+    if (is_save(d))
+        change_survivors(d);
+    else if (is_rebuild(d))
+        change_turns(d);
+    else
+        change_sheet(d);
 }
 
 static void change(struct draft *d)
@@ -513,10 +576,7 @@ static void change(struct draft *d)
         swap_sides(d);
         break;
     default:
-        if (is_rebuild(d))
-            change_turns(d);
-        else
-            change_sheet(d);
+        change_rest(d);
     }
 }
 

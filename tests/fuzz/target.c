@@ -114,6 +114,38 @@ static const char *try_follow(const struct input *in)
     return NULL;
 }
 
+static uint32_t call_save(const struct input *in)
+{
+    uint32_t status;
+
+    forbid_writes(&map.memory);
+    status = raid2d_save(in->grid.rows, in->grid.columns, in->block,
+                         passed(in, &array), in->array_len,
+                         passed(in, &map), in->map_len,
+                         (size_t *)(void *)count.bytes);
+    allow_writes(&map.memory);
+    return status;
+}
+
+/* What is wrong with save. */
+static const char *try_save(const struct input *in)
+{
+    size_t expected = COUNT_BEFORE;
+    uint32_t status;
+
+    lend_all(in);
+    lend_array(in);
+    status = model_save(in->grid, in->block, model_array, in->array_len,
+                        in->map, in->map_len, &expected);
+    if (call_save(in) != status)
+        return "save's status is another one";
+    if (count_now() != expected)
+        return "save's count is another one";
+    if (memcmp(array.bytes, model_array, in->array_len) != 0)
+        return "save leaves another array";
+    return NULL;
+}
+
 static uint32_t call_plan(const struct input *in)
 {
     uint32_t status;
@@ -228,6 +260,8 @@ static const char *try_rebuild(const struct input *in)
 static const char *try_call(const struct input *in)
 {
     switch (in->call) {
+    case SAVE:
+        return try_save(in);
     case REBUILD:
         return try_rebuild(in);
     case FOLLOW:
