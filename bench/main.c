@@ -4,6 +4,7 @@
 #include "followed.h"
 #include "guards.h"
 #include "repairs.h"
+#include "saved.h"
 #include "speed.h"
 #include "timing.h"
 #include "turns.h"
@@ -56,7 +57,7 @@ int main(void)
     static ratio_table ratios;
     struct input input;
     int warnings;
-    if (!peers_agree() || !follow_agrees() || !turns_agree()) {
+    if (!peers_agree() || !follow_agrees() || !turns_agree() || !save_agrees()) {
         puts("Nothing is timed.");
         return 1;
     }
@@ -70,6 +71,8 @@ int main(void)
     warnings += compare_follow(&input);
     puts("");
     warnings += compare_turns(&input);
+    puts("");
+    warnings += compare_save(&input);
     puts("");
     print_speeds(&input);
     input_close(&input);

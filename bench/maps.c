@@ -13,11 +13,12 @@ const char *const map_names[MAPS] = {
     [NO_DISK] = "no disk",
     [MIDDLE_COLUMN] = "middle column",
     [LAST_COLUMN] = "last column",
+    [RECTANGLES] = "rectangles",
 };
 
 int is_fatal(size_t kind)
 {
-    return kind == ALL_DISKS || kind == CYCLE_AND_TREE || kind == HALF_OF_ALL;
+    return kind == ALL_DISKS || kind == CYCLE_AND_TREE || kind == HALF_OF_ALL || kind == RECTANGLES;
 }
 
 /* Erases `count` disks that stand `step` apart. */
@@ -37,6 +38,17 @@ static void erase_stairs(uint8_t *map, size_t rows, size_t columns)
             c++;
         else
             r++;
+    }
+}
+
+static void erase_rectangles(uint8_t *map, size_t rows, size_t columns)
+{
+    size_t across = columns + 1;
+    for (size_t k = 0; k + 1 <= rows && k + 1 <= columns; k += 2) {
+        erase(map, k * across + k, 1, 2);
+        erase(map, (k + 1) * across + k, 1, 2);
+        if (k + 3 <= rows && k + 3 <= columns)
+            map[(k + 1) * across + k + 2] = 1;
     }
 }
 
@@ -80,6 +92,9 @@ void draw_map(size_t kind, size_t rows, size_t columns, uint8_t *map)
         break;
     case LAST_COLUMN:
         erase(map, columns, across, down);
+        break;
+    case RECTANGLES:
+        erase_rectangles(map, rows, columns);
         break;
     }
 }

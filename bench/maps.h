@@ -17,6 +17,8 @@ enum {
     NO_DISK,
     MIDDLE_COLUMN,
     LAST_COLUMN,
+    RECTANGLES, /* four disks at a time along the diagonal, and a disk between each four and the next: that one is not
+                   lost, though no repair brings it back; nine disks at 3x3 */
     MAPS
 };
 

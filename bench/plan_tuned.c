@@ -1,4 +1,5 @@
 /* Plan with counters: the erased disks of each stripe are counted once, and the counters kept as repairs are made. */
+#include "bridges.h"
 #include "peer.h"
 #include "sheet.h"
 #include "walk.h"
@@ -64,7 +65,7 @@ uint32_t tuned_plan(size_t rows, size_t columns, const uint8_t *map, size_t map_
     put_kind(sheet, sheet_len, REPAIRS);
     while (made < erased && next_repair(&tally, rows + 1, columns + 1, sheet, made))
         made++;
-    *count = made == erased ? made : erased - made;
+    *count = made == erased ? made : count_lost(rows, columns, tally.left);
     if (made == erased)
         return 0;
     put_loop(columns, tally.left, sheet, sheet_len);

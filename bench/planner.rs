@@ -1,4 +1,5 @@
-//! Plan of the Rust peer: erased disks with a counter for each stripe, and the loop of a fatal loss by a walk.
+//! Plan of the Rust peer: erased disks with a counter for each stripe, the loop of a fatal loss by a walk, and its lost
+//! disks by a search.
 
 use crate::FIRST_COLUMN;
 
@@ -101,6 +102,57 @@ impl Erased {
     }
 }
 
+/// A search from stripe to stripe over the disks that are left.
+#[derive(Default)]
+struct Search {
+    /// The stripes across each stripe with which it shares a disk, a bit for each.
+    others: [u32; STRIPES],
+    /// When a stripe was reached, from 1 on, and the earliest stripe to which a way leads from behind it.
+    reached: [u32; STRIPES],
+    earliest: [u32; STRIPES],
+    time: u32,
+    bridges: usize,
+}
+
+impl Search {
+    /// Goes on from a stripe to all behind it. A disk is the only way if none leads from behind it to its near side.
+    fn visit(&mut self, stripe: usize, from: Option<usize>) {
+        let mut left = self.others[stripe] & !from.map_or(0, |from| 1 << from);
+        self.time += 1;
+        (self.reached[stripe], self.earliest[stripe]) = (self.time, self.time);
+        while left != 0 {
+            let next = left.trailing_zeros() as usize;
+            left &= left - 1;
+            if self.reached[next] == 0 {
+                self.visit(next, Some(stripe));
+                self.bridges += usize::from(self.earliest[next] > self.reached[stripe]);
+            }
+            self.earliest[stripe] = self.earliest[stripe].min(self.earliest[next]);
+        }
+    }
+}
+
+impl Erased {
+    /// How many of the disks that are left are lost: the others join two parts of the stripes that nothing else joins.
+    fn lost(&self) -> usize {
+        let mut search = Search::default();
+        let left = (0..self.down * self.across).filter(|&disk| self.left[disk] != 0);
+        let count = left
+            .map(|disk| [disk / self.across, FIRST_COLUMN + disk % self.across])
+            .map(|[row, column]| {
+                search.others[row] |= 1 << column;
+                search.others[column] |= 1 << row;
+            })
+            .count();
+        for row in 0..self.down {
+            if search.reached[row] == 0 {
+                search.visit(row, None);
+            }
+        }
+        count - search.bridges
+    }
+}
+
 /// Writes the repairs in plan's order, or a loop, into the sheet.
 pub fn plan(down: usize, across: usize, map: &[u8], sheet: &mut [u8]) -> Planned {
     let mut erased = Erased::new(down, across, map);
@@ -119,5 +171,5 @@ pub fn plan(down: usize, across: usize, map: &[u8], sheet: &mut [u8]) -> Planned
     sheet.fill(0);
     sheet[0] = 2;
     erased.put_loop(sheet);
-    Planned::Fatal(count - made)
+    Planned::Fatal(erased.lost())
 }

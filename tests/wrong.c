@@ -4,16 +4,15 @@
  * kind that guard bytes, sums, samples, squares and rebuilds of all disks do not
  * show: a byte that is only read, or written as it was, single losses among
  * millions, rows that are taken for columns, and turns that do not end as they
- * should. tests/wrong renames the archive's functions and sees that the tests
- * fail.
+ * should. wrong_save.c has save. tests/wrong renames the archive's functions and
+ * sees that the tests fail.
  */
 #include <stdlib.h>
 #include <string.h>
 
 #include "raid2d.h"
+#include "wrong.h"
 
-size_t right_disks(size_t rows, size_t columns);
-size_t right_array_bytes(size_t rows, size_t columns, size_t block);
 size_t right_sheet_next(const uint8_t *sheet, size_t record);
 uint32_t right_seal(size_t rows, size_t columns, size_t block,
                     uint8_t *array, size_t array_len);
@@ -26,9 +25,6 @@ size_t right_look(size_t rows, size_t columns, size_t block,
                   const uint8_t *array, size_t array_len,
                   const uint8_t *map, size_t map_len,
                   size_t disk, size_t *offset);
-uint32_t right_plan(size_t rows, size_t columns,
-                    const uint8_t *map, size_t map_len,
-                    uint8_t *sheet, size_t sheet_len, size_t *count);
 uint32_t right_rebuild(size_t rows, size_t columns, size_t block,
                        uint8_t *array, size_t array_len,
                        uint8_t *map, size_t map_len,
@@ -40,7 +36,7 @@ uint32_t right_follow(size_t rows, size_t columns, size_t block,
                       const uint8_t *sheet, size_t sheet_len, size_t *count);
 
 /* Asked so often that the environment is looked at only once. */
-static const char *wanted(void)
+const char *wanted(void)
 {
     static const char *name;
 
@@ -51,7 +47,7 @@ static const char *wanted(void)
     return name;
 }
 
-static int wrong(const char *name)
+int wrong(const char *name)
 {
     return strcmp(wanted(), name) == 0;
 }
@@ -65,12 +61,12 @@ static int wrong_in(const char *call, const char *fault)
            && strcmp(wanted() + length, fault) == 0;
 }
 
-static void read_at(const void *place)
+void read_at(const void *place)
 {
     (void)*(const volatile uint8_t *)place;
 }
 
-static void write_at(const void *place)
+void write_at(const void *place)
 {
     volatile uint8_t *byte = (volatile uint8_t *)(size_t)place;
 
@@ -82,19 +78,12 @@ static void *(*volatile set_bytes)(void *, int, size_t) = memset;
 
 /* ---- The two numbers of the size ---- */
 
-struct size {
-    size_t rows;
-    size_t columns;
-};
-
 static int fits(size_t side)
 {
     return side >= RAID2D_SIDE_MIN && side <= RAID2D_SIDE_MAX;
 }
 
-/* The size that a call passes on. A number that is not tested is taken for the
-   other one where it is out of range. */
-static struct size passed_on(const char *call, size_t rows, size_t columns)
+struct size passed_on(const char *call, size_t rows, size_t columns)
 {
     struct size same = { rows, columns };
     struct size swapped = { columns, rows };
@@ -497,6 +486,8 @@ uint32_t raid2d_plan(size_t rows, size_t columns,
         set_bytes(sheet + sheet_len, 0, 1);
     if (status == 0 && too_many("plan", rows, columns, *count))
         return 6;
+    if (wrong("plan counts what no repair reaches") && status == 6)
+        *count = count_left(rows, columns, map);
     return spoil_plan(status, rows, columns, map, map_len, sheet, count);
 }
 
@@ -513,6 +504,8 @@ uint32_t raid2d_rebuild(size_t rows, size_t columns, size_t block,
 
     if (status == 0 && too_many("rebuild", rows, columns, *count))
         return 6;
+    if (wrong("rebuild counts what no repair reaches") && status == 6)
+        *count = count_left(rows, columns, map);
     return status;
 }
 
