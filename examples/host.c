@@ -5,7 +5,8 @@
  * superparity is not there yet, writes a block, loses disks and gets them
  * back, follows a list of repairs that came from elsewhere, repairs two disks
  * at a time between the machine's cuts, meets a survivor that was changed
- * behind its back, and in the end a loss that nothing brings back.
+ * behind its back, saves what can be saved of a cabinet with nine dead cards,
+ * and meets in the end a loss that nothing brings back.
  * `make example` builds and runs it, and examples/host.expected has what it
  * prints.
  *
@@ -414,6 +415,109 @@ static void meet_a_changed_survivor(void)
     rebuild();
 }
 
+/* ---- Another array, with a fatal loss of which a disk can be saved. */
+
+/* The locksmith's cabinet: 3 rows and 3 columns of data disks, which are cards
+   there, with blocks of the same length. */
+enum { SIDE = 3, SIDE_ACROSS = SIDE + 1 };
+
+static const char keys[SIDE][SIDE][BLOCK + 1] = {
+    { "keyblank", "padlocks", "tumblers" },
+    { "cylinder", "deadbolt", "latchkey" },
+    { "keyholes", "lockpick", "doorknob" }
+};
+
+static uint8_t cabinet[RAID2D_ARRAY_BYTES(SIDE, SIDE, BLOCK)];
+static uint8_t dead[RAID2D_DISKS(SIDE, SIDE)];
+
+static const size_t nine_cards[] = { 0, 1, 4, 5, 6, 10, 11, 14, 15 };
+
+static void fill_cabinet(void)
+{
+    size_t row, column, i;
+    uint32_t status;
+
+    for (row = 0; row < SIDE; row++)
+        for (column = 0; column < SIDE; column++)
+            memcpy(cabinet + (row * SIDE_ACROSS + column) * BLOCK,
+                   keys[row][column], BLOCK);
+    status = raid2d_seal(SIDE, SIDE, BLOCK, cabinet, sizeof cabinet);
+    expect(status == RAID2D_OK, "seal of the cabinet");
+    for (i = 0; i < 9; i++) {
+        dead[nine_cards[i]] = 1;
+        memset(cabinet + nine_cards[i] * BLOCK, '?', BLOCK);
+    }
+}
+
+/* Plan needs no array. */
+static uint32_t plan_cards(size_t *count)
+{
+    return raid2d_plan(SIDE, SIDE, dead, sizeof dead, sheet, sizeof sheet,
+                       count);
+}
+
+/* How many disks are lost, 0 where the loss is not fatal. */
+static size_t count_lost(void)
+{
+    size_t count = 0;
+
+    return plan_cards(&count) == RAID2D_FATAL ? count : 0;
+}
+
+/* Save restores every disk that is not lost, and leaves the others. */
+static void save_cards(void)
+{
+    size_t count = 0, i;
+    uint32_t status = raid2d_save(SIDE, SIDE, BLOCK, cabinet, sizeof cabinet,
+                                  dead, sizeof dead, &count);
+
+    printf("save: %s, %zu card restored\n", raid2d_strerror(status), count);
+    expect(status == RAID2D_OK && count == 1, "save");
+    for (i = 0; i < 9; i++)
+        expect((cabinet[nine_cards[i] * BLOCK] == '?') == (nine_cards[i] != 6),
+               "which cards are restored");
+}
+
+/* Save only reads the map. A lost disk is on a loop, so without it fewer would
+   be lost; without a disk that is saved as many are. */
+static void find_saved_cards(void)
+{
+    size_t lost = count_lost(), i;
+
+    for (i = 0; i < 9; i++) {
+        size_t card = nine_cards[i], without;
+
+        dead[card] = 0;
+        without = count_lost();
+        printf("  without card %2zu: %zu lost%s\n", card, without,
+               without == lost ? ", so this one is saved" : "");
+        dead[card] = without < lost;
+    }
+}
+
+/* No row and no column has a single dead card. But cards 2, 3, 6, 7, 8, 9, 12
+   and 13 add up to zero in a sealed array: they are what is in rows 0 and 1 or
+   in columns 0 and 1, but not in both. Only card 6 of them is dead. */
+static void save_a_card(void)
+{
+    size_t count = 0;
+    uint32_t status;
+
+    printf("\n8. In a locksmith's cabinet, 3 rows and 3 columns, nine cards are"
+           " dead.\n");
+    fill_cabinet();
+    status = plan_cards(&count);
+    printf("plan: %s, %zu cards are lost\n", raid2d_strerror(status), count);
+    expect(status == RAID2D_FATAL && count == 8, "plan for nine cards");
+    save_cards();
+    find_saved_cards();
+    printf("Card 6 holds %.*s again.\n", BLOCK,
+           (const char *)(cabinet + 6 * BLOCK));
+    expect(dead[6] == 0 && count_lost() == 8, "the map without saved cards");
+    expect(memcmp(cabinet + 6 * BLOCK, keys[1][2], BLOCK) == 0,
+           "what save has restored");
+}
+
 /* ---- A fatal loss, with a picture of its loop. */
 
 /* The disks that are on the loop, in the form of a map. */
@@ -521,7 +625,7 @@ static void meet_a_fatal_loss(void)
     static const size_t failed[] = { 0, 3, 6, 8, 10, 11, 19 };
     static uint8_t before[sizeof array];
 
-    printf("\n8. Disks 0, 3, 6, 8, 10, 11 and 19 fail.\n");
+    printf("\n9. Disks 0, 3, 6, 8, 10, 11 and 19 fail.\n");
     memcpy(before, array, sizeof array);
     lose(failed, 7);
     fail_to_rebuild();
@@ -547,6 +651,7 @@ int main(void)
     follow_notes();
     repair_between_cuts();
     meet_a_changed_survivor();
+    save_a_card();
     meet_a_fatal_loss();
     return failures == 0 ? 0 : 1;
 }

@@ -89,6 +89,12 @@ static void follow(void)
                            sheet, sizeof sheet, &out);
 }
 
+static void save(void)
+{
+    result = raid2d_save(rows, columns, BLOCK, array, array_len, map, disks,
+                         &out);
+}
+
 /* What a run starts from: arbitrary data, sealed, and no disk erased. */
 static void prepare(void)
 {
@@ -176,6 +182,32 @@ static void all_lost(void)
     memset(map, 1, sizeof map);
 }
 
+/* Four disks at a time along the diagonal, and a disk between each four and the
+   next: that one follows from the survivors, though no repair reaches it. */
+static void rectangles(void)
+{
+    size_t i;
+
+    for (i = 0; i + 1 <= rows && i + 1 <= columns; i += 2) {
+        lose(i, i);
+        lose(i, i + 1);
+        lose(i + 1, i);
+        lose(i + 1, i + 1);
+        if (i + 3 <= rows && i + 3 <= columns)
+            lose(i + 1, i + 2);
+    }
+}
+
+/* The first four of them, and survivors that contradict each other. */
+static void contradicted_rectangle(void)
+{
+    damaged();
+    lose(0, 0);
+    lose(0, 1);
+    lose(1, 0);
+    lose(1, 1);
+}
+
 struct run {
     const char *name;
     void (*call)(void);
@@ -193,14 +225,23 @@ static const struct run runs[] = {
     { "plan", plan, "a row and a column lost", cross, RAID2D_OK },
     { "plan", plan, "the longest cycle", stairs, RAID2D_FATAL },
     { "plan", plan, "all disks erased", all_lost, RAID2D_FATAL },
+    { "plan", plan, "rectangles joined", rectangles, RAID2D_FATAL },
     { "rebuild", rebuild, "a row and a column lost", cross, RAID2D_OK },
     { "rebuild", rebuild_one, "one repair of the same", cross, RAID2D_OK },
     { "rebuild", rebuild, "the longest cycle", stairs, RAID2D_FATAL },
+    { "rebuild", rebuild, "rectangles joined", rectangles, RAID2D_FATAL },
     { "rebuild", rebuild, "survivors that disagree", contradicted,
       RAID2D_ERR_SURVIVORS },
     { "follow", follow, "the longest list", cross_and_sheet, RAID2D_OK },
     { "follow", follow, "a ring of 32 records", ring, RAID2D_ERR_CHAIN },
     { "follow", follow, "survivors that disagree", contradicted,
+      RAID2D_ERR_SURVIVORS },
+    { "save", save, "no disk erased", sealed, RAID2D_OK },
+    { "save", save, "a row and a column lost", cross, RAID2D_OK },
+    { "save", save, "the longest cycle", stairs, RAID2D_OK },
+    { "save", save, "rectangles joined", rectangles, RAID2D_OK },
+    { "save", save, "all disks erased", all_lost, RAID2D_OK },
+    { "save", save, "survivors that disagree", contradicted_rectangle,
       RAID2D_ERR_SURVIVORS }
 };
 
