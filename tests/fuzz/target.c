@@ -94,7 +94,19 @@ static uint32_t call_follow(const struct input *in)
     return status;
 }
 
-/* What is wrong with follow, in words; NULL if nothing. */
+/* What is wrong with a call that leaves an array, in words; NULL if nothing. */
+static const char *judge_array(const struct input *in, uint32_t status,
+                               uint32_t due, size_t due_count)
+{
+    if (status != due)
+        return "the status of follow or save is another one";
+    if (count_now() != due_count)
+        return "the count of follow or save is another one";
+    if (memcmp(array.bytes, model_array, in->array_len) != 0)
+        return "follow or save leaves another array";
+    return NULL;
+}
+
 static const char *try_follow(const struct input *in)
 {
     size_t expected = COUNT_BEFORE;
@@ -105,13 +117,7 @@ static const char *try_follow(const struct input *in)
     status = model_follow(in->grid, in->block, model_array, in->array_len,
                           in->map, in->map_len, in->sheet, in->sheet_len,
                           &expected);
-    if (call_follow(in) != status)
-        return "follow's status is another one";
-    if (count_now() != expected)
-        return "follow's count is another one";
-    if (memcmp(array.bytes, model_array, in->array_len) != 0)
-        return "follow leaves another array";
-    return NULL;
+    return judge_array(in, call_follow(in), status, expected);
 }
 
 static uint32_t call_save(const struct input *in)
@@ -127,7 +133,6 @@ static uint32_t call_save(const struct input *in)
     return status;
 }
 
-/* What is wrong with save. */
 static const char *try_save(const struct input *in)
 {
     size_t expected = COUNT_BEFORE;
@@ -137,13 +142,7 @@ static const char *try_save(const struct input *in)
     lend_array(in);
     status = model_save(in->grid, in->block, model_array, in->array_len,
                         in->map, in->map_len, &expected);
-    if (call_save(in) != status)
-        return "save's status is another one";
-    if (count_now() != expected)
-        return "save's count is another one";
-    if (memcmp(array.bytes, model_array, in->array_len) != 0)
-        return "save leaves another array";
-    return NULL;
+    return judge_array(in, call_save(in), status, expected);
 }
 
 static uint32_t call_plan(const struct input *in)

@@ -48,26 +48,14 @@ static struct grid grid_of_follow(size_t rows, size_t columns)
     return wrong("follow swaps rows and columns") ? swapped(g) : g;
 }
 
-/* The size as plan tests it. */
-static struct grid grid_of_plan(size_t rows, size_t columns)
+struct grid half_tested(size_t rows, size_t columns, int columns_only,
+                        int rows_only)
 {
     struct grid g = {rows, columns};
 
-    if (wrong("plan tests the columns only"))
+    if (columns_only)
         g.rows = untested(rows);
-    if (wrong("plan tests the rows only"))
-        g.columns = untested(columns);
-    return g;
-}
-
-/* The size as rebuild tests it. */
-static struct grid grid_of_rebuild(size_t rows, size_t columns)
-{
-    struct grid g = {rows, columns};
-
-    if (wrong("rebuild tests the columns only"))
-        g.rows = untested(rows);
-    if (wrong("rebuild tests the rows only"))
+    if (rows_only)
         g.columns = untested(columns);
     return g;
 }
@@ -456,7 +444,9 @@ uint32_t raid2d_plan(size_t rows, size_t columns,
                      const uint8_t *map, size_t map_len,
                      uint8_t *sheet, size_t sheet_len, size_t *count)
 {
-    struct grid g = grid_of_plan(rows, columns);
+    struct grid g = half_tested(rows, columns,
+                                wrong("plan tests the columns only"),
+                                wrong("plan tests the rows only"));
     size_t disk;
 
     if (!grid_fits(g))
@@ -680,8 +670,11 @@ uint32_t raid2d_rebuild(size_t rows, size_t columns, size_t block,
                         uint8_t *sheet, size_t sheet_len,
                         size_t limit, size_t *count)
 {
-    struct turn t = {grid_of_rebuild(rows, columns), block, array, array_len,
-                     map, map_len, sheet, limit, count, {0}, {0}, 0, 0};
+    struct grid g = half_tested(rows, columns,
+                                wrong("rebuild tests the columns only"),
+                                wrong("rebuild tests the rows only"));
+    struct turn t = {g, block, array, array_len, map, map_len, sheet, limit,
+                     count, {0}, {0}, 0, 0};
     uint32_t status = refusal_before_limit(&t, sheet_len);
 
     if (status != 12)

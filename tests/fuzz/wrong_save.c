@@ -7,18 +7,6 @@
 #include "raid2d.h"
 #include "wrong.h"
 
-/* The size as save takes it. */
-static struct grid grid_of_save(size_t rows, size_t columns)
-{
-    struct grid g = {rows, columns};
-
-    if (wrong("save tests the columns only"))
-        g.rows = untested(rows);
-    if (wrong("save tests the rows only"))
-        g.columns = untested(columns);
-    return wrong("save swaps rows and columns") ? swapped(g) : g;
-}
-
 /* A call with arguments that are not refused, what the array held before it,
    and which of the erased disks are lost, or left when no repair is allowed. */
 struct saving {
@@ -187,10 +175,15 @@ uint32_t raid2d_save(size_t rows, size_t columns, size_t block,
                      uint8_t *array, size_t array_len,
                      const uint8_t *map, size_t map_len, size_t *count)
 {
-    struct saving s = {grid_of_save(rows, columns), block, array, array_len,
-                       map, map_len, count, {0}, {0}, {0}, 0, 0, 0};
+    struct grid g = half_tested(rows, columns,
+                                wrong("save tests the columns only"),
+                                wrong("save tests the rows only"));
+    struct saving s = {g, block, array, array_len, map, map_len, count,
+                       {0}, {0}, {0}, 0, 0, 0};
     uint32_t status;
 
+    if (wrong("save swaps rows and columns"))
+        s.grid = swapped(g);
     if (wrong("save shortens block to 32 bits"))
         s.block = (uint32_t)block;
     status = save_refusal(&s);

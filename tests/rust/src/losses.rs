@@ -1,10 +1,10 @@
 //! Maps to try plan, rebuild, follow and save on, and what a lost array holds.
 
 use crate::equations::Equations;
-use crate::inputs::{place, sealed_array};
+use crate::inputs::{place, random_grid, sealed_array};
 use crate::random::Random;
 use crate::size::{Grid, Size};
-use crate::Run;
+use crate::{cores, Run};
 
 /// The map that says of these disks that they are erased.
 pub fn map_of(grid: Grid, disks: &[usize]) -> Vec<u8> {
@@ -156,6 +156,32 @@ pub fn of_each_kind(run: &mut Run, size: Size, judge: fn(&mut Run, Size, &[u8], 
         let map = map(&mut run.random, size.grid, kind);
         judge(run, size, &sealed, &map);
     }
+}
+
+/// Maps of a small grid that make a part, and share an array.
+const MAPS: usize = 64;
+/// Random sizes that make a part.
+const SIZES: usize = 5;
+
+/// Every map of a small grid, on sealed arrays that change now and then.
+pub fn of_all_maps(run: &mut Run, name: &str, grid: Grid, judge: fn(&mut Run, Size, &[u8], &[u8])) {
+    cores::share(run, name, (1 << grid.disks()) / MAPS, |run, part| {
+        let size = Size { grid, block: run.random.between(1, 3) };
+        let sealed = sealed_array(&mut run.random, size);
+        for set in part * MAPS..(part + 1) * MAPS {
+            judge(run, size, &sealed, &map_of_bits(grid, set));
+        }
+    });
+}
+
+/// A loss of each kind at random sizes, so many parts of them.
+pub fn of_random_sizes(run: &mut Run, name: &str, parts: usize, judge: fn(&mut Run, Size, &[u8], &[u8])) {
+    cores::share(run, name, parts, |run, _| {
+        for _ in 0..SIZES {
+            let size = Size { grid: random_grid(&mut run.random), block: run.random.between(1, 20) };
+            of_each_kind(run, size, judge);
+        }
+    });
 }
 
 /// Puts random bytes on the erased disks: they count for nothing.

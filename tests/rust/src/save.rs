@@ -3,21 +3,18 @@
 //! rebuild, without the model.
 
 use crate::equations::{checks, crosses};
-use crate::inputs::{place, random_grid, sealed_array};
-use crate::losses::{self, map_of_bits};
+use crate::inputs::place;
+use crate::losses;
 use crate::model::{erased_disks, CONTRADICTORY, FATAL, SUCCESS};
 use crate::outcome::Outcome;
 use crate::rebuild::AT_ONCE;
 use crate::sheet::SHEET;
 use crate::size::{Grid, Size};
 use crate::tally::{must, show, Tally};
-use crate::{arguments, cores, ffi, model, Run};
+use crate::{arguments, ffi, model, Run};
 
-/// Maps of a small grid that make a part.
-const MAPS: usize = 64;
 /// Random sizes, each with a loss of each kind, in parts.
-const PARTS: usize = 10;
-const PART: usize = 20;
+const PARTS: usize = 40;
 
 fn words(size: Size, array: &[u8], map: &[u8]) -> String {
     let (array, map) = (show(array), show(map));
@@ -122,28 +119,14 @@ fn one_map(run: &mut Run, size: Size, sealed: &[u8], map: &[u8]) {
     as_rebuild(run, size, &array, map);
 }
 
-fn all_maps(run: &mut Run, grid: Grid) {
-    let name = format!("save, all maps, {grid}");
-    cores::share(run, &name, (1 << grid.disks()) / MAPS, |run, part| {
-        let size = Size { grid, block: run.random.between(1, 3) };
-        let sealed = sealed_array(&mut run.random, size);
-        for set in part * MAPS..(part + 1) * MAPS {
-            one_map(run, size, &sealed, &map_of_bits(grid, set));
-        }
-    });
-    run.tally.report(&name, &[0, 7]);
-}
-
 pub fn run(run: &mut Run, rounds: usize) {
     for (rows, columns) in [(2, 2), (2, 3), (3, 2), (3, 3)] {
-        all_maps(run, Grid::new(rows, columns));
+        let grid = Grid::new(rows, columns);
+        let name = format!("save, all maps, {grid}");
+        losses::of_all_maps(run, &name, grid, one_map);
+        run.tally.report(&name, &[0, 7]);
     }
-    cores::share(run, "save, random losses", rounds * PARTS, |run, _| {
-        for _ in 0..PART {
-            let size = Size { grid: random_grid(&mut run.random), block: run.random.between(1, 20) };
-            losses::of_each_kind(run, size, one_map);
-        }
-    });
+    losses::of_random_sizes(run, "save, random losses", rounds * PARTS, one_map);
     run.tally.report("save, random losses", &[0, 7]);
 }
 

@@ -1,21 +1,17 @@
 //! Rebuild in turns: each turn is compared with the model, and then all of them are held to what is promised of turns one
 //! after another, without the model.
 
-use crate::inputs::{random_grid, sealed_array};
-use crate::losses::{self, map_of_bits};
+use crate::losses;
 use crate::model::{erased_disks, CONTRADICTORY, FATAL, NO_REPAIRS, SUCCESS};
 use crate::outcome::Outcome;
 use crate::rebuild::{self, AT_ONCE};
 use crate::sheet::{chain, Record, RECORDS, SHEET};
 use crate::size::{Grid, Size};
 use crate::tally::{must, show};
-use crate::{cores, ffi, model, Run};
+use crate::{ffi, model, Run};
 
-/// Maps of a small grid that make a part.
-const MAPS: usize = 64;
 /// Random sizes, each with a loss of each kind, in parts.
 const PARTS: usize = 10;
-const PART: usize = 5;
 /// Limits that are 0 or 1 where they are shortened, and the greatest.
 const GREAT: [usize; 6] = [1 << 8, 1 << 16, 1 << 32, (1 << 32) + 1, 1 << 63, AT_ONCE];
 
@@ -164,13 +160,7 @@ pub fn any_limit(run: &mut Run, size: Size, sealed: &[u8], map: &[u8]) {
 
 fn all_maps(run: &mut Run, grid: Grid) {
     let name = format!("turns, all maps, {grid}");
-    cores::share(run, &name, (1 << grid.disks()) / MAPS, |run, part| {
-        let size = Size { grid, block: run.random.between(1, 3) };
-        let sealed = sealed_array(&mut run.random, size);
-        for set in part * MAPS..(part + 1) * MAPS {
-            every_limit(run, size, &sealed, &map_of_bits(grid, set));
-        }
-    });
+    losses::of_all_maps(run, &name, grid, every_limit);
     run.tally.report(&name, &[0, 6, 7, 12]);
 }
 
@@ -178,11 +168,6 @@ pub fn run(run: &mut Run, rounds: usize) {
     for (rows, columns) in [(2, 2), (2, 3), (3, 2)] {
         all_maps(run, Grid::new(rows, columns));
     }
-    cores::share(run, "turns, random losses", rounds * PARTS, |run, _| {
-        for _ in 0..PART {
-            let size = Size { grid: random_grid(&mut run.random), block: run.random.between(1, 20) };
-            losses::of_each_kind(run, size, every_limit);
-        }
-    });
+    losses::of_random_sizes(run, "turns, random losses", rounds * PARTS, every_limit);
     run.tally.report("turns, random losses", &[0, 6, 7, 12]);
 }
