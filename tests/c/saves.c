@@ -59,8 +59,8 @@ static void lose_between(struct call *c, size_t i)
                           c->size.block);
 }
 
-/* The disks between all rectangles but for those behind the one given. Returns
-   how many these are. */
+/* The disks between all rectangles, but for the one behind rectangle `but`.
+   Returns how many. */
 static size_t lose_all_between(struct call *c, size_t but)
 {
     size_t i, lost = 0;
@@ -151,7 +151,8 @@ static void save_nothing(struct size s)
 
 static const struct size square = { 3, 3, 1 };
 
-/* Two rectangles and disk 6 between them, or without it. */
+/* Two rectangles and disk 6 between them, with arbitrary survivors: they belong
+   to a sealed array. */
 static struct call nine_cards(enum function function)
 {
     struct call c = fitting_call(function, square);
@@ -193,8 +194,8 @@ static void save_nine_cards(void)
     end_call(&c);
 }
 
-/* Without disk 6 no stripe is without erased disks; a change of any survivor
-   shows, and a change of two does not. */
+/* Without disk 6 every stripe still has erased disks. A change of any survivor
+   shows, and equal changes of two do not. */
 static void change_eight_cards(size_t one, size_t two)
 {
     struct call c = sealed_call(SAVE, square);
