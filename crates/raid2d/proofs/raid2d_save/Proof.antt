@@ -22,7 +22,7 @@ unfolding rectangle
 returns c =
     let (answer, array) = c .before .before .before .before .save .ensures in
     let (status, count) = c .report-saving .ensures in
-    let before = c .before .before .before .before .before .before .before .before .before .args .count .now in
+    let before = c .before .before .before .before .before .before .before .before .args .count .now in
     (status ∙ ap savingStatus answer, (array, count ∙ ap (λ (r : Saving). savingCount r before) answer))
 
 pub raid2d-save-spec : {M : Type 1} → statement M
