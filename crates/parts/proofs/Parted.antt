@@ -1,19 +1,19 @@
 -- The laws of the table of parts.
 -- Assumes nothing.
-use mathlib.Core.Path.{_≡_, sym, _∙_, ap, ap₂}
-use mathlib.Core.Bool.{Bool, true, false, _&&_, not}
+use mathlib.Core.Path.{_≡_, refl, sym, _∙_, ap, ap₂}
+use mathlib.Core.Bool.{Bool, true, false, cond, _&&_, not}
 use mathlib.Core.List.{List}
 use Prim.Native.Nat.{ℕ, _+_, _≤_, _<_}
 use native.Mathlib.Nat.{le-refl}
 use native.Mathlib.Numerals.{add-one}
 use native.Mathlib.Omega.{arith}
-use borrow.Author.Tests.{eqb-false, ne-eqb}
+use borrow.Author.Tests.{eqb-true, eqb-false, ne-eqb}
 use lib.Dec.{eqb}
 use lib.ListN.{length, getD}
 use Rattle.stripes.specs.System.{Layout, lower, higher, firstOf, otherThan}
 use Rattle.stripes.specs.Erased.{erasures, without}
 use Rattle.stripes.specs.Joined.{united, partBy, part, joined}
-use Rattle.stripes.proofs.Fold.{bit-zero}
+use Rattle.stripes.proofs.Fold.{by-cases, bit-zero}
 use Rattle.stripes.proofs.Degree.{other-first}
 use Rattle.stripes.proofs.Peel.{without-at, without-other}
 use Rattle.stripes.proofs.Joined.{part-united, part-stays, part-skip, part-same, joined-of}
@@ -35,6 +35,14 @@ module _ {L : Layout} {d low high : ℕ} (x : Crossed L d low high) where
   crossed-places fits = let l = x .lowBound in let h = x .highBound in (omega arith, omega arith)
 
 -- ---- tables
+
+-- Nothing changes where the two parts are one already.
+pub united-same : (part : ℕ → ℕ) (low high : ℕ) → part low ≡ part high → (s : ℕ) → part s ≡ united low high part s
+unfolding united
+united-same part low high same s =
+    by-cases (λ (t : Bool). eqb (part s) (part high) ≡ t → part s ≡ cond t (part low) (part s)) (eqb (part s) (part high))
+    (λ _ q. eqb-true (part s) (part high) q ∙ sym same) (λ _ q. refl) refl
+
 pub parted-none : {L : Layout} (c : ℕ → Bool) {parts : List ℕ} → L .stripeBound ≤ length parts → Names (λ s. s) parts → Parted L c 0 parts
 unfolding partBy
 parted-none c fits names = record { stripesFit = fits; named = names }

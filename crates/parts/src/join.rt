@@ -61,10 +61,13 @@ pub fn joined_by_others(
     ensures answer { λ r. ⌜ r ≡ joinedByOthers (layoutOf size base) (erasures (now (work .entry))) disk ⌝ }
     ensures table { λ r. ⌜ (r ≡ false → OthersParted (layoutOf size base) (erasures (now (work .entry))) disk (now (others .exit))) ⌝ }
 {
-    crate::table::copy(parts, others);
     let pair = tally::table::stripes_of(size, base, work, stripes, disk);
     let low = pair.low;
     let high = pair.high;
+    if parts[low] == parts[high] {
+        return true;
+    }
+    crate::table::copy(parts, others);
     let mut from = disk + 1;
     while others[low] != others[high] {
         let other = tally::scan::next_erased(work, from);

@@ -1,7 +1,7 @@
 // Which erased disks the survivors determine, and how many they do not.
 ghost use mathlib.Core.Path.{_≡_};
 ghost use mathlib.Core.Bool.{true, not};
-ghost use Prim.Native.Nat.{_+_};
+ghost use Prim.Native.Nat.{_+_, _≤_};
 ghost use lib.ListN.{length};
 ghost use Rattle.stripes.specs.Erased.{erasures};
 ghost use Rattle.stripes.specs.Undetermined.{undetermined, lost};
@@ -37,15 +37,23 @@ pub fn determined(
     !joined
 }
 
-// How many erased disks the survivors do not determine.
-pub fn undetermined_count(size: Size, base: usize, work: &[u8], stripes: &[u8]) -> usize
+// `undetermined_count` with tables that are lent. What they held does not matter.
+fn count_in(
+    size: Size,
+    base: usize,
+    work: &[u8],
+    stripes: &[u8],
+    parts: &mut [u8],
+    others: &mut [u8],
+) -> usize
     requires { ⌜ Numbered size base ⌝ }
     requires { ⌜ Table (layoutOf size base) (now work) (now stripes) ⌝ }
+    requires { ⌜ layoutOf size base .stripeBound ≤ length (now parts) ⌝ }
+    requires { ⌜ length (now parts) ≤ 256 ⌝ }
+    requires { ⌜ length (now others) ≡ length (now parts) ⌝ }
     ensures { λ r. ⌜ r ≡ lost (layoutOf size base) (erasures (now (work .entry))) ⌝ }
 {
-    let mut parts = [0u8; tally::STRIPES];
-    let mut others = [0u8; tally::STRIPES];
-    crate::table::start(&mut parts);
+    crate::table::start(parts);
     let mut count = 0;
     let mut from = 0;
     loop {
@@ -53,9 +61,29 @@ pub fn undetermined_count(size: Size, base: usize, work: &[u8], stripes: &[u8]) 
         if work.len() <= d {
             return count;
         }
-        if !determined(size, base, work, stripes, &mut parts, &mut others, d) {
+        if !determined(size, base, work, stripes, parts, others, d) {
             count += 1;
         }
         from = d + 1;
     }
+}
+
+// How many erased disks the survivors do not determine. The tables are no longer than the stripes ask for, since they are written
+// again and again.
+pub fn undetermined_count(size: Size, base: usize, work: &[u8], stripes: &[u8]) -> usize
+    requires { ⌜ Numbered size base ⌝ }
+    requires { ⌜ Table (layoutOf size base) (now work) (now stripes) ⌝ }
+    ensures { λ r. ⌜ r ≡ lost (layoutOf size base) (erasures (now (work .entry))) ⌝ }
+{
+    let mut parts = [0u8; tally::STRIPES];
+    let mut others = [0u8; tally::STRIPES];
+    let bound = layout::stripe::bound(size, base);
+    count_in(
+        size,
+        base,
+        work,
+        stripes,
+        &mut parts[..bound],
+        &mut others[..bound],
+    )
 }

@@ -50,6 +50,9 @@ pub fn unite(parts: &mut [u8], low: usize, high: usize)
 {
     let name = parts[low];
     let old = parts[high];
+    if name == old {
+        return;
+    }
     let mut s = 0;
     while s < parts.len() {
         parts[s] = renamed(parts[s], old, name);
