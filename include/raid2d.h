@@ -428,10 +428,10 @@ size_t raid2d_look(size_t rows, size_t columns, size_t block,
  *
  * The answer follows from rows, columns and the map, and holds for every block
  * length. The sheet then lists the repairs in plan's order, each erased disk
- * once, or for a fatal loss a cycle. The disks of a cycle are undetermined;
- * there can be more of these, up to all of the grid. Where a loss has several
- * cycles, which of them is listed is left open; raid2d_rebuild lists the same
- * one.
+ * once, or for a fatal loss a cycle. Its disks are undetermined; there can be
+ * more of these, up to all of the grid, and determined disks beside them,
+ * which raid2d_save restores. Where a loss has several cycles, which of them
+ * is listed is left open; raid2d_rebuild lists the same one.
  *
  *   sheet      receives the repairs or the cycle
  *   count      receives the number of repairs, which is that of the erased
@@ -594,23 +594,27 @@ uint32_t raid2d_follow(size_t rows, size_t columns, size_t block,
 /*
  * raid2d_save: restore every erased disk that the survivors determine.
  *
- * This is for a fatal loss, of which raid2d_rebuild restores nothing. Each
- * determined disk gets its block, whatever the erased blocks hold; where no
- * repair reaches it, the block is a sum over disks of several stripes. Each
- * undetermined disk keeps its bytes. If the survivors belong to a sealed
- * array, the blocks saved are those of that array: of each such array, since
- * they all have the same bytes there. A loss that is not fatal has no
- * undetermined disk: then the array becomes what raid2d_rebuild makes of it
- * in one turn with a limit that allows all repairs.
+ * This is for a fatal loss, of which raid2d_rebuild restores nothing. With
+ * RAID2D_OK each determined disk has got its block, whatever the erased blocks
+ * held, and each undetermined disk has kept its bytes; where no repair reaches
+ * a determined disk, its block is a sum over disks of several stripes. The
+ * blocks saved are those of the sealed array that the survivors belong to: of
+ * each such array, since they all have the same bytes there. A loss that is
+ * not fatal has no undetermined disk: status, array and count are then those
+ * of raid2d_rebuild in one turn with a limit that allows all repairs.
  *
  * The survivors are judged before a block is written. One that was damaged
  * shows only where the other survivors contradict it.
  *
- * The map is only read. To learn which disks were saved, a host compares the
- * count of raid2d_plan for the map with that for the map without one erased
- * disk: if the loss is fatal either way and the counts are equal, the disk is
- * determined; if the loss is fatal at first and then is not, or the count is
- * less, it is undetermined. The host marks the saved disks as present itself.
+ * The map is only read, and the host marks the saved disks as present itself.
+ * If the loss is not fatal, all erased disks were saved. Otherwise *count and
+ * the count of raid2d_plan add up to the erased disks, and which they are is
+ * told by raid2d_plan too, called for the map with one erased disk marked as
+ * present: the disk is determined if the loss is still fatal with the same
+ * count, and undetermined if it is not fatal or the count is less. A host that
+ * has the block of an undetermined disk from elsewhere, as from a backup, can
+ * put it into the array and mark the disk as present; others may be determined
+ * then.
  *
  *   count      receives the number of disks saved: of determined disks
  *

@@ -16,7 +16,7 @@ use Rattle.stripes.proofs.Fold.{count-zero-none}
 use Rattle.stripes.proofs.Bytes.{whole-inside, whole-equal}
 use Rattle.stripes.proofs.Peel.{repairs-peels}
 use Rattle.stripes.proofs.Restore.{zeroed-whole, same-rebuilt, agree-rebuilt, length-rebuilt}
-use Rattle.stripes.proofs.Parts.{peels-take, erasures-after}
+use Rattle.stripes.proofs.Split.{peels-take, erasures-after}
 
 module _ (L : Layout) (f : Format) (B : ℕ) (some : 0 < B) (a b m : List ℕ) (sized : length a ≡ L .disks * whole B .block)
     (long : length b ≡ length a) (same : Agree L (whole B) (erasures m) a b) where

@@ -38,7 +38,7 @@ use Rattle.stripes.proofs.Fold.{lt-or-le}
 use Rattle.stripes.proofs.Sums.{consistent-iff}
 use Rattle.stripes.proofs.Bytes.{whole-inside}
 use Rattle.stripes.proofs.Restore.{restore}
-use Rattle.stripes.proofs.Parts.{peels-take, erasures-after, repairs-rest, fatal-rest}
+use Rattle.stripes.proofs.Split.{peels-take, erasures-after, repairs-rest, fatal-rest}
 use Rattle.stripes.specs.Erased.{Agree, Belongs, erasures}
 
 -- ---- which arguments are taken

@@ -28,7 +28,7 @@ use Rattle.stripes.proofs.Bytes.{length-changed}
 use Rattle.stripes.proofs.Erased.{zero-set}
 use Rattle.stripes.proofs.Restore.{length-rebuilt}
 use Rattle.stripes.proofs.Peel.{peel-count, repairs-peels, repairs-count, repairs-left}
-use Rattle.stripes.proofs.Parts.{peels-take, rebuilt-append, map-after-append, erasures-after, repairs-rest, fatal-rest}
+use Rattle.stripes.proofs.Split.{peels-take, rebuilt-append, map-after-append, erasures-after, repairs-rest, fatal-rest}
 
 -- ---- one turn
 module _ (L : Layout) (m : List ℕ) where

@@ -14,7 +14,7 @@ use Rattle.stripes.specs.Repair.{Peels, mapAfter, rebuilt, zeroed, clears}
 use Rattle.stripes.specs.declared.Stretch.{Stretch}
 use Rattle.stripes.proofs.Peel.{peel-count}
 use Rattle.stripes.proofs.Clears.{clears-peels, clears-length}
-use Rattle.stripes.proofs.Parts.{peels-take, erasures-after}
+use Rattle.stripes.proofs.Split.{peels-take, erasures-after}
 use Rattle.model.specs.Turn.{clear, contradicts}
 use Rattle.entries.specs.Listed.{listed}
 use Rattle.entries.proofs.Words.{listed-length, listed-take}

@@ -6,7 +6,7 @@ use Prim.Native.Nat.{ℕ, _+_}
 use native.Mathlib.Numerals.{add-one}
 use lib.ListN.{set}
 use Rattle.stripes.specs.Repair.{mapAfter}
-use Rattle.stripes.proofs.Parts.{map-after-append}
+use Rattle.stripes.proofs.Split.{map-after-append}
 use Rattle.entries.specs.Listed.{entryDisk, listed}
 
 module _ (m list : List ℕ) where

@@ -18,7 +18,7 @@ use Rattle.stripes.specs.Undetermined.{lost}
 use Rattle.stripes.specs.Repair.{repairs, fatal}
 use Rattle.stripes.proofs.Fold.{same-test, lt-or-le, length-tabulate, count-some, count-found}
 use Rattle.stripes.proofs.Peel.{repairs-peels}
-use Rattle.stripes.proofs.Parts.{peels-take}
+use Rattle.stripes.proofs.Split.{peels-take}
 use Rattle.model.specs.Grid.{mapFits}
 use Rattle.stripes.specs.Cycle.{shownCycle}
 use Rattle.model.specs.Sheet.{narrow, blankSheet}

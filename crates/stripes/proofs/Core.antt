@@ -178,7 +178,7 @@ gate-bit false true = refl
 gate-bit false false = refl
 
 -- The sum over each stripe is zero.
-paired-sum : (L : Layout) (c : ℕ → Bool) → Paired L c → (s : ℕ) → sumOver L (λ d. bit (c d)) s ≡ 0
+pub paired-sum : (L : Layout) (c : ℕ → Bool) → Paired L c → (s : ℕ) → sumOver L (λ d. bit (c d)) s ≡ 0
 unfolding sumOver
 paired-sum L c paired s =
     xsum-ext (L .disks) (λ d l. gate-bit (on L d s) (c d)) ∙ xsum-bits (L .disks) (λ d. c d && on L d s)

@@ -12,7 +12,7 @@ pub mod Walk
 pub mod Trace
 pub mod Restore
 pub mod Clears
-pub mod Parts
+pub mod Split
 pub mod Joined
 pub mod Ends
 pub mod Undetermined

@@ -13,7 +13,8 @@ use lib.ListN.{length}
 use Rattle.stripes.specs.Fold.{gate, bit, count}
 use Rattle.stripes.specs.System.{Layout, TwoStripes, lower, whole, byte, Codeword}
 use Rattle.stripes.specs.Erased.{without, Agree, Belongs, AmbiguousIn}
-use Rattle.stripes.specs.Repair.{Entry, Peels, repairs, after, fatal, rebuilt}
+use Rattle.stripes.specs.Repair.{Entry, diskOf, Peels, repairs, after, fatal, rebuilt}
+use Rattle.stripes.specs.Cycle.{core, shownCycle}
 use Rattle.stripes.specs.Joined.{joined}
 use Rattle.stripes.specs.Undetermined.{undetermined, determined, lost, survivorSum, partSum, savedByte, saved}
 use Rattle.stripes.specs.declared.Stretch.{Stretch}
@@ -22,7 +23,8 @@ use Rattle.stripes.proofs.Bytes.{byte-changed, whole-inside, length-cha
 use Rattle.stripes.proofs.Sums.{sumOver-ext}
 use Rattle.stripes.proofs.Peel.{without-sub, without-other, without-apart, after-sub, peel-count, repairs-peels}
 use Rattle.stripes.proofs.Degree.{two-ordered}
-use Rattle.stripes.proofs.Core.{differ-in, ambiguous-in}
+use Rattle.stripes.proofs.Core.{core-some, core-paired, core-sub, paired-sum, ones-differ, differ-in, ambiguous-in}
+use Rattle.stripes.proofs.Trace.{cycle-of}
 use Rattle.stripes.proofs.Restore.{Bounded, agree-gate, length-rebuilt, rebuilt-outside, rebuilt-left, restore, none-left, restored-is, unique}
 use Rattle.stripes.proofs.Undetermined.{saved-byte, undetermined-iff}
 
@@ -85,6 +87,17 @@ module _ (L : Layout) (two : TwoStripes L) where
         by-cases (λ (t : Bool). t ≡ true) (fatal L e) (λ lossy. refl)
         (λ fine. absurd (unique L bounded e fine 1 (differ-in L (whole 1) e d (in-bytes e d l .0 h)))),
   )
+
+  -- The disks of the cycle that is shown are undetermined.
+  pub shown-undetermined : (e : ℕ → Bool) → fatal L e ≡ true → (i : ℕ) → i < length (shownCycle L e)
+      → undetermined L e (diskOf (shownCycle L e) i) ≡ true
+  unfolding shownCycle whole
+  shown-undetermined e lossy i l =
+      let (d, m, h) = core-some L e lossy in
+      let cycle = cycle-of L two (core L e) (core-paired L two e lossy) d m h in
+      in-bytes e (diskOf (shownCycle L e) i) (cycle .disk i l) .1
+      (ones-differ L (whole 1) (whole-inside 1) (omega arith) (core L e) e (paired-sum L (core L e) (core-paired L two e lossy)) (core-sub L e)
+      (diskOf (shownCycle L e) i) (cycle .disk i l) (cycle .erased i l))
 
   -- So where it is not fatal, none is, and every erased disk is determined.
   pub none-lost : (e : ℕ → Bool) → fatal L e ≡ false → lost L e ≡ 0
@@ -158,6 +171,10 @@ module _ (L : Layout) (two : TwoStripes L) where
             by-cases (λ (t : Bool). eqb (byte (whole 1) a d p) (byte (whole 1) b d p) ≡ t → byte (whole 1) a d p ≡ byte (whole 1) b d p)
             (eqb (byte (whole 1) a d p) (byte (whole 1) b d p)) (λ _ u. eqb-true _ _ u)
             (λ _ u. absurd (true≢false (sym (in-bytes e d l .1 (a, b, first, second, same, (p, q, eqb-false _ _ u))) ∙ one))) refl
+
+    pub lost-fewer : lost L (without e d) ≤ lost L e
+    unfolding lost
+    lost-fewer = count-mono (L .disks) undetermined-fewer
 
     pub lost-tells : (lost L (without e d) ≡ lost L e) ↔ (undetermined L e d ≡ false)
     unfolding lost

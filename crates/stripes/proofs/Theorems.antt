@@ -9,8 +9,8 @@ use lib.ListN.{length, take, drop}
 use Rattle.stripes.specs.Fold.{count}
 use Rattle.stripes.specs.System.{Layout, Ordered, TwoStripes, whole, byte, Codeword, Bytes, consistent}
 use Rattle.stripes.specs.Erased.{without, Agree, Belongs, Ambiguous, AmbiguousIn, LostCount}
-use Rattle.stripes.specs.Repair.{Entry, Peels, repairs, after, residual, fatal, rebuilt, InOrder}
-use Rattle.stripes.specs.Cycle.{Cycle}
+use Rattle.stripes.specs.Repair.{Entry, diskOf, Peels, repairs, after, residual, fatal, rebuilt, InOrder}
+use Rattle.stripes.specs.Cycle.{Cycle, shownCycle}
 use Rattle.stripes.specs.Undetermined.{undetermined, determined, lost, partsCancel, savedByte}
 use Rattle.stripes.specs.declared.Stretch.{Stretch}
 use Rattle.stripes.proofs.Fold.{by-cases}
@@ -20,9 +20,9 @@ use Rattle.stripes.proofs.Degree.{two-ordered}
 use Rattle.stripes.proofs.Core.{ambiguous}
 use Rattle.stripes.proofs.Trace.{cycle-fatal, shown}
 use Rattle.stripes.proofs.Restore.{judge, restored-is, unique}
-use Rattle.stripes.proofs.Parts.{repairs-rest, fatal-rest}
+use Rattle.stripes.proofs.Split.{repairs-rest, fatal-rest}
 use Rattle.stripes.proofs.Undetermined.{saved-byte, belongs-iff, undetermined-iff}
-use Rattle.stripes.proofs.Saved.{fatal-lost as Saved·fatal-lost, reached-determined as Saved·reached-determined, undetermined-after, lost-tells}
+use Rattle.stripes.proofs.Saved.{fatal-lost as Saved·fatal-lost, reached-determined as Saved·reached-determined, undetermined-after, lost-fewer, lost-tells, shown-undetermined}
 
 -- ---- where the stripes of a disk are listed in rising order
 module _ (L : Layout) (e : ℕ → Bool) where
@@ -86,6 +86,13 @@ module _ (L : Layout) (two : TwoStripes L) (e : ℕ → Bool) where
   -- that disk is not erased.
   pub told-by-count : (d : ℕ) → d < L .disks → (lost L (without e d) ≡ lost L e) ↔ (undetermined L e d ≡ false)
   told-by-count = lost-tells L two e
+
+  pub never-more : (d : ℕ) → d < L .disks → lost L (without e d) ≤ lost L e
+  never-more = lost-fewer L two e
+
+  -- The disks of the cycle that is shown are undetermined.
+  pub cycle-lost : fatal L e ≡ true → (i : ℕ) → i < length (shownCycle L e) → undetermined L e (diskOf (shownCycle L e) i) ≡ true
+  cycle-lost = shown-undetermined L two e
 
   module _ (x : Stretch) where
     -- A disk is undetermined exactly if two codewords agree on the survivors and differ in it.

@@ -6,7 +6,7 @@ use native.Mathlib.Omega.{arith}
 use borrow.Author.Needs.{needs}
 use lib.ListN.{length}
 use Rattle.stripes.specs.Repair.{mapAfter}
-use Rattle.stripes.proofs.Parts.{length-map-after}
+use Rattle.stripes.proofs.Split.{length-map-after}
 use Rattle.entries.specs.Listed.{listed}
 use Rattle.rebuild.proofs.Marks.{marks-none, marks-next}
 use Rattle.rebuild.proofs.mark.mark_present.Statement.{statement}

@@ -1,4 +1,4 @@
--- Lists of repairs in parts, made one after another; and plan's order, which has no memory: after its first k repairs it goes on with
+-- Lists of repairs cut in two and made one after another; and plan's order, which has no memory: after its first k repairs it goes on with
 -- the rest of them.
 -- Assumes nothing.
 use mathlib.Core.Path.{_≡_, refl, sym, _∙_, ap}
