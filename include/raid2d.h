@@ -60,16 +60,17 @@
  *                  by its row if that is allowed, else by its column.
  *   residual       The disks that are still erased when no repair is allowed
  *                  any more: the same, whatever the order of the repairs.
- *   undetermined   Said of an erased disk if two sealed arrays have the same
- *                  survivors and differ in it: nobody can tell what it held.
- *                  Such a disk is in the residual. The residual can have other
- *                  disks too, which no repair reaches and which follow from
- *                  the survivors all the same.
+ *   undetermined   Said of an erased disk if two sealed arrays agree on every
+ *                  disk that is not erased and differ in this one: nobody can
+ *                  tell what it held. This follows from rows, columns and the
+ *                  map alone. Such a disk is in the residual; the residual can
+ *                  have other disks too, which no repair reaches and which
+ *                  follow from the survivors all the same.
  *   determined     Said of every other erased disk.
  *   fatal          Said of a loss with a residual. Then, and only then, a disk
- *                  is undetermined: two different sealed arrays have the same
- *                  survivors. No loss of up to three disks is fatal; every
- *                  loss of more than rows + columns + 1 is.
+ *                  is undetermined: two different sealed arrays agree on every
+ *                  disk that is not erased. No loss of up to three disks is
+ *                  fatal; every loss of more than rows + columns + 1 is.
  *   cycle          A loop of different erased disks, at least four: the first
  *                  and the second share a row, the second and the third a
  *                  column, and so on in turn, the last and the first a column;
@@ -127,7 +128,7 @@
  * its number for good.
  *
  * State. There is none: no memory is allocated, nothing is read or written but
- * what is lent and less than 2 KB of stack. Of the C library the archive needs
+ * what is lent and less than 3 KB of stack. Of the C library the archive needs
  * memcpy and memset, which take stack of their own, and at their first call so
  * does a dynamic linker that has to find them. Calls may run at the same time,
  * also from a signal handler, unless one writes what another is lent.
@@ -364,12 +365,13 @@ uint32_t raid2d_check(size_t rows, size_t columns, size_t block,
  * a damaged block moves its damage into the three parities. data must not be
  * a part of array.
  *
- * Do not write to an erased disk, but rebuild it first. Write takes what it
- * finds in the block for the old contents, so that what a later raid2d_rebuild
- * gives is the sum of the block that was lost, of what was found and of the
- * new block: the new block only where the lost one still stood there. Other
- * disks may be erased, the parities too: the write is right, and what changes
- * in their blocks counts for nothing.
+ * Do not write to an erased disk, but rebuild or save it first. Write takes
+ * what it finds in the block for the old contents, so that what a later
+ * raid2d_rebuild, raid2d_follow or raid2d_save gives is the sum of the block
+ * that was lost, of what was found and of the new block: the new block only
+ * where the lost one still stood there. Other disks may be erased, the
+ * parities too: the write is right, and what changes in their blocks counts
+ * for nothing.
  *
  *   disk       the number of a data disk: r * (columns + 1) + c with r < rows
  *              and c < columns
@@ -449,7 +451,8 @@ size_t raid2d_look(size_t rows, size_t columns, size_t block,
  *   RAID2D_ERR_MAP
  *   RAID2D_ERR_SHEET_LENGTH
  *   RAID2D_FATAL             the loss is fatal; the sheet lists a cycle,
- *                            *count is the number of undetermined disks
+ *                            *count is the number of undetermined disks;
+ *                            raid2d_save restores the determined ones
  *   RAID2D_OK                the sheet lists the repairs, *count is their
  *                            number: none and 0 where no disk is erased
  */
@@ -594,27 +597,35 @@ uint32_t raid2d_follow(size_t rows, size_t columns, size_t block,
 /*
  * raid2d_save: restore every erased disk that the survivors determine.
  *
- * This is for a fatal loss, of which raid2d_rebuild restores nothing. With
- * RAID2D_OK each determined disk has got its block, whatever the erased blocks
- * held, and each undetermined disk has kept its bytes; where no repair reaches
- * a determined disk, its block is a sum over disks of several stripes. The
- * blocks saved are those of the sealed array that the survivors belong to: of
- * each such array, since they all have the same bytes there. A loss that is
+ * This is for a fatal loss, of which raid2d_rebuild restores nothing. If the
+ * survivors belong to a sealed array, each determined disk gets the block that
+ * it has there, whatever the erased blocks hold, and each undetermined disk
+ * keeps its bytes. Where no repair reaches a determined disk, its block is a
+ * sum over disks of several stripes. Survivors can belong to several sealed
+ * arrays: these have the same bytes in each determined disk. A loss that is
  * not fatal has no undetermined disk: status, array and count are then those
  * of raid2d_rebuild in one turn with a limit that allows all repairs.
  *
- * The survivors are judged before a block is written. One that was damaged
- * shows only where the other survivors contradict it.
+ * If the survivors belong to no sealed array, all erased blocks become zero,
+ * also of undetermined disks: a host that may still want what stands there
+ * keeps a copy. A damaged survivor shows only where the other survivors
+ * contradict it. It does not if erased disks, each sharing a stripe with the
+ * next, lead from its row to its column: the blocks that are saved by it are
+ * then wrong. If they lead from every row to every column, no damage shows.
  *
  * The map is only read, and the host marks the saved disks as present itself.
- * If the loss is not fatal, all erased disks were saved. Otherwise *count and
- * the count of raid2d_plan add up to the erased disks, and which they are is
- * told by raid2d_plan too, called for the map with one erased disk marked as
- * present: the disk is determined if the loss is still fatal with the same
- * count, and undetermined if it is not fatal or the count is less. A host that
- * has the block of an undetermined disk from elsewhere, as from a backup, can
- * put it into the array and mark the disk as present; others may be determined
- * then.
+ * If *count is the number of erased disks, all were saved. Otherwise the loss
+ * is fatal, and an erased disk was saved exactly if raid2d_plan returns
+ * RAID2D_FATAL with one and the same count for the map and for a copy of it in
+ * which the byte of that disk alone is set to 0.
+ *
+ * After RAID2D_OK with a fatal loss the array need not be sealed. An
+ * undetermined disk is not to be marked as present, unless its true block was
+ * put back, as from a backup: any bytes there fit the survivors, no call can
+ * see that they are wrong, and other disks would be restored by them. With
+ * true blocks put back and marked, others may be determined. To go on without
+ * them, a host stores new blocks on the undetermined data disks in the array
+ * itself and seals it anew.
  *
  *   count      receives the number of disks saved: of determined disks
  *

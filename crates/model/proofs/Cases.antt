@@ -22,7 +22,7 @@ use Rattle.model.specs.Chain.{entryAt, nextNumber, visited, chainNumbers
 use Rattle.model.specs.Plan.{sheetTests, planTests, planOutcome, outcomeStatus, outcomeCount, lossOutcome, lossSheet, planSheet}
 use Rattle.model.specs.Turn.{clear, lossTold, contradiction, repairsMade, turnRepairs, contradicts, turnOf}
 use Rattle.model.specs.Rebuild.{bufferTests, rebuildTests, rebuildRefusal, rebuildTurn}
-use Rattle.model.specs.Save.{mapTests, saveTests, saveStatus, saveAnswer, saveArray, savingStatus, savingCount, saveLayout}
+use Rattle.model.specs.Save.{mapTests, saveTests, saveStatus, saveAnswer, saveArray, savingStatus, savingCount}
 use Rattle.model.specs.Follow.{followedArray, followTests, followStatus, followOutcome, followArray}
 use Rattle.model.specs.Listing.{digit, decimal, repairWord, fatalWord, refusedWord, entryLines, listed, listing}
 use Rattle.model.specs.declared.Size.{Size}

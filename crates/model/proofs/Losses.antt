@@ -40,7 +40,7 @@ pub record Lawful (E : Edition) (f : Format) : Type 0 where
   pub few : (e : ℕ → Bool) → count (E .layout .disks) e ≤ E .always → fatal (E .layout) e ≡ false
 
 -- Numbers that are not those of the outcome.
-zero-six : (_≡_ {A = ℕ} 0 6) → ⊥
+pub zero-six : (_≡_ {A = ℕ} 0 6) → ⊥
 zero-six e = omega arith
 
 six-zero : (_≡_ {A = ℕ} 6 0) → ⊥

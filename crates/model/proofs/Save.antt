@@ -6,35 +6,37 @@ use mathlib.Core.Logic.{_↔_}
 use mathlib.Core.List.{List, _++_}
 use Prim.Native.Nat.{ℕ, _*_, _≤_, _<_}
 use native.Mathlib.Omega.{arith}
-use borrow.Author.Tests.{ne-eqb, eqb-true, eqb-false}
+use borrow.Author.Tests.{ne-eqb, eqb-true, eqb-false, not-true}
 use lib.Dec.{eqb}
-use lib.ListN.{length}
+use lib.ListN.{length, set}
 use Rattle.stripes.specs.Fold.{count}
-use Rattle.stripes.specs.System.{Layout, TwoStripes, whole, byte, Bytes, consistent}
-use Rattle.stripes.specs.Erased.{erasures, Belongs, Ambiguous, AmbiguousIn}
+use Rattle.stripes.specs.System.{Layout, TwoStripes, whole, byte, Codeword, Bytes, consistent}
+use Rattle.stripes.specs.Erased.{erasures, without, Agree, Belongs, Ambiguous, AmbiguousIn}
 use Rattle.stripes.specs.Repair.{repairs, fatal, rebuilt, zeroed}
 use Rattle.stripes.specs.Undetermined.{undetermined, determined, lost, partsCancel, saved}
 use Rattle.stripes.proofs.Fold.{by-cases, same-test}
 use Rattle.stripes.proofs.Bytes.{whole-inside, length-changed}
 use Rattle.stripes.proofs.Peel.{repairs-count}
 use Rattle.stripes.proofs.Degree.{two-ordered}
-use Rattle.stripes.proofs.Saved.{determined-count, all-determined, length-saved, saved-is, saved-repairs, saved-whole}
-use Rattle.stripes.proofs.Theorems.{fatal-ambiguous, all-judged, undetermined-differ, parts-judged, lost-counted}
-use Rattle.model.specs.Grid.{sizeFits, blockFits, arrayBytes, mapFits, layoutOf, columnBase, disks}
+use Rattle.stripes.proofs.Erased.{erasures-clear}
+use Rattle.stripes.proofs.Saved.{determined-not, determined-is, determined-count, all-determined, length-saved, saved-is, saved-repairs, saved-whole}
+use Rattle.stripes.proofs.Theorems.{fatal-ambiguous, fatal-lost, told-by-count, all-judged, undetermined-differ, parts-judged, lost-counted}
+use Rattle.model.specs.Grid.{sizeFits, blockFits, arrayBytes, mapFits, columnBase, disks}
 use Rattle.model.specs.Refusal.{Test, refusal, arrayTests}
 use Rattle.model.specs.Edition.{Edition, superparity}
 use Rattle.model.specs.Sheet.{Format, narrow, sheetBytes}
-use Rattle.model.specs.Plan.{sheetTests, sheetLayout, outcomeStatus, outcomeCount}
-use Rattle.model.specs.Turn.{Turn, repairsMade, contradiction, wholeRebuild}
+use Rattle.model.specs.Plan.{sheetTests, lossOutcome, sheetLayout, outcomeStatus, outcomeCount}
+use Rattle.model.specs.Turn.{repairsMade, contradiction, wholeRebuild}
 use Rattle.model.specs.Rebuild.{bufferTests, bufferRefusal, rebuildTurn}
 use Rattle.model.specs.Save.{saveLayout, mapTests, saveTests, saveStatus, saveAnswer, saveArray, savingStatus, savingCount, AsTurn, SaveDemand}
 use Rattle.model.specs.declared.Size.{Size}
-use Rattle.model.specs.declared.Outcome.the-variants.{Refused as Outcome·Refused}
+use Rattle.model.specs.declared.Outcome.{Outcome}
+use Rattle.model.specs.declared.Outcome.the-variants.{Repairs, Fatal, Refused as Outcome·Refused}
 use Rattle.model.specs.declared.Saving.{Saving}
 use Rattle.model.specs.declared.Saving.the-variants.{Saved, Refused}
 use Rattle.model.proofs.Refusal.{no-tests, by-test, passed, passes, fails, refused-first, ArrayFits, array-tests, array-passed}
 use Rattle.model.proofs.Grid.{block-fits, layout-sized, layout-two, rows-below}
-use Rattle.model.proofs.Losses.{Lawful, zero-seven}
+use Rattle.model.proofs.Losses.{Lawful, zero-six, zero-seven}
 use Rattle.model.proofs.Demand3.{superparity-lawful, rebuild-whole}
 
 -- ---- over any edition
@@ -57,8 +59,12 @@ module _ (E : Edition) (f : Format) (law : Lawful E f) (B : ℕ) (some : 0 < B) 
       by-cases (λ (t : Bool). t ≡ false) (fatal (E .layout) e)
       (λ lossy. absurd (unique (fatal-ambiguous (E .layout) (law .two) e B some .0 lossy))) (λ fine. refl)
 
-  few-fine : count (E .layout .disks) e ≤ E .always → Ambiguous (E .layout) (whole B) e → ⊥
-  few-fine few both = true≢false (sym (fatal-ambiguous (E .layout) (law .two) e B some .1 both) ∙ law .few e few)
+  -- Then everything comes back.
+  all-restored : fatal (E .layout) e ≡ false → (b : List ℕ) → Codeword (E .layout) (whole B) b → Agree (E .layout) (whole B) e a b
+      → (Saved (count (E .layout .disks) (determined (E .layout) e)) ≡ Saved (count (E .layout .disks) e)) × (saved (E .layout) (whole B) a e ≡ b)
+  unfolding whole
+  all-restored fine b word agree =
+      (ap Saved (all-determined (E .layout) (law .two) e fine), saved-whole (E .layout) (law .two) e fine B a b sized word agree)
 
   -- The survivors belong to a sealed array.
   when-saved : partsCancel (E .layout) (whole B) e a ≡ true
@@ -80,11 +86,8 @@ module _ (E : Edition) (f : Format) (law : Lawful E f) (B : ℕ) (some : 0 < B) 
             saved-is (E .layout) (whole B) (whole-inside B) (law .two) e a b sized word agree d p l h
             ∙ ap (λ (t : Bool). cond t (byte (whole B) a d p) (byte (whole B) b d p)) (differs d l .1 both);
         number = λ s. (_, lost (E .layout) e, refl, lost-counted (E .layout) (law .two) e (whole B) (whole-inside B) some, determined-count (E .layout) e);
-        restored = λ unique b word agree. (
-          ap Saved (all-determined (E .layout) (law .two) e (not-fatal unique)),
-          saved-whole (E .layout) (law .two) e (not-fatal unique) B a b sized word agree,
-        );
-        few = few-fine;
+        restored = λ unique b word agree. all-restored (not-fatal unique) b word agree;
+        few = λ few b word agree. all-restored (law .few e few) b word agree;
       }
 
   -- They belong to none.
@@ -101,7 +104,7 @@ module _ (E : Edition) (f : Format) (law : Lawful E f) (B : ℕ) (some : 0 < B) 
         keptBytes = λ s. absurd (zero-seven (sym s));
         number = λ s. absurd (zero-seven (sym s));
         restored = λ unique b word agree. absurd (none (b, word, agree));
-        few = few-fine;
+        few = λ few b word agree. absurd (none (b, word, agree));
       }
 
   pub edition-saves : let fit : Bool = partsCancel (E .layout) (whole B) e a in
@@ -233,3 +236,30 @@ module _ (z : Size) (B : ℕ) (a m : List ℕ) where
           (record { answer = Outcome·Refused (refusal (mapTests z B (length a) m)); array = a; map = m; sheet = s }))
       go true e = let (array, map) = map-fits (eqb-true _ 0 e) in as-whole-rebuild array map small fine
       go false e = let (answer, left) = save-first (eqb-false _ 0 e) in rw (answer, left) (refl, λ c. refl, refl)
+
+-- ---- which disks are saved, told by plan
+
+-- Of a fatal loss an erased disk is determined exactly if plan answers the same for the map in which that disk alone is present.
+pub told-by-plan : (L : Layout) → TwoStripes L → (m : List ℕ) → fatal L (erasures m) ≡ true
+    → (d : ℕ) → d < L .disks → erasures m d ≡ true
+    → (lossOutcome L (erasures (set m d 0)) ≡ lossOutcome L (erasures m)) ↔ (determined L (erasures m) d ≡ true)
+unfolding lossOutcome outcomeStatus outcomeCount
+told-by-plan L two m lossy d l erased = rw (erasures-clear m d, lossy) (told (fatal L (without e d)) refl, same)
+  where
+    e : ℕ → Bool
+    e = erasures m
+
+    counts : (lost L (without e d) ≡ lost L e) ↔ (undetermined L e d ≡ false)
+    counts = told-by-count L two e d l
+
+    told : (t : Bool) → fatal L (without e d) ≡ t
+        → cond t (Fatal (lost L (without e d))) (Repairs (length (repairs L (without e d)))) ≡ Fatal (lost L e) → determined L e d ≡ true
+    told true q is = determined-is L e d erased (counts .0 (ap (λ (o : Outcome). outcomeCount o 0) is))
+    told false q is = absurd (zero-six (ap outcomeStatus is))
+
+    same : determined L e d ≡ true
+        → cond (fatal L (without e d)) (Fatal (lost L (without e d))) (Repairs (length (repairs L (without e d)))) ≡ Fatal (lost L e)
+    same h =
+        let equal = counts .1 (not-true _ (sym (determined-not L e d erased) ∙ h)) in
+        let some = fatal-lost L two e .0 lossy in
+        rw (fatal-lost L two (without e d) .1 (omega arith)) (ap Fatal equal)

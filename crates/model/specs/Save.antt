@@ -26,10 +26,11 @@ use Rattle.model.specs.declared.Saving.the-variants.{Saved, Refused}
 abbrev pub saveLayout : Size → Layout
 saveLayout z = layoutOf z (columnBase z)
 
--- The tests of save. The last is of the survivors; like the others it comes before any block is changed.
+-- The tests of the size, the block, the array and the map.
 unfoldable pub mapTests : Size → (B arrayLen : ℕ) → List ℕ → List Test
 mapTests z B arrayLen m = arrayTests z B arrayLen ++ (4 unless mapFits z m ∷ [])
 
+-- Save tests the survivors, besides. That too comes before any block is changed.
 unfoldable pub saveTests : Size → ℕ → (a m : List ℕ) → List Test
 saveTests z B a m = mapTests z B (length a) m ++ (7 unless partsCancel (saveLayout z) (whole B) (erasures m) a ∷ [])
 
@@ -81,7 +82,8 @@ pub record SaveDemand (E : Edition) (B : ℕ) (a m : List ℕ) (answer : Saving)
   pub number : savingStatus answer ≡ 0
       → (c : ℕ) × (n : ℕ) × (answer ≡ Saved c) × LostCount (E .layout) (whole B) (erasures m) n
       × (c + n ≡ count (E .layout .disks) (erasures m))
-  -- Where no two sealed arrays agree on the survivors, the whole array is restored; a loss of few disks is of that kind.
+  -- Where no two different sealed arrays agree on the survivors, the whole array is restored, and so is a loss of few disks.
   pub restored : (Ambiguous (E .layout) (whole B) (erasures m) → ⊥) → (b : List ℕ) → Codeword (E .layout) (whole B) b
       → Agree (E .layout) (whole B) (erasures m) a b → (answer ≡ Saved (count (E .layout .disks) (erasures m))) × (array ≡ b)
-  pub few : count (E .layout .disks) (erasures m) ≤ E .always → Ambiguous (E .layout) (whole B) (erasures m) → ⊥
+  pub few : count (E .layout .disks) (erasures m) ≤ E .always → (b : List ℕ) → Codeword (E .layout) (whole B) b
+      → Agree (E .layout) (whole B) (erasures m) a b → (answer ≡ Saved (count (E .layout .disks) (erasures m))) × (array ≡ b)

@@ -250,7 +250,7 @@ pub extern "C" fn raid2d_follow(
     report(answer, count)
 }
 
-// The same of what save answers.
+// The number of what save answers; its count goes to `count`, if it has one.
 fn report_saving(answer: Saving, count: &mut usize) -> u32
     ensures status { λ r. ⌜ r ≡ savingStatus answer ⌝ }
     ensures count { λ r. ⌜ now (count .exit) ≡ savingCount answer (now (count .entry)) ⌝ }

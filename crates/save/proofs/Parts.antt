@@ -6,7 +6,7 @@ use mathlib.Core.List.{List}
 use Prim.Native.Nat.{ℕ, _<_}
 use native.Mathlib.Omega.{arith}
 use lib.Dec.{eqb}
-use lib.ListN.{length, getD}
+use lib.ListN.{getD}
 use Rattle.stripes.specs.Fold.{gate}
 use Rattle.stripes.specs.System.{Layout, TwoStripes, lower, higher, byte}
 use Rattle.stripes.specs.Joined.{joined, part, crosses}

@@ -23,8 +23,8 @@ use model::Saving;
 use model::Size;
 use stripes::Stretch;
 
-// Saves the determined disks of survivors that belong to a sealed array, and says how many they are: by repairs as far as these reach,
-// then by one sum for each disk that is left. `erased` is the number of erased disks.
+// Saves the determined disks, where the survivors belong to a sealed array, and says how many they are: by repairs as far as these
+// reach, then by one sum for each disk that is left. `erased` is the number of erased disks.
 fn save_determined(
     size: Size,
     base: usize,

@@ -5,12 +5,13 @@ use Prim.Native.Nat.{ℕ, zero, suc}
 use lib.Dec.{eqb}
 use Rattle.stripes.specs.System.{Layout, lower, higher}
 
--- Each part is named by one of its stripes. The parts of stripes a and b become one, which has the name of a's.
-unfoldable pub united : (a b : ℕ) → (part : ℕ → ℕ) → ℕ → ℕ
-united a b part =
-    let x : ℕ = part a in
-    let y : ℕ = part b in
-    λ s. let z : ℕ = part s in cond (eqb z y) x z
+-- Each part is named by one of its stripes. The parts of stripes a and b become one, which has the name of a's. Every name is
+-- computed once only.
+unfoldable pub united : (a b : ℕ) → (named : ℕ → ℕ) → ℕ → ℕ
+united a b named =
+    let new : ℕ = named a in
+    let old : ℕ = named b in
+    λ s. let own : ℕ = named s in cond (eqb own old) new own
 
 -- The part of each stripe after the first k disks: at first every stripe is a part by itself, and each disk of c makes one part of
 -- the two that it lies on.

@@ -2,7 +2,6 @@
 -- Assumes nothing.
 use mathlib.Core.Path.{_≡_, refl, sym, _∙_, ap, ap₂, subst, fun-ext}
 use mathlib.Core.Bool.{Bool, true, false, cond, not, _&&_, and-false, true≢false}
-use mathlib.Core.Logic.{⊎-elim}
 use mathlib.Core.List.{List}
 use Prim.Native.Nat.{ℕ, _+_, _*_, _≤_, _<_}
 use native.Mathlib.Nat.{le-refl, not-suc-le-zero}
@@ -14,19 +13,17 @@ use lib.ListN.{length, getD, set}
 use lib.Seq.{getD-set-same, getD-set-other}
 use Rattle.stripes.specs.Fold.{_⊕_, xsum, gate, every, count, bit}
 use Rattle.stripes.specs.System.{Layout, TwoStripes, otherThan, byte, sumOver, changed}
-use Rattle.stripes.specs.Erased.{erasures}
 use Rattle.stripes.specs.Joined.{crosses}
 use Rattle.stripes.specs.declared.Stretch.{Stretch}
-use Rattle.model.specs.Grid.{layoutOf, disks, diskAt, mapFits}
+use Rattle.model.specs.Grid.{layoutOf, disks, diskAt}
 use Rattle.model.specs.declared.Size.{Size}
 use Rattle.stripes.proofs.Xor.{⊕-assoc, ⊕-zero}
-use Rattle.stripes.proofs.Fold.{and-both, lt-or-le, xsum-ext, xsum-zero, every-ext, count-le, gate-zero}
-use Rattle.stripes.proofs.Erased.{past-end}
+use Rattle.stripes.proofs.Fold.{and-both, xsum-ext, xsum-zero, every-ext, count-le, gate-zero}
 use Rattle.stripes.proofs.Counts.{count-injects}
 use Rattle.stripes.proofs.Degree.{total, total-upto, count-upto, on-bound}
 use Rattle.stripes.proofs.Ends.{crosses-from, cut-sum, cut-count}
 use Rattle.stripes.proofs.Walk.{besides}
-use Rattle.model.proofs.Grid.{layout-disks, disk-below, map-length}
+use Rattle.model.proofs.Grid.{layout-disks, disk-below}
 use Rattle.layout.specs.Stripe.{Numbered, hasDisks, runDisk, disksOn, placeOn}
 use Rattle.layout.specs.declared.stripe.Run.{Run}
 use Rattle.layout.proofs.Runs.{RunOf, run-of, place-at, some-disk, no-disk, numbered-two}

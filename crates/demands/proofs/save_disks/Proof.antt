@@ -1,6 +1,5 @@
 -- `demands::save_disks` meets its contract: what save promises is what the theorems about it are proved of.
 -- Assumes nothing.
-use mathlib.Core.Path.{_∙_}
 use native.Mathlib.Omega.{arith}
 use borrow.Author.Needs.{needs}
 use Rattle.stripes.specs.System.{Bytes}

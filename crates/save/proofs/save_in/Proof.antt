@@ -1,11 +1,10 @@
 -- `save::save_in` meets its contract: the map is loaded, the survivors are judged, and then disks are saved or become zero.
 -- Assumes nothing.
-use mathlib.Core.Path.{_≡_, _∙_, sym, ap}
+use mathlib.Core.Path.{_∙_, sym}
 use native.Mathlib.Nat.{le-refl}
 use native.Mathlib.Omega.{arith}
 use borrow.Author.Needs.{needs}
 use borrow.Author.Tests.{not-true, not-false}
-use Rattle.stripes.specs.Erased.{erasures}
 use Rattle.model.specs.Grid.{layoutOf}
 use Rattle.model.proofs.Grid.{layout-disks}
 use Rattle.solve.proofs.Memory.{map-disks, loaded-inside}

@@ -1,6 +1,6 @@
 -- `parts::lost::undetermined_count` meets its contract: the tables that it makes are large enough.
 -- Assumes nothing.
-use mathlib.Core.Path.{_∙_, sym}
+use mathlib.Core.Path.{sym}
 use native.Mathlib.Omega.{arith}
 use borrow.Author.Needs.{needs}
 use lib.Seq.{length-take-le}
