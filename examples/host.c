@@ -613,7 +613,7 @@ static void fail_to_rebuild(void)
 
     memcpy(kept, array, sizeof array);
     status = repair(SIZE_MAX, &count);
-    printf("rebuild: %s, %zu disks cannot be repaired\n\n",
+    printf("rebuild: %s, %zu disks are undetermined\n\n",
            raid2d_strerror(status), count);
     expect(status == RAID2D_FATAL && count == 6, "rebuild of a fatal loss");
     expect(memcmp(array, kept, sizeof array) == 0, "the array of a fatal loss");

@@ -365,13 +365,13 @@ uint32_t raid2d_check(size_t rows, size_t columns, size_t block,
  * a damaged block moves its damage into the three parities. data must not be
  * a part of array.
  *
- * Do not write to an erased disk, but rebuild or save it first. Write takes
- * what it finds in the block for the old contents, so that what a later
- * raid2d_rebuild, raid2d_follow or raid2d_save gives is the sum of the block
- * that was lost, of what was found and of the new block: the new block only
- * where the lost one still stood there. Other disks may be erased, the
- * parities too: the write is right, and what changes in their blocks counts
- * for nothing.
+ * Do not write to an erased disk, but rebuild or save it first; of a disk that
+ * is undetermined raid2d_save says what can be done. Write takes what it finds
+ * in the block for the old contents, so that what a later raid2d_rebuild,
+ * raid2d_follow or raid2d_save gives is the sum of the block that was lost, of
+ * what was found and of the new block: the new block only where the lost one
+ * still stood there. Other disks may be erased, the parities too: the write is
+ * right, and what changes in their blocks counts for nothing.
  *
  *   disk       the number of a data disk: r * (columns + 1) + c with r < rows
  *              and c < columns
@@ -430,10 +430,10 @@ size_t raid2d_look(size_t rows, size_t columns, size_t block,
  *
  * The answer follows from rows, columns and the map, and holds for every block
  * length. The sheet then lists the repairs in plan's order, each erased disk
- * once, or for a fatal loss a cycle. Its disks are undetermined; there can be
- * more of these, up to all of the grid, and determined disks beside them,
- * which raid2d_save restores. Where a loss has several cycles, which of them
- * is listed is left open; raid2d_rebuild lists the same one.
+ * once, or for a fatal loss a cycle. The disks of the cycle are undetermined;
+ * there can be more of these, up to all of the grid, and determined disks
+ * beside them, which raid2d_save restores. Where a loss has several cycles,
+ * which of them is listed is left open; raid2d_rebuild lists the same one.
  *
  *   sheet      receives the repairs or the cycle
  *   count      receives the number of repairs, which is that of the erased
@@ -600,32 +600,48 @@ uint32_t raid2d_follow(size_t rows, size_t columns, size_t block,
  * This is for a fatal loss, of which raid2d_rebuild restores nothing. If the
  * survivors belong to a sealed array, each determined disk gets the block that
  * it has there, whatever the erased blocks hold, and each undetermined disk
- * keeps its bytes. Where no repair reaches a determined disk, its block is a
- * sum over disks of several stripes. Survivors can belong to several sealed
- * arrays: these have the same bytes in each determined disk. A loss that is
- * not fatal has no undetermined disk: status, array and count are then those
- * of raid2d_rebuild in one turn with a limit that allows all repairs.
+ * keeps its bytes: RAID2D_OK does not say that every disk is back. Where no
+ * repair reaches a determined disk, its block is a sum over disks of several
+ * stripes; SPECIFICATION.md has these sums. Survivors can belong to several
+ * sealed arrays: these have the same bytes in each determined disk. A loss
+ * that is not fatal has no undetermined disk: status, array and count are then
+ * those of raid2d_rebuild in one turn with a limit that allows all repairs.
  *
  * If the survivors belong to no sealed array, all erased blocks become zero,
  * also of undetermined disks: a host that may still want what stands there
- * keeps a copy. A damaged survivor shows only where the other survivors
- * contradict it. It does not if erased disks, each sharing a stripe with the
- * next, lead from its row to its column: the blocks that are saved by it are
- * then wrong. If they lead from every row to every column, no damage shows.
+ * keeps a copy. The survivors and the map are as they were; a host that
+ * suspects a survivor erases it in the map too and calls again. One damaged
+ * survivor shows exactly if no erased disks, each sharing a stripe with the
+ * next, lead from its row to its column. If it does not show, a block whose
+ * sum takes it in is saved wrong.
  *
  * The map is only read, and the host marks the saved disks as present itself.
  * If *count is the number of erased disks, all were saved. Otherwise the loss
- * is fatal, and an erased disk was saved exactly if raid2d_plan returns
- * RAID2D_FATAL with one and the same count for the map and for a copy of it in
- * which the byte of that disk alone is set to 0.
+ * is fatal, and the count of raid2d_plan, which is of undetermined disks, and
+ * that of raid2d_save add up to the number of erased disks. An erased disk is
+ * then determined exactly if raid2d_plan still returns RAID2D_FATAL, with the
+ * count that it has for the map itself, where the byte of that disk alone is
+ * set to 0. So this marks the saved disks of a fatal loss:
  *
- * After RAID2D_OK with a fatal loss the array need not be sealed. An
- * undetermined disk is not to be marked as present, unless its true block was
- * put back, as from a backup: any bytes there fit the survivors, no call can
- * see that they are wrong, and other disks would be restored by them. With
- * true blocks put back and marked, others may be determined. To go on without
- * them, a host stores new blocks on the undetermined data disks in the array
- * itself and seals it anew.
+ *     raid2d_plan(rows, columns, map, map_len, sheet, sheet_len, &all);
+ *     for (d = 0; d < map_len; d++)
+ *         if (map[d] == 1) {
+ *             map[d] = 0;
+ *             status = raid2d_plan(rows, columns, map, map_len,
+ *                                  sheet, sheet_len, &now);
+ *             if (status != RAID2D_FATAL || now != all)
+ *                 map[d] = 1;
+ *         }
+ *
+ * An undetermined disk is not to be marked as present, unless its true block
+ * was put back, as from a backup. Any bytes in one such disk fit the
+ * survivors: no call can see that they are wrong, and other disks would be
+ * restored by them. After true blocks were put back and marked, raid2d_plan
+ * says whether the loss is still fatal, and raid2d_save or raid2d_rebuild
+ * restores what is determined then. To go on without them, a host, after
+ * RAID2D_OK, copies new blocks into the array at the undetermined data disks,
+ * calls raid2d_seal and clears the map. The parities are then those of the new
+ * data: true blocks that are found later restore no others.
  *
  *   count      receives the number of disks saved: of determined disks
  *

@@ -1,8 +1,9 @@
 /*
- * What tests/documents puts around the loop over a sheet that raid2d.h shows.
- * shown.inc is that loop, as it stands in the header's comment. The sheet is
- * plan's for two data rows and three data columns with disks 0, 3 and 8
- * erased. It is C99 and C++.
+ * What tests/documents puts around the two loops that raid2d.h shows.
+ * sheet.inc and marks.inc are these loops, as they stand in the header's
+ * comments. The first reads plan's sheet for two data rows and three data
+ * columns with disks 0, 3 and 8 erased; the second marks what save restores of
+ * nine disks at three by three. It is C99 and C++.
  */
 #include <stdio.h>
 
@@ -16,7 +17,7 @@ static void use(size_t disk, size_t stripe)
     printf("disk %zu by stripe %zu, ", disk, stripe);
 }
 
-int main(void)
+static int read_sheet(void)
 {
     static const uint8_t map[RAID2D_DISKS(2, 3)] = { 1, 0, 0, 1, 0, 0, 0, 0, 1 };
     uint8_t sheet[RAID2D_SHEET_BYTES];
@@ -25,7 +26,32 @@ int main(void)
     if (raid2d_plan(2, 3, map, sizeof map, sheet, sizeof sheet, &count)
         != RAID2D_OK)
         return 1;
-#include "shown.inc"
+#include "sheet.inc"
     printf("%zu repairs\n", used);
     return used == count ? 0 : 1;
+}
+
+static void mark_saved(void)
+{
+    uint8_t map[RAID2D_DISKS(3, 3)] = { 1, 1, 0, 0, 1, 1, 1, 0,
+                                        0, 0, 1, 1, 0, 0, 1, 1 };
+    uint8_t sheet[RAID2D_SHEET_BYTES];
+    size_t rows = 3, columns = 3, map_len = sizeof map;
+    size_t sheet_len = sizeof sheet, all = 0, now = 0, d;
+    uint32_t status;
+
+#include "marks.inc"
+    printf("undetermined:");
+    for (d = 0; d < map_len; d++)
+        if (map[d] == 1)
+            printf(" %zu", d);
+    printf("\n");
+}
+
+int main(void)
+{
+    int failed = read_sheet();
+
+    mark_saved();
+    return failed;
 }
