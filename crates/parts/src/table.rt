@@ -41,8 +41,8 @@ fn renamed(part: u8, old: u8, name: u8) -> u8
     part
 }
 
-// The parts of two stripes become one, which has the name of the first. Every byte is written, whether it changes or not, so that
-// the loop has no branch.
+// The parts of two stripes become one, which has the name of the first; where they are one already, nothing is to be done. Else every
+// byte is written, whether it changes or not, so that the loop has no branch.
 pub fn unite(parts: &mut [u8], low: usize, high: usize)
     requires { ⌜ low < length (now parts) ⌝ }
     requires { ⌜ high < length (now parts) ⌝ }
