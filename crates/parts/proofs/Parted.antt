@@ -1,134 +1,208 @@
--- The laws of the table of parts.
+-- The laws of the tables of parts and of ways.
 -- Assumes nothing.
 use mathlib.Core.Path.{_≡_, refl, sym, _∙_, ap, ap₂}
-use mathlib.Core.Bool.{Bool, true, false, cond, _&&_, not}
+use mathlib.Core.Bool.{Bool, true, false}
+use mathlib.Core.Logic.{⊎-elim}
 use mathlib.Core.List.{List}
-use Prim.Native.Nat.{ℕ, _+_, _≤_, _<_}
-use native.Mathlib.Nat.{le-refl}
+use Prim.Native.Nat.{ℕ, zero, suc, _+_, _^_, _≤_, _<_}
+use native.Mathlib.Nat.{eq-or-lt-of-le, le-of-suc-le-suc, lt-suc-self, le-step}
 use native.Mathlib.Numerals.{add-one}
 use native.Mathlib.Omega.{arith}
-use borrow.Author.Tests.{eqb-true, eqb-false, ne-eqb}
+use borrow.Author.Tests.{eq-eqb, ne-eqb, eqb-false}
+use lib.Bits.{bitOr}
 use lib.Dec.{eqb}
 use lib.ListN.{length, getD}
-use Rattle.stripes.specs.System.{Layout, lower, higher, firstOf, otherThan}
-use Rattle.stripes.specs.Erased.{erasures, without}
-use Rattle.stripes.specs.Joined.{united, partBy, part, joined}
-use Rattle.stripes.proofs.Fold.{by-cases, bit-zero}
+use Rattle.stripes.specs.Fold.{_⊕_, gate}
+use Rattle.stripes.specs.System.{Layout, TwoStripes, lower, higher, firstOf, otherThan}
+use Rattle.stripes.specs.Erased.{erasures}
+use Rattle.stripes.specs.Joined.{united, partBy}
+use Rattle.stripes.proofs.Fold.{bit-zero}
 use Rattle.stripes.proofs.Degree.{other-first}
-use Rattle.stripes.proofs.Peel.{without-at, without-other}
-use Rattle.stripes.proofs.Joined.{part-united, part-stays, part-skip, part-same, joined-of}
-use Rattle.tally.specs.Tally.{Passed, Table}
+use Rattle.stripes.proofs.Joined.{part-united, part-kept, part-bound}
+use Rattle.tally.specs.Tally.{Table}
 use Rattle.tally.proofs.Counted.{Crossed}
 use Rattle.parts.specs.Parted.{Names, Parted}
+use Rattle.parts.specs.Ways.{joinedBefore, between, longer, wayBy, closedBy, Walked}
+use Rattle.parts.proofs.Ways.{way-link, way-kept, part-closed, closed-kept}
 
 -- ---- the two stripes of a disk
 module _ {L : Layout} {d low high : ℕ} (x : Crossed L d low high) where
-  lower-crossed : lower L d ≡ low
+  pub lower-crossed : lower L d ≡ low
   unfolding firstOf
   lower-crossed = ap firstOf (x .listed)
 
-  higher-crossed : higher L d ≡ high
+  pub higher-crossed : higher L d ≡ high
   higher-crossed = ap₂ otherThan lower-crossed (x .listed) ∙ other-first low high (eqb-false high low (bit-zero (eqb high low) (x .apart)))
 
-  -- Both have a place in a table of n bytes.
+  -- Both have a place in a table of n numbers.
   pub crossed-places : {n : ℕ} → L .stripeBound ≤ n → (low < n) × (high < n)
   crossed-places fits = let l = x .lowBound in let h = x .highBound in (omega arith, omega arith)
 
--- ---- tables
-
--- Nothing changes where the two parts are one already.
-pub united-same : (part : ℕ → ℕ) (low high : ℕ) → part low ≡ part high → (s : ℕ) → part s ≡ united low high part s
-unfolding united
-united-same part low high same s =
-    by-cases (λ (t : Bool). eqb (part s) (part high) ≡ t → part s ≡ cond t (part low) (part s)) (eqb (part s) (part high))
-    (λ _ q. eqb-true (part s) (part high) q ∙ sym same) (λ _ q. refl) refl
-
-pub parted-none : {L : Layout} (c : ℕ → Bool) {parts : List ℕ} → L .stripeBound ≤ length parts → Names (λ s. s) parts → Parted L c 0 parts
+-- ---- the first disks
+pub parted-none : {L : Layout} (e : ℕ → Bool) {parts : List ℕ} → L .stripeBound ≤ length parts → Names (λ s. s) parts → Parted L e 0 parts
 unfolding partBy
-parted-none c fits names = record { stripesFit = fits; named = names }
+parted-none e fits names = record { stripesFit = fits; named = names }
 
-module _ {L : Layout} {c : ℕ → Bool} {k : ℕ} {parts : List ℕ} (p : Parted L c k parts) where
-  pub parted-copy : {others : List ℕ} → length others ≡ length parts → Names (λ s. getD parts s 0) others → Parted L c k others
-  parted-copy same names =
-      record { stripesFit = let fits = p .stripesFit in omega arith; named = λ s l. names s l ∙ p .named s (omega arith) }
+pub walked-none : {L : Layout} (e : ℕ → Bool) {ways : List ℕ} → L .stripeBound ≤ length ways → Names (λ s. 0) ways → Walked L e 0 ways
+unfolding wayBy
+walked-none e fits names = record { stripesFit = fits; walked = names }
 
-  -- Another number of disks, or of another set, that make the same parts.
-  parted-as : (f : ℕ → Bool) (j : ℕ) → partBy L c k ≡ partBy L f j → Parted L f j parts
-  parted-as f j same = record { stripesFit = p .stripesFit; named = λ s l. p .named s l ∙ ap (λ (name : ℕ → ℕ). name s) same }
+-- ---- one disk more
+module _ {L : Layout} {e : ℕ → Bool} {k low high : ℕ} (here : e k ≡ true) (x : Crossed L k low high) {parts ways : List ℕ}
+    (p : Parted L e k parts) (w : Walked L e k ways) where
+  -- What the tables say of it.
+  pub read-joined : eqb (getD parts low 0) (getD parts high 0) ≡ joinedBefore L e k
+  read-joined =
+      let (l, h) = crossed-places x (p .stripesFit) in
+      ap₂ eqb (p .named low l ∙ ap (partBy L e k) (sym (lower-crossed x))) (p .named high h ∙ ap (partBy L e k) (sym (higher-crossed x)))
 
-  -- A disk of the set joins its stripes.
-  pub parted-next : c k ≡ true → {low high : ℕ} → Crossed L k low high → {after : List ℕ} → length after ≡ length parts
-      → Names (united low high (λ s. getD parts s 0)) after → Parted L c (k + 1) after
-  unfolding united
-  parted-next here {low} {high} x same names =
-      let fits = p .stripesFit in
-      let (l, h) = crossed-places x fits in
-      record {
-        stripesFit = omega arith;
-        named = λ s b.
-            names s b
-            ∙ rw (
-              p .named s (omega arith),
-              p .named low l,
-              p .named high h,
-              add-one k,
-              part-united L c k here,
-              higher-crossed x,
-              lower-crossed x,
-            );
-      }
+  pub read-between : getD ways low 0 ⊕ getD ways high 0 ≡ between L (wayBy L e k) k
+  read-between =
+      let (l, h) = crossed-places x (w .stripesFit) in
+      ap₂ (λ (a b : ℕ). a ⊕ b) (w .walked low l ∙ ap (wayBy L e k) (sym (lower-crossed x))) (w .walked high h ∙ ap (wayBy L e k) (sym (higher-crossed x)))
 
--- The others than a disk, up to it: those before it.
-pub parted-others : {L : Layout} {e : ℕ → Bool} {d : ℕ} {parts : List ℕ} → Parted L e d parts → Parted L (without e d) (d + 1) parts
-parted-others {L} {e} {d} p =
-    parted-as p (without e d) (d + 1)
-    (part-same L e (without e d) d (λ i l. sym (without-other e d i (λ q. omega arith)))
-    ∙ sym (part-skip L (without e d) d (d + 1) (omega arith)
-    (λ i l w. let here : i ≡ d = omega arith in ap (without e d) here ∙ without-at e d)))
+  -- It closes a cycle, and the tables stay.
+  module _ (same : getD parts low 0 ≡ getD parts high 0) where
+    joins : joinedBefore L e k ≡ true
+    joins = sym read-joined ∙ eq-eqb _ _ same
+
+    pub parted-closed : Parted L e (k + 1) parts
+    parted-closed = rw (add-one k) (record { stripesFit = p .stripesFit; named = λ s l. p .named s l ∙ sym (part-closed L e k joins s) })
+
+    pub walked-closed : Walked L e (k + 1) ways
+    walked-closed =
+        rw (add-one k)
+        (record { stripesFit = w .stripesFit; walked = λ s l. w .walked s l ∙ ap (λ (way : ℕ → ℕ). way s) (sym (way-kept L e k (rw (here, joins) refl))) })
+
+    pub answer-closed : getD ways low 0 ⊕ getD ways high 0 ≡ gate (joinedBefore L e k) (between L (wayBy L e k) k)
+    unfolding gate
+    answer-closed = read-between ∙ rw joins refl
+
+  -- It is a link: two parts become one, and ways go on over it.
+  module _ (apart : getD parts low 0 ≡ getD parts high 0 → ⊥) where
+    off : joinedBefore L e k ≡ false
+    off = sym read-joined ∙ ne-eqb _ _ apart
+
+    pub parted-next : {after : List ℕ} → length after ≡ length parts → Names (united low high (λ s. getD parts s 0)) after → Parted L e (k + 1) after
+    unfolding united
+    parted-next same names =
+        let fits = p .stripesFit in
+        let (l, h) = crossed-places x fits in
+        record {
+          stripesFit = omega arith;
+          named = λ s b.
+              names s b
+              ∙ rw (
+                p .named s (omega arith),
+                p .named low l,
+                p .named high h,
+                add-one k,
+                part-united L e k here,
+                higher-crossed x,
+                lower-crossed x,
+              );
+        }
+
+    pub walked-next : {after : List ℕ} → length after ≡ length ways → length ways ≡ length parts → {link : ℕ} → link ≡ 2 ^ getD parts high 0
+        → Names (λ s. getD ways s 0 ⊕ gate (eqb (getD parts s 0) (getD parts high 0)) (getD ways low 0 ⊕ getD ways high 0 ⊕ link)) after
+        → Walked L e (k + 1) after
+    unfolding longer
+    walked-next same long is names =
+        let fits = w .stripesFit in
+        let (l, h) = crossed-places x fits in
+        record {
+          stripesFit = omega arith;
+          walked = λ s b.
+              names s b
+              ∙ rw (
+                is,
+                p .named s (omega arith),
+                p .named high (omega arith),
+                w .walked s (omega arith),
+                w .walked low l,
+                w .walked high h,
+                add-one k,
+                way-link L e k here off,
+                higher-crossed x,
+                lower-crossed x,
+              );
+        }
+
+    pub answer-link : 0 ≡ gate (joinedBefore L e k) (between L (wayBy L e k) k)
+    unfolding gate
+    answer-link = rw off refl
+
+-- The name of a part is below the number of places: it can be the number of a link.
+pub name-small : {L : Layout} {e : ℕ → Bool} {k : ℕ} {parts : List ℕ} → Parted L e k parts → TwoStripes L → k ≤ L .disks → (s : ℕ) → s < length parts
+    → getD parts s 0 < length parts
+name-small {L} {e} {k} {parts} p two l s b = rw (p .named s b) (part-bound L e two (length parts) (p .stripesFit) k s l b)
 
 -- ---- going over the erased disks
 
--- The disks of c are erased ones.
-abbrev pub Some : List ℕ → (c : ℕ → Bool) → Type 0
-Some work c = (i : ℕ) → erasures work i ≡ false → c i ≡ false
+-- A value that other disks do not change is the same after them.
+skip : {A : Type 0} (f : ℕ → A) (j k : ℕ) → j ≤ k → ((i : ℕ) → j ≤ i → i < k → f (suc i) ≡ f i) → f k ≡ f j
+skip f j zero l kept = let none : j ≡ 0 = omega arith in rw none
+skip f j (suc k) l kept =
+    ⊎-elim (λ q. rw q)
+    (λ w. kept k (le-of-suc-le-suc w) (lt-suc-self k) ∙ skip f j k (le-of-suc-le-suc w) (λ i m b. kept i m (le-step b))) (eq-or-lt-of-le l)
 
-pub some-all : (work : List ℕ) → Some work (erasures work)
-some-all work i h = h
+-- The tables after the first k disks, and the links on cycles.
+pub record Linking (L : Layout) (e : ℕ → Bool) (k : ℕ) (parts ways : List ℕ) (links : ℕ) : Type 0 where
+  pub parted : Parted L e k parts
+  pub walked : Walked L e k ways
+  pub closed : links ≡ closedBy L e k
 
-pub some-others : (work : List ℕ) (d : ℕ) → Some work (without (erasures work) d)
-unfolding without
-some-others work d i h = ap (λ (b : Bool). b && not (eqb i d)) h
+-- What the tables hold is the same after disks that are not of e.
+module _ (L : Layout) (e : ℕ → Bool) (j k : ℕ) (l : j ≤ k) (none : (i : ℕ) → j ≤ i → i < k → e i ≡ false) where
+  same-part : partBy L e k ≡ partBy L e j
+  same-part = skip (partBy L e) j k l (λ i a b. part-kept L e i (none i a b))
 
-module _ {L : Layout} {work stripes : List ℕ} (t : Table L work stripes) {c : ℕ → Bool} (some : Some work c) where
-  -- Behind the last disk there are none.
-  same-end : (d : ℕ) → length work ≤ d → partBy L c d ≡ part L c
-  unfolding part
-  same-end d end = part-skip L c (L .disks) d (let fits = t .disksFit in omega arith) (λ i l w. some i (t .inside i l))
+  same-way : wayBy L e k ≡ wayBy L e j
+  same-way = skip (wayBy L e) j k l (λ i a b. way-kept L e i (rw (none i a b) refl))
 
-  module _ {k : ℕ} {parts : List ℕ} (p : Parted L c k parts) where
-    -- Disks that are present are passed over, to the end.
-    pub parted-over : {d : ℕ} → Passed work k d → Parted L c d parts
-    parted-over {d} passed =
-        parted-as p c d (sym (part-skip L c k d (passed .after) (λ i l w. some i (passed .none i l w))))
+  same-closed : closedBy L e k ≡ closedBy L e j
+  same-closed = skip (closedBy L e) j k l (λ i a b. closed-kept L e i (none i a b))
 
-    pub parted-end : {d : ℕ} → Passed work k d → length work ≤ d → Parted L c (L .disks) parts
-    unfolding part
-    parted-end {d} passed end = parted-as (parted-over passed) c (L .disks) (same-end d end)
+module _ {L : Layout} {e : ℕ → Bool} {parts ways : List ℕ} {links : ℕ} where
+  pub linking-none : Parted L e 0 parts → Walked L e 0 ways → links ≡ 0 → Linking L e 0 parts ways links
+  unfolding closedBy
+  linking-none p w none = record { parted = p; walked = w; closed = none }
 
-    -- Where the names of a disk's stripes are the same, they stay the same; and in the end they say whether the stripes are joined.
-    module _ {d low high : ℕ} (x : Crossed L d low high) where
-      pub joined-early : k ≤ length work → getD parts low 0 ≡ getD parts high 0 → true ≡ joined L c (lower L d) (higher L d)
-      joined-early short same =
-          let (l, h) = crossed-places x (p .stripesFit) in
-          let stay = part-stays L c k (length work) low high short (sym (p .named low l) ∙ same ∙ p .named high h) in
-          let all = same-end (length work) (le-refl (length work)) in
-          sym (joined-of L c (lower L d) (higher L d) (rw (higher-crossed x, lower-crossed x, ← all) stay))
+  linking-as : (j k : ℕ) → partBy L e j ≡ partBy L e k → wayBy L e j ≡ wayBy L e k → closedBy L e j ≡ closedBy L e k
+      → Linking L e j parts ways links → Linking L e k parts ways links
+  linking-as j k part way closed l =
+      record {
+        parted =
+            record {
+              stripesFit = l .parted .stripesFit;
+              named = λ s b. l .parted .named s b ∙ ap (λ (f : ℕ → ℕ). f s) part;
+            };
+        walked =
+            record {
+              stripesFit = l .walked .stripesFit;
+              walked = λ s b. l .walked .walked s b ∙ ap (λ (f : ℕ → ℕ). f s) way;
+            };
+        closed = l .closed ∙ closed;
+      }
 
-      pub joined-not : {n : ℕ} → Passed work k n → length work ≤ n → (getD parts low 0 ≡ getD parts high 0 → ⊥)
-          → false ≡ joined L c (lower L d) (higher L d)
-      unfolding joined part
-      joined-not passed end apart =
-          let last = parted-end passed end in
-          let (l, h) = crossed-places x (p .stripesFit) in
-          sym (rw (higher-crossed x, lower-crossed x)
-          (ne-eqb (part L c low) (part L c high) (λ q. apart (last .named low l ∙ q ∙ sym (last .named high h)))))
+  module _ (j k : ℕ) (l : j ≤ k) (none : (i : ℕ) → j ≤ i → i < k → e i ≡ false) where
+    -- Disks that are present are passed over, forwards and back.
+    pub linking-over : Linking L e j parts ways links → Linking L e k parts ways links
+    linking-over = linking-as j k (sym (same-part L e j k l none)) (sym (same-way L e j k l none)) (sym (same-closed L e j k l none))
+
+    pub linking-back : Linking L e k parts ways links → Linking L e j parts ways links
+    linking-back = linking-as k j (same-part L e j k l none) (same-way L e j k l none) (same-closed L e j k l none)
+
+-- An erased disk more.
+pub linking-next : {L : Layout} {e : ℕ → Bool} {k : ℕ} {parts ways parts' ways' : List ℕ} {links more : ℕ} → Linking L e k parts ways links → e k ≡ true
+    → Parted L e (k + 1) parts' → Walked L e (k + 1) ways' → more ≡ gate (joinedBefore L e k) (between L (wayBy L e k) k)
+    → Linking L e (k + 1) parts' ways' (bitOr links more)
+unfolding closedBy
+linking-next {L} {e} {k} l here p w is =
+    record { parted = p; walked = w; closed = rw (add-one k, here, l .closed, is) refl }
+
+-- All disks are behind.
+pub linking-all : {L : Layout} {work stripes : List ℕ} → Table L work stripes → {k : ℕ} {parts ways : List ℕ} {links : ℕ} → length work ≤ k
+    → Linking L (erasures work) k parts ways links → Linking L (erasures work) (L .disks) parts ways links
+linking-all {L} {work} t {k} end l =
+    linking-back (L .disks) k (let fits = t .disksFit in omega arith) (λ i a b. t .inside i a) l

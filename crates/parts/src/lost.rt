@@ -1,40 +1,46 @@
-// Which erased disks the survivors determine, and how many they do not.
+// Which erased disks the survivors do not determine, and how many these are.
 ghost use mathlib.Core.Path.{_≡_};
-ghost use mathlib.Core.Bool.{true, not};
-ghost use Prim.Native.Nat.{_+_, _≤_};
+ghost use mathlib.Core.Bool.{true};
+ghost use Prim.Native.Nat.{_≤_};
+ghost use lib.Bits.{bitOr};
+ghost use lib.Dec.{eqb};
 ghost use lib.ListN.{length};
 ghost use Rattle.stripes.specs.Erased.{erasures};
 ghost use Rattle.stripes.specs.Undetermined.{undetermined, lost};
 ghost use Rattle.model.specs.Grid.{layoutOf};
-ghost use Rattle.layout.specs.Stripe.{Numbered};
+ghost use Rattle.layout.specs.Stripe.{Numbered, stripeLimit};
 ghost use Rattle.tally.specs.Tally.{Table};
-ghost use Rattle.parts.specs.Parted.{Parted, OthersParted};
+ghost use Rattle.parts.specs.Ways.{closedBy, Walked};
 use model::Size;
 
-// Says whether the survivors determine an erased disk. `parts` is the table of the disks before it, and then of those up to it, for
-// the next disk. Where the answer is yes, `others` is the table of all the others. A disk that closes a cycle with those before it
-// is seen to be undetermined at once, and the disks that close none are fewer than the stripes.
-pub fn determined(
+// Every link of `some` is one of `set`.
+pub fn holds(set: u64, some: u64) -> bool
+    ensures { λ r. ⌜ r ≡ eqb (bitOr set some) set ⌝ }
+{
+    set | some == set
+}
+
+// Says whether an erased disk is undetermined: the links between its stripes are all on cycles.
+pub fn is_undetermined(
     size: Size,
     base: usize,
     work: &[u8],
     stripes: &[u8],
-    parts: &mut [u8],
-    others: &mut [u8],
+    ways: &[u64],
+    closed: u64,
     disk: usize,
 ) -> bool
     requires { ⌜ Numbered size base ⌝ }
     requires { ⌜ Table (layoutOf size base) (now work) (now stripes) ⌝ }
     requires { ⌜ erasures (now work) disk ≡ true ⌝ }
-    requires { ⌜ Parted (layoutOf size base) (erasures (now work)) disk (now parts) ⌝ }
-    requires { ⌜ length (now others) ≡ length (now parts) ⌝ }
-    ensures answer { λ r. ⌜ r ≡ not (undetermined (layoutOf size base) (erasures (now (work .entry))) disk) ⌝ }
-    ensures parts { λ r. ⌜ Parted (layoutOf size base) (erasures (now (work .entry))) (disk + 1) (now (parts .exit)) ⌝ }
-    ensures others { λ r. ⌜ (r ≡ true → OthersParted (layoutOf size base) (erasures (now (work .entry))) disk (now (others .exit))) ⌝ }
+    requires { ⌜ Walked (layoutOf size base) (erasures (now work)) (layoutOf size base .disks) (now ways) ⌝ }
+    requires { ⌜ closed ≡ closedBy (layoutOf size base) (erasures (now work)) (layoutOf size base .disks) ⌝ }
+    ensures { λ r. ⌜ r ≡ undetermined (layoutOf size base) (erasures (now (work .entry))) disk ⌝ }
 {
-    let joined = crate::join::joined_by_others(size, base, work, stripes, parts, others, disk);
-    crate::join::join(size, base, work, stripes, parts, disk);
-    !joined
+    let pair = tally::table::stripes_of(size, base, work, stripes, disk);
+    let low = pair.low;
+    let high = pair.high;
+    holds(closed, ways[low] ^ ways[high])
 }
 
 // `undetermined_count` with tables that are lent. What they held does not matter.
@@ -44,16 +50,16 @@ fn count_in(
     work: &[u8],
     stripes: &[u8],
     parts: &mut [u8],
-    others: &mut [u8],
+    ways: &mut [u64],
 ) -> usize
     requires { ⌜ Numbered size base ⌝ }
     requires { ⌜ Table (layoutOf size base) (now work) (now stripes) ⌝ }
     requires { ⌜ layoutOf size base .stripeBound ≤ length (now parts) ⌝ }
-    requires { ⌜ length (now parts) ≤ 256 ⌝ }
-    requires { ⌜ length (now others) ≡ length (now parts) ⌝ }
+    requires { ⌜ length (now parts) ≤ stripeLimit ⌝ }
+    requires { ⌜ length (now ways) ≡ length (now parts) ⌝ }
     ensures { λ r. ⌜ r ≡ lost (layoutOf size base) (erasures (now (work .entry))) ⌝ }
 {
-    crate::table::start(parts);
+    let closed = crate::link::link_all(size, base, work, stripes, parts, ways);
     let mut count = 0;
     let mut from = 0;
     loop {
@@ -61,7 +67,7 @@ fn count_in(
         if work.len() <= d {
             return count;
         }
-        if !determined(size, base, work, stripes, parts, others, d) {
+        if is_undetermined(size, base, work, stripes, ways, closed, d) {
             count += 1;
         }
         from = d + 1;
@@ -76,7 +82,7 @@ pub fn undetermined_count(size: Size, base: usize, work: &[u8], stripes: &[u8]) 
     ensures { λ r. ⌜ r ≡ lost (layoutOf size base) (erasures (now (work .entry))) ⌝ }
 {
     let mut parts = [0u8; tally::STRIPES];
-    let mut others = [0u8; tally::STRIPES];
+    let mut ways = [0u64; tally::STRIPES];
     let bound = layout::stripe::bound(size, base);
     count_in(
         size,
@@ -84,6 +90,6 @@ pub fn undetermined_count(size: Size, base: usize, work: &[u8], stripes: &[u8]) 
         work,
         stripes,
         &mut parts[..bound],
-        &mut others[..bound],
+        &mut ways[..bound],
     )
 }

@@ -1,9 +1,10 @@
-// Tables of parts: making, copying, and uniting two parts.
+// Tables with a place for each stripe, of the names of parts and of ways: making them, uniting two parts, and going on from one.
 ghost use mathlib.Core.Path.{_≡_};
 ghost use mathlib.Core.Bool.{cond};
 ghost use Prim.Native.Nat.{_≤_, _<_};
 ghost use lib.Dec.{eqb};
 ghost use lib.ListN.{length, getD};
+ghost use Rattle.stripes.specs.Fold.{_⊕_, gate};
 ghost use Rattle.stripes.specs.Joined.{united};
 ghost use Rattle.parts.specs.Parted.{Names};
 
@@ -19,14 +20,13 @@ pub fn start(parts: &mut [u8])
     }
 }
 
-// `others` becomes the same table.
-pub fn copy(parts: &[u8], others: &mut [u8])
-    requires { ⌜ length (now others) ≡ length (now parts) ⌝ }
-    ensures { λ r. ⌜ Names (λ s. getD (now (parts .entry)) s 0) (now (others .exit)) ⌝ }
+// Every way is empty.
+pub fn clear(ways: &mut [u64])
+    ensures { λ r. ⌜ Names (λ s. 0) (now (ways .exit)) ⌝ }
 {
     let mut s = 0;
-    while s < parts.len() {
-        others[s] = parts[s];
+    while s < ways.len() {
+        ways[s] = 0;
         s += 1;
     }
 }
@@ -41,8 +41,8 @@ fn renamed(part: u8, old: u8, name: u8) -> u8
     part
 }
 
-// The parts of two stripes become one, which has the name of the first; where they are one already, nothing is to be done. Else every
-// byte is written, whether it changes or not, so that the loop has no branch.
+// The parts of two stripes become one, which has the name of the first. Every byte is written, whether it changes or not, so that the
+// loop has no branch.
 pub fn unite(parts: &mut [u8], low: usize, high: usize)
     requires { ⌜ low < length (now parts) ⌝ }
     requires { ⌜ high < length (now parts) ⌝ }
@@ -50,12 +50,33 @@ pub fn unite(parts: &mut [u8], low: usize, high: usize)
 {
     let name = parts[low];
     let old = parts[high];
-    if name == old {
-        return;
-    }
     let mut s = 0;
     while s < parts.len() {
         parts[s] = renamed(parts[s], old, name);
+        s += 1;
+    }
+}
+
+// The links that a stripe's way gets, if its part is the one from which it goes on.
+fn added(part: u8, old: u8, links: u64) -> u64
+    ensures { λ r. ⌜ r ≡ gate (eqb part old) links ⌝ }
+{
+    if part == old {
+        return links;
+    }
+    0
+}
+
+// The ways of the stripes in one part change by the same links. Every way is written, as above.
+pub fn extend(parts: &[u8], ways: &mut [u64], old: u8, links: u64)
+    requires { ⌜ length (now ways) ≡ length (now parts) ⌝ }
+    ensures { λ r. ⌜
+        Names (λ s. getD (now (ways .entry)) s 0 ⊕ gate (eqb (getD (now (parts .entry)) s 0) old) links) (now (ways .exit))
+        ⌝ }
+{
+    let mut s = 0;
+    while s < parts.len() {
+        ways[s] = ways[s] ^ added(parts[s], old, links);
         s += 1;
     }
 }

@@ -18,7 +18,7 @@ use Rattle.stripes.proofs.Fold.{or-right, xsum-ext, every-ext, every-all, every
 use Rattle.stripes.proofs.Joined.{joined-part, is-joined, part-bound}
 use Rattle.parts.specs.Parted.{Parted}
 use Rattle.sums.specs.Cut.{inPart, cutSum}
-use Rattle.save.proofs.Parts.{cut-is}
+use Rattle.save.proofs.Parts.{in-part, cut-is}
 
 -- The sum over the part of stripe t is zero at each place: a test.
 abbrev pub partCancels : Layout → Stretch → (e : ℕ → Bool) → List ℕ → ℕ → Bool
@@ -37,7 +37,7 @@ module _ {L : Layout} (two : TwoStripes L) (x : Stretch) {e : ℕ → Bool} {par
   Tests t b = b ≡ (not (eqb (getD parts t 0) t) || cut t)
 
   cut-tests : (t : ℕ) → t < L .stripeBound → cut t ≡ partCancels L x e a t
-  cut-tests t h = every-ext (x .width) (λ q l. ap (λ (v : ℕ). eqb v 0) (cut-is two x e p a t h q))
+  cut-tests t h = every-ext (x .width) (λ q l. ap (λ (v : ℕ). eqb v 0) (cut-is two x e e parts (getD parts t 0) t (in-part p t h) a q))
 
   -- The sum over a part can be taken from any of its stripes.
   same-part : (s t : ℕ) → part L e s ≡ part L e t → (q : ℕ) → partSum L x e e a q s ≡ partSum L x e e a q t

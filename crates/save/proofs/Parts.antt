@@ -18,18 +18,20 @@ use Rattle.stripes.proofs.Undetermined.{part-cut}
 use Rattle.parts.specs.Parted.{Parted}
 use Rattle.sums.specs.Cut.{inPart, cutSum}
 
-module _ {L : Layout} (two : TwoStripes L) (x : Stretch) (e : ℕ → Bool) {c : ℕ → Bool} {parts : List ℕ} (p : Parted L c (L .disks) parts) where
-  -- The name of a stripe's part is that of the stripes that are joined with it.
-  in-part : (s t : ℕ) → s < L .stripeBound → t < L .stripeBound → inPart parts (getD parts t 0) s ≡ joined L c s t
-  unfolding joined part
-  in-part s t h k = let fits = p .stripesFit in ap₂ eqb (p .named s (omega arith)) (p .named t (omega arith))
+-- The name of a stripe's part is that of the stripes that are joined with it.
+pub in-part : {L : Layout} {c : ℕ → Bool} {parts : List ℕ} → Parted L c (L .disks) parts → (t : ℕ) → t < L .stripeBound
+    → (s : ℕ) → s < L .stripeBound → inPart parts (getD parts t 0) s ≡ joined L c s t
+unfolding joined part
+in-part p t k s h = let fits = p .stripesFit in ap₂ eqb (p .named s (omega arith)) (p .named t (omega arith))
 
-  pub cut-is : (a : List ℕ) (t : ℕ) → t < L .stripeBound → (q : ℕ) → cutSum L x e (inPart parts (getD parts t 0)) a q ≡ partSum L x e c a q t
+-- The sum over the stripes that have a name is that over the stripes that are joined with t, if these have it.
+module _ {L : Layout} (two : TwoStripes L) (x : Stretch) (e c : ℕ → Bool) (parts : List ℕ) (name t : ℕ)
+    (is : (s : ℕ) → s < L .stripeBound → inPart parts name s ≡ joined L c s t) where
+  pub cut-is : (a : List ℕ) (q : ℕ) → cutSum L x e (inPart parts name) a q ≡ partSum L x e c a q t
   unfolding cutSum crosses
-  cut-is a t k q =
+  cut-is a q =
       xsum-ext (L .disks)
       (λ d l.
-      let low = in-part (lower L d) t (lower-bound L two d l) k in
-      let high = in-part (higher L d) t (higher-bound L two d l) k in
-      ap (λ (b : Bool). gate (not (e d) && b) (byte x a d q)) (ap₂ (λ (u v : Bool). cond u (not v) v) low high))
+      ap (λ (b : Bool). gate (not (e d) && b) (byte x a d q))
+      (ap₂ (λ (u v : Bool). cond u (not v) v) (is (lower L d) (lower-bound L two d l)) (is (higher L d) (higher-bound L two d l))))
       ∙ sym (part-cut L two x e c a q t)

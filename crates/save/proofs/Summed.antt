@@ -3,31 +3,30 @@
 use mathlib.Core.Path.{_≡_, refl, sym, _∙_, ap, ap₂, subst}
 use mathlib.Core.Bool.{Bool, true, false, cond, _&&_, and-true, and-false}
 use mathlib.Core.Logic.{_⊎_, ⊎-elim}
-use mathlib.Core.List.{List, [], _∷_}
+use mathlib.Core.List.{List}
 use Prim.Native.Nat.{ℕ, _+_, _*_, _≤_, _<_, zero-le}
 use native.Mathlib.Numerals.{add-one}
 use native.Mathlib.Omega.{arith}
 use borrow.Author.Tests.{eqb-true, eqb-false}
 use lib.Dec.{eqb, ltb}
-use lib.ListN.{length, getD}
+use lib.ListN.{length}
 use Rattle.stripes.specs.Fold.{bit, count}
-use Rattle.stripes.specs.System.{Layout, TwoStripes, firstOf, lower, byte, changed}
+use Rattle.stripes.specs.System.{Layout, TwoStripes, lower, byte, changed}
 use Rattle.stripes.specs.Erased.{erasures, without, below, Agree}
-use Rattle.stripes.specs.Undetermined.{determined, partSum, savedByte, saved}
+use Rattle.stripes.specs.Joined.{joined}
+use Rattle.stripes.specs.Undetermined.{determined, savedByte, saved}
 use Rattle.stripes.specs.declared.Stretch.{Stretch}
 use Rattle.stripes.proofs.Fold.{by-cases, count-over, count-le}
 use Rattle.stripes.proofs.Bytes.{byte-changed, changed-again, changed-self, changed-ext}
 use Rattle.stripes.proofs.Peel.{without-other}
 use Rattle.stripes.proofs.Erased.{below-is, is-below, below-not, below-all, below-over, below-last}
-use Rattle.stripes.proofs.Joined.{lower-bound}
 use Rattle.stripes.proofs.Saved.{saved-byte-same}
 use Rattle.stripes.proofs.Undetermined.{determined-erased}
 use Rattle.model.specs.Grid.{layoutOf}
 use Rattle.model.specs.declared.Size.{Size}
 use Rattle.model.proofs.Grid.{layout-disks}
 use Rattle.tally.specs.Tally.{Passed, Table}
-use Rattle.parts.specs.Parted.{Parted, OthersParted}
-use Rattle.parts.proofs.Parted.{parted-over, some-all}
+use Rattle.parts.specs.Ways.{SideOf}
 use Rattle.sums.specs.Held.{Held}
 use Rattle.sums.specs.Cut.{inPart, cutSum}
 use Rattle.save.specs.Saving.{savedIf}
@@ -43,6 +42,11 @@ savedBelow L x a e k = changed x a (λ d p. cond (below k (determined L e) d) (s
 pub sized-as : (z : Size) (base : ℕ) {x : Stretch} {a : List ℕ} → Held z x a → length a ≡ layoutOf z base .disks * x .block
 sized-as z base {x} held = held .sized ∙ ap (λ (n : ℕ). n * x .block) (sym (layout-disks z base))
 
+bit-one : (b : Bool) → eqb (bit b) 1 ≡ b
+unfolding bit
+bit-one true = refl
+bit-one false = refl
+
 module _ {L : Layout} (two : TwoStripes L) (x : Stretch) (inside : x .offset + x .width ≤ x .block) (e : ℕ → Bool) (a : List ℕ)
     (sized : length a ≡ L .disks * x .block) (d : ℕ) where
   -- It is not determined, and nothing changes;
@@ -50,28 +54,18 @@ module _ {L : Layout} (two : TwoStripes L) (x : Stretch) (inside : x .offset + x
   unfolding savedIf
   saved-not = changed-self x inside (L .disks) a sized _ (λ i p l h. rw (and-false (eqb i d)))
 
-  -- or it gets the sum over the stripes that the others join with its lower one.
-  module _ {others : List ℕ} (parted : OthersParted L e d others) (l : d < L .disks) {low high : ℕ} (through : L .through d ≡ low ∷ high ∷ []) where
-    is-lower : lower L d ≡ low
-    unfolding firstOf
-    is-lower = ap firstOf through
-
-    pub low-place : low < length others
-    low-place =
-        let b = subst (λ (s : ℕ). s < L .stripeBound) is-lower (lower-bound L two d l) in
-        let fits = parted .stripesFit in
-        omega arith
+  -- or it gets the sum over its side, the stripes that the others join with its lower one.
+  module _ (side : List ℕ) (marked : SideOf L e d side) (fits : L .stripeBound ≤ length side) where
+    on-side : (s : ℕ) → s < L .stripeBound → inPart side 1 s ≡ joined L (without e d) s (lower L d)
+    on-side s l = ap (λ (n : ℕ). eqb n 1) (marked s (omega arith)) ∙ bit-one (joined L (without e d) s (lower L d))
 
     pub saved-by : {b : List ℕ}
-        → b ≡ changed x a (λ i p. cond (eqb i d) (cutSum L x e (inPart others (getD others low 0)) a p) (byte x a i p)) → b ≡ savedIf L x a e d true
+        → b ≡ changed x a (λ i p. cond (eqb i d) (cutSum L x e (inPart side 1) a p) (byte x a i p)) → b ≡ savedIf L x a e d true
     unfolding savedIf savedByte
     saved-by is =
         is
         ∙ changed-ext x inside (L .disks) a sized _ _
-        (λ i p k h.
-        ap₂ (λ (t : Bool) (v : ℕ). cond t v (byte x a i p)) (sym (and-true (eqb i d)))
-        (cut-is two x e parted a low (subst (λ (s : ℕ). s < L .stripeBound) is-lower (lower-bound L two d l)) p
-        ∙ ap (partSum L x e (without e d) a p) (sym is-lower)))
+        (λ i p k h. ap₂ (λ (t : Bool) (v : ℕ). cond t v (byte x a i p)) (sym (and-true (eqb i d))) (cut-is two x e (without e d) side 1 (lower L d) on-side a p))
 
 -- ---- one after another
 
@@ -135,9 +129,8 @@ module _ (L : Layout) (x : Stretch) (inside : x .offset + x .width ≤ x .block)
       ap (λ (f : ℕ → Bool). changed x a (λ d p. cond (f d) (savedByte L x e a d p) (byte x a d p)))
       (below-all k (determined L e) (λ d l. rw (out d l)))
 
--- The determined disks below k are saved in b, and they are `number`; `parts` is the table of the erased disks below k.
-pub record Rest (L : Layout) (x : Stretch) (work a : List ℕ) (k : ℕ) (b parts : List ℕ) (number : ℕ) : Type 0 where
-  pub parted : Parted L (erasures work) k parts
+-- The determined disks below k are saved in b, and they are `number`.
+pub record Rest (L : Layout) (x : Stretch) (work a : List ℕ) (k : ℕ) (b : List ℕ) (number : ℕ) : Type 0 where
   pub counted : number ≡ count k (determined L (erasures work))
   pub array : b ≡ savedBelow L x a (erasures work) k
 
@@ -147,23 +140,22 @@ unfolding determined
 present L e d off = rw off
 
 module _ {L : Layout} {x : Stretch} {work a : List ℕ} (inside : x .offset + x .width ≤ x .block) (sized : length a ≡ L .disks * x .block) where
-  pub rest-none : {parts : List ℕ} → Parted L (erasures work) 0 parts → Rest L x work a 0 a parts 0
+  pub rest-none : Rest L x work a 0 a 0
   unfolding count
-  rest-none p = record { parted = p; counted = refl; array = below-none L x inside (erasures work) a sized }
+  rest-none = record { counted = refl; array = below-none L x inside (erasures work) a sized }
 
-  module _ {k : ℕ} {b parts : List ℕ} {number : ℕ} (rest : Rest L x work a k b parts number) where
+  module _ {k : ℕ} {b : List ℕ} {number : ℕ} (rest : Rest L x work a k b number) where
     pub rest-few : number ≤ k
     rest-few = let e = rest .counted in let few = count-le k (determined L (erasures work)) in omega arith
 
     -- One erased disk more.
-    pub rest-next : {parts' : List ℕ} → Parted L (erasures work) (k + 1) parts' → {r : Bool} → r ≡ determined L (erasures work) k
+    pub rest-next : {r : Bool} → r ≡ determined L (erasures work) k
         → {b' : List ℕ} → b' ≡ savedIf L x b (erasures work) k r
-        → {next : ℕ} → ((r ≡ true) × (next ≡ number + 1)) ⊎ ((r ≡ false) × (next ≡ number)) → Rest L x work a (k + 1) b' parts' next
+        → {next : ℕ} → ((r ≡ true) × (next ≡ number + 1)) ⊎ ((r ≡ false) × (next ≡ number)) → Rest L x work a (k + 1) b' next
     unfolding count bit
-    rest-next p {r} is saves came =
+    rest-next {r} is saves came =
         let before = rest .counted in
         record {
-          parted = p;
           counted =
               rw add-one
               (⊎-elim (λ w. let now = ap bit (sym is ∙ w .0) in let more = w .1 in omega arith)
@@ -175,12 +167,11 @@ module _ {L : Layout} {x : Stretch} {work a : List ℕ} (inside : x .offset + x 
 
     module _ {stripes : List ℕ} (t : Table L work stripes) where
       -- Disks that are present are passed over.
-      pub rest-over : {d : ℕ} → Passed work k d → Rest L x work a d b parts number
+      pub rest-over : {d : ℕ} → Passed work k d → Rest L x work a d b number
       unfolding savedBelow
       rest-over {d} p =
           let none : (i : ℕ) → k ≤ i → i < d → determined L (erasures work) i ≡ false = λ i l w. present L (erasures work) i (p .none i l w) in
           record {
-            parted = parted-over t (some-all work) (rest .parted) p;
             counted = rest .counted ∙ sym (count-over (determined L (erasures work)) k d (p .after) none);
             array =
                 rest .array

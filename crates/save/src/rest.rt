@@ -1,22 +1,22 @@
 // The determined disks that no repair reaches.
 ghost use mathlib.Core.Path.{_≡_};
 ghost use mathlib.Core.Bool.{true};
-ghost use Prim.Native.Nat.{_+_, _≤_};
 ghost use lib.ListN.{length};
 ghost use Rattle.stripes.specs.Fold.{count};
 ghost use Rattle.stripes.specs.Erased.{erasures};
 ghost use Rattle.stripes.specs.Undetermined.{determined, saved};
-ghost use Rattle.model.specs.Grid.{layoutOf, disks};
-ghost use Rattle.layout.specs.Stripe.{Numbered};
+ghost use Rattle.model.specs.Grid.{layoutOf};
+ghost use Rattle.layout.specs.Stripe.{Numbered, stripeLimit};
 ghost use Rattle.tally.specs.Tally.{Table};
 ghost use Rattle.parts.specs.Parted.{Parted};
+ghost use Rattle.parts.specs.Ways.{closedBy, Walked};
 ghost use Rattle.sums.specs.Held.{Held};
 ghost use Rattle.save.specs.Saving.{savedIf};
 use model::Size;
 use stripes::Stretch;
 
 // Says whether an erased disk is determined, and if so sets it to the sum over the stripes that the others join with its lower one.
-// `parts` is the table of the disks before it, and then of those up to it; `others` and the list are room to work in.
+// The tables and the links on cycles are those of all erased disks.
 fn sum_disk(
     size: Size,
     base: usize,
@@ -24,31 +24,32 @@ fn sum_disk(
     array: &mut [u8],
     work: &[u8],
     stripes: &[u8],
-    parts: &mut [u8],
-    others: &mut [u8],
-    list: &mut [u32],
+    parts: &[u8],
+    ways: &[u64],
+    closed: u64,
     disk: usize,
 ) -> bool
     requires { ⌜ Numbered size base ⌝ }
     requires { ⌜ Held size stretch (now array) ⌝ }
     requires { ⌜ Table (layoutOf size base) (now work) (now stripes) ⌝ }
     requires { ⌜ erasures (now work) disk ≡ true ⌝ }
-    requires { ⌜ Parted (layoutOf size base) (erasures (now work)) disk (now parts) ⌝ }
-    requires { ⌜ length (now others) ≡ length (now parts) ⌝ }
-    requires { ⌜ disks size ≤ length (now list) ⌝ }
+    requires { ⌜ Parted (layoutOf size base) (erasures (now work)) (layoutOf size base .disks) (now parts) ⌝ }
+    requires { ⌜ Walked (layoutOf size base) (erasures (now work)) (layoutOf size base .disks) (now ways) ⌝ }
+    requires { ⌜ closed ≡ closedBy (layoutOf size base) (erasures (now work)) (layoutOf size base .disks) ⌝ }
+    requires { ⌜ length (now parts) ≡ stripeLimit ⌝ }
+    requires { ⌜ length (now ways) ≡ stripeLimit ⌝ }
     ensures answer { λ r. ⌜ r ≡ determined (layoutOf size base) (erasures (now (work .entry))) disk ⌝ }
-    ensures parts { λ r. ⌜ Parted (layoutOf size base) (erasures (now (work .entry))) (disk + 1) (now (parts .exit)) ⌝ }
     ensures array { λ r. ⌜
         now (array .exit) ≡ savedIf (layoutOf size base) stretch (now (array .entry)) (erasures (now (work .entry))) disk r
         ⌝ }
 {
-    if !parts::lost::determined(size, base, work, stripes, parts, others, disk) {
+    if parts::lost::is_undetermined(size, base, work, stripes, ways, closed, disk) {
         return false;
     }
-    let pair = tally::table::stripes_of(size, base, work, stripes, disk);
-    let low = pair.low;
-    let name = others[low];
-    sums::cut::fill(size, base, stretch, array, work, others, name, list, disk);
+    let mut side = [0u8; tally::STRIPES];
+    let mut list = [0u32; tally::DISKS];
+    parts::side::mark(size, base, work, stripes, parts, ways, disk, &mut side);
+    sums::cut::fill(size, base, stretch, array, work, &side, 1, &mut list, disk);
     true
 }
 
@@ -72,9 +73,8 @@ pub fn sum_rest(
         ⌝ }
 {
     let mut parts = [0u8; tally::STRIPES];
-    let mut others = [0u8; tally::STRIPES];
-    let mut list = [0u32; tally::DISKS];
-    parts::table::start(&mut parts);
+    let mut ways = [0u64; tally::STRIPES];
+    let closed = parts::link::link_all(size, base, work, stripes, &mut parts, &mut ways);
     let mut number = 0;
     let mut from = 0;
     loop {
@@ -89,9 +89,9 @@ pub fn sum_rest(
             array,
             work,
             stripes,
-            &mut parts,
-            &mut others,
-            &mut list,
+            &parts,
+            &ways,
+            closed,
             d,
         ) {
             number += 1;

@@ -49,6 +49,10 @@ module _ (L : Layout) (c : ℕ → Bool) where
   unfolding partBy
   part-kept k h = rw h
 
+  -- After it both its stripes are in one.
+  pub part-disk : (k : ℕ) → c k ≡ true → partBy L c (suc k) (lower L k) ≡ partBy L c (suc k) (higher L k)
+  part-disk k h = rw (part-united k h) (united-both (lower L k) (higher L k) (partBy L c k))
+
   -- What is in one part stays in one part.
   part-next : (k s t : ℕ) → partBy L c k s ≡ partBy L c k t → partBy L c (suc k) s ≡ partBy L c (suc k) t
   unfolding partBy united
@@ -150,8 +154,7 @@ module _ (L : Layout) (c : ℕ → Bool) where
   unfolding part
   joined-disk d l h =
       joined-of (lower L d) (higher L d)
-      (part-stays L c (suc d) (L .disks) (lower L d) (higher L d) l
-      (rw (part-united L c d h) (united-both (lower L d) (higher L d) (partBy L c d))))
+      (part-stays L c (suc d) (L .disks) (lower L d) (higher L d) l (part-disk L c d h))
 
   joined-all : Joins L c (L .disks) (λ s t. joined L c s t ≡ true)
   joined-all = record { self = joined-self; back = joined-back; chain = joined-chain; disk = joined-disk }

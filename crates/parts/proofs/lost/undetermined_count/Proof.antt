@@ -20,17 +20,17 @@ array-borrow-prefix-parts c =
 slice-aggregate-count-in : tie.Need-slice-aggregate-count-in
 slice-aggregate-count-in c = sym (length-take-le _ _ (array-borrow-prefix-parts (c .before)))
 
-array-borrow-prefix-others : tie.Need-array-borrow-prefix-others
-array-borrow-prefix-others c = array-borrow-prefix-parts (c .before)
+array-borrow-prefix-ways : tie.Need-array-borrow-prefix-ways
+array-borrow-prefix-ways c = array-borrow-prefix-parts (c .before)
 
 slice-aggregate-count-in-2 : tie.Need-slice-aggregate-count-in-2
-slice-aggregate-count-in-2 c = sym (length-take-le _ _ (array-borrow-prefix-others (c .before)))
+slice-aggregate-count-in-2 c = sym (length-take-le _ _ (array-borrow-prefix-ways (c .before)))
 
 count-in-requires : tie.Need-count-in-requires
 count-in-requires c κs =
     let s = c .before .before .before .before .before in
     let parts = slice-aggregate-count-in (c .before) in
-    let others = slice-aggregate-count-in-2 c in
+    let ways = slice-aggregate-count-in-2 c in
     let few = stripes-few (s .pre .0) in
     let is = c .before .before .bound .ensures in
     (s .pre .0, (s .pre .1, (omega arith, (omega arith, omega arith))))
@@ -45,7 +45,7 @@ undetermined-count-spec =
     bound-requires
     array-borrow-prefix-parts
     slice-aggregate-count-in
-    array-borrow-prefix-others
+    array-borrow-prefix-ways
     slice-aggregate-count-in-2
     count-in-requires
     returns)

@@ -8,7 +8,6 @@ use borrow.Author.Needs.{needs}
 use lib.Dec.{eqb}
 use lib.ListN.{length, getD}
 use Rattle.stripes.specs.Joined.{united}
-use Rattle.parts.proofs.Parted.{united-same}
 use Rattle.parts.proofs.Filled.{Filled, filled-none, filled-next, filled-all}
 use Rattle.parts.proofs.table.unite.Statement.{statement}
 use Rattle.parts.proofs.table.unite.Tie as tie
@@ -24,9 +23,6 @@ slice-read-name c = search needs
 
 slice-read-old : tie.Need-slice-read-old Inv-loop μ-loop
 slice-read-old c = search needs
-
-returns : tie.Need-returns Inv-loop μ-loop
-returns c = let a = c .before .before .before .before .args in λ s l. united-same (λ i. getD (a .parts .now) i 0) (a .low) (a .high) (c .if1 .taken) s
 
 loop-holds : tie.Need-loop-holds Inv-loop μ-loop
 loop-holds c = filled-none _ _
@@ -50,7 +46,7 @@ loop-again : tie.Need-loop-again Inv-loop μ-loop
 unfolding united
 loop-again c =
     let filled = c .before .before .before .loop .inv in
-    let a = c .before .before .before .before .before .before .before .before .args in
+    let a = c .before .before .before .before .before .before .before .args in
     let name = getD (a .parts .now) (a .low) 0 in
     let old = getD (a .parts .now) (a .high) 0 in
     filled-next filled _ (search needs)
@@ -59,8 +55,8 @@ loop-again c =
 same-length : tie.Need-same-length Inv-loop μ-loop
 same-length c = search needs
 
-returns-2 : tie.Need-returns-2 Inv-loop μ-loop
-returns-2 c = filled-all (c .before .loop .inv) (search needs)
+returns : tie.Need-returns Inv-loop μ-loop
+returns c = filled-all (c .before .loop .inv) (search needs)
 
 pub unite-spec : {M : Type 1} → statement M
 unite-spec =
@@ -70,7 +66,6 @@ unite-spec =
     μ-loop
     slice-read-name
     slice-read-old
-    returns
     loop-holds
     slice-read-renamed
     renamed-requires
@@ -79,4 +74,4 @@ unite-spec =
     loop-less
     loop-again
     same-length
-    returns-2)
+    returns)

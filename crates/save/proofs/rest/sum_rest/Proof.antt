@@ -3,55 +3,52 @@
 use mathlib.Core.Path.{_≡_, refl, _∙_}
 use mathlib.Core.Bool.{true}
 use mathlib.Core.Logic.{⊎-elim, inl, inr}
-use Prim.Native.Nat.{_-_, _≤_}
+use Prim.Native.Nat.{_-_, _≤_, _<_}
 use native.Mathlib.Omega.{arith}
 use borrow.Author.Needs.{needs}
 use lib.ListN.{length}
 use Rattle.stripes.specs.Erased.{erasures}
 use Rattle.model.specs.Grid.{layoutOf}
-use Rattle.model.proofs.Grid.{disks-bound, size-fits}
+use Rattle.model.proofs.Grid.{layout-disks, disks-bound, size-fits}
 use Rattle.layout.proofs.Runs.{stripes-few}
 use Rattle.tally.specs.Tally.{Passed}
 use Rattle.tally.proofs.Scanned.{next-passed, next-erased}
-use Rattle.parts.proofs.Parted.{parted-none}
+use Rattle.tally.proofs.Counted.{erased-inside}
 use Rattle.sums.specs.Held.{Held}
 use Rattle.save.proofs.Summed.{Rest, sized-as, rest-none, rest-over, rest-few, rest-all, rest-next}
 use Rattle.save.proofs.rest.sum_rest.Statement.{statement}
 use Rattle.save.proofs.rest.sum_rest.Tie as tie
 
 abbrev Inv-loop : tie.InvT-loop
-Inv-loop size base stretch array₀ work stripes parts₀ others₀ list₀ number₀ from₀ array parts others list number from =
-    Rest (layoutOf size base) stretch work array₀ from array parts number × (from ≤ length work) × (length array ≡ length array₀)
-    × (length parts ≡ 64) × (length others ≡ 64) × (length list ≡ 256)
+Inv-loop size base stretch array₀ work stripes parts ways closed number₀ from₀ array number from =
+    Rest (layoutOf size base) stretch work array₀ from array number × (from ≤ length work) × (length array ≡ length array₀)
 
 abbrev μ-loop : tie.MeasureT-loop
-μ-loop size base stretch array₀ work stripes parts₀ others₀ list₀ number₀ from₀ array parts others list number from = length work - from
+μ-loop size base stretch array₀ work stripes parts ways closed number₀ from₀ array number from = length work - from
 
-slice-aggregate-start : tie.Need-slice-aggregate-start Inv-loop μ-loop
-slice-aggregate-start c = search needs
+slice-aggregate-link-all : tie.Need-slice-aggregate-link-all Inv-loop μ-loop
+slice-aggregate-link-all c = search needs
 
-start-requires : tie.Need-start-requires Inv-loop μ-loop
-start-requires c κs = search needs
+slice-aggregate-link-all-2 : tie.Need-slice-aggregate-link-all-2 Inv-loop μ-loop
+slice-aggregate-link-all-2 c = search needs
+
+link-all-requires : tie.Need-link-all-requires Inv-loop μ-loop
+link-all-requires c κs =
+    let s = c .before .before .before .before .before in
+    let few = stripes-few (s .pre .0) in
+    (s .pre .0, (s .pre .1 .1, (omega arith, (search needs, search needs))))
 
 loop-holds : tie.Need-loop-holds Inv-loop μ-loop
 loop-holds c =
-    let s = c .before .before .before .before .before .before in
-    let few = stripes-few (s .pre .0) in
-    let long : length (c .before .start .last .0) ≡ 64 = search needs in (
-      rest-none (s .pre .1 .0 .inside) (sized-as (s .args .size) (s .args .base) (s .pre .1 .0)) (parted-none _ (omega arith) (c .before .start .ensures)),
-      omega arith,
-      refl,
-      long,
-      refl,
-      refl,
-    )
+    let s = c .before .before .before .before .before .before .before .before in
+    (rest-none (s .pre .1 .0 .inside) (sized-as (s .args .size) (s .args .base) (s .pre .1 .0)), omega arith, refl)
 
 next-erased-requires : tie.Need-next-erased-requires Inv-loop μ-loop
 next-erased-requires c κs = search needs
 
 -- Where the code began.
 abbrev start : tie.At-loop Inv-loop μ-loop → tie.Start Inv-loop μ-loop
-start l = l .before .before .before .before .before .before .before
+start l = l .before .before .before .before .before .before .before .before .before
 
 -- The disks that a turn passes over.
 passed : (c : tie.After-next-erased Inv-loop μ-loop) → Passed (start (c .before) .args .work .now) (c .before .loop .from) (c .next-erased .result)
@@ -60,7 +57,7 @@ passed c = next-passed _ _ (c .next-erased .ensures) (c .before .loop .inv .1)
 over : (c : tie.After-next-erased Inv-loop μ-loop) →
     let l = c .before in
     let a = start l .args in
-    Rest (layoutOf (a .size) (a .base)) (a .stretch) (a .work .now) (a .array .now) (c .next-erased .result) (l .loop .array) (l .loop .parts) (l .loop .number)
+    Rest (layoutOf (a .size) (a .base)) (a .stretch) (a .work .now) (a .array .now) (c .next-erased .result) (l .loop .array) (l .loop .number)
 over c =
     let s = start (c .before) in
     rest-over (s .pre .1 .0 .inside) (sized-as (s .args .size) (s .args .base) (s .pre .1 .0)) (c .before .loop .inv .0) (s .pre .1 .1) (passed c)
@@ -79,47 +76,49 @@ slice-aggregate-sum-disk c = search needs
 slice-aggregate-sum-disk-2 : tie.Need-slice-aggregate-sum-disk-2 Inv-loop μ-loop
 slice-aggregate-sum-disk-2 c = search needs
 
-slice-aggregate-sum-disk-3 : tie.Need-slice-aggregate-sum-disk-3 Inv-loop μ-loop
-slice-aggregate-sum-disk-3 c = search needs
-
 -- The disk of a turn is erased.
 erased : (c : tie.Else1 Inv-loop μ-loop) → erasures (start (c .before .before) .args .work .now) (c .before .next-erased .result) ≡ true
 erased c = next-erased _ _ (c .before .next-erased .ensures) (search needs)
 
 sum-disk-requires : tie.Need-sum-disk-requires Inv-loop μ-loop
 sum-disk-requires c κs =
-    let t = c .before .before .before .before in
-    let l = t .before .before .loop in
-    let s = start (t .before .before) in
-    let held : Held (s .args .size) (s .args .stretch) (l .array) =
-    record { inside = s .pre .1 .0 .inside; block = s .pre .1 .0 .block; sized = l .inv .2 ∙ s .pre .1 .0 .sized } in
+    let t = c .before .before .before in
+    let l = t .before .before in
+    let s = start l in
+    let held : Held (s .args .size) (s .args .stretch) (l .loop .array) =
+    record { inside = s .pre .1 .0 .inside; block = s .pre .1 .0 .block; sized = l .loop .inv .2 ∙ s .pre .1 .0 .sized } in
+    let all = l .before .before .before .link-all .ensures in
+    (s .pre .0, (held, (s .pre .1 .1, (erased t, (all .0, (all .1 .0, (all .1 .1, (search needs, search needs))))))))
+
+-- Its number is small.
+small : (c : tie.Else1 Inv-loop μ-loop) → c .before .next-erased .result < 256
+small c =
+    let s = start (c .before .before) in
+    let inside = erased-inside (s .pre .1 .1) _ (erased c) in
+    let same = layout-disks (s .args .size) (s .args .base) in
     let most = disks-bound (s .args .size) (size-fits (s .args .size) (s .pre .0 .fits)) in
-    let room = l .inv .5 in
-    (s .pre .0, (held, (s .pre .1 .1, (erased t, (over (t .before) .parted, (search needs, omega arith))))))
+    omega arith
 
 add-number : tie.Need-add-number Inv-loop μ-loop
 add-number c =
-    let t = c .before .before .before .before .before .before .before .before .before .before .before in
+    let t = c .before .before .before .before .before .before .before in
     let s = start (t .before .before) in
-    omega (arith, rest-few (s .pre .1 .0 .inside) (sized-as (s .args .size) (s .args .base) (s .pre .1 .0)) (over (t .before)), t .if1 .left)
+    omega (arith, rest-few (s .pre .1 .0 .inside) (sized-as (s .args .size) (s .args .base) (s .pre .1 .0)) (over (t .before)), small t)
 
 add-from : tie.Need-add-from Inv-loop μ-loop
-add-from c = omega (arith, c .before .before .before .before .before .before .before .before .before .before .before .if1 .left)
+add-from c = omega (arith, small (c .before .before .before .before .before .before .before))
 
 loop-less : tie.Need-loop-less Inv-loop μ-loop
-loop-less c = let t = c .before .before .before .before .before .before .before .before .before .before .before in omega (arith, t .if1 .left, passed (t .before) .after)
+loop-less c = let t = c .before .before .before .before .before .before .before in omega (arith, t .if1 .left, passed (t .before) .after)
 
 loop-again : tie.Need-loop-again Inv-loop μ-loop
 loop-again c =
-    let summed = c .before .before .before .before .before .before .sum-disk in
-    let t = c .before .before .before .before .before .before .before .before .before .before .before in
+    let summed = c .before .before .before .sum-disk in
+    let t = c .before .before .before .before .before .before .before in
     let s = start (t .before .before) in (
-      rest-next (s .pre .1 .0 .inside) (sized-as (s .args .size) (s .args .base) (s .pre .1 .0)) (over (t .before)) (summed .ensures .1 .0) (summed .ensures .0)
-          (summed .ensures .1 .1) (⊎-elim (λ w. inl (w .0 .taken, w .1)) (λ w. inr (w .0 .left, w .1)) (c .if2 .came)),
+      rest-next (s .pre .1 .0 .inside) (sized-as (s .args .size) (s .args .base) (s .pre .1 .0)) (over (t .before)) (summed .ensures .0) (summed .ensures .1)
+          (⊎-elim (λ w. inl (w .0 .taken, w .1)) (λ w. inr (w .0 .left, w .1)) (c .if2 .came)),
       omega (arith, t .if1 .left),
-      search needs,
-      search needs,
-      search needs,
       search needs,
     )
 
@@ -129,15 +128,15 @@ sum-rest-spec =
     (tie.spec
     Inv-loop
     μ-loop
-    slice-aggregate-start
-    start-requires
+    slice-aggregate-link-all
+    slice-aggregate-link-all-2
+    link-all-requires
     loop-holds
     next-erased-requires
     same-length
     returns
     slice-aggregate-sum-disk
     slice-aggregate-sum-disk-2
-    slice-aggregate-sum-disk-3
     sum-disk-requires
     add-number
     add-from
