@@ -8,7 +8,7 @@ use native.Mathlib.Omega.{arith}
 use borrow.Author.Count.{below-more}
 use lib.ListN.{length, getD, set, length-set}
 use lib.Seq.{getD-set-same, getD-set-other}
-use Rattle.parts.specs.Parted.{Names}
+use Rattle.parts.specs.Parted.{Values}
 
 -- The first k bytes have their names; the others are as before.
 pub record Filled (f : ℕ → ℕ) (before : List ℕ) (k : ℕ) (parts : List ℕ) : Type 0 where
@@ -30,5 +30,5 @@ module _ {f : ℕ → ℕ} {before : List ℕ} {k : ℕ} {parts : List ℕ} (fil
         rest = λ s w. getD-set-other parts k s v 0 (λ q. omega arith) ∙ filled .rest s (omega arith);
       }
 
-  pub filled-all : length parts ≤ k → Names f parts
+  pub filled-all : {n : ℕ} → n ≤ k → Values f n parts
   filled-all end s l = filled .done s (omega arith)

@@ -5,7 +5,7 @@ use mathlib.Core.Bool.{Bool, true, false}
 use mathlib.Core.Logic.{⊎-elim}
 use mathlib.Core.List.{List}
 use Prim.Native.Nat.{ℕ, zero, suc, _+_, _^_, _≤_, _<_}
-use native.Mathlib.Nat.{eq-or-lt-of-le, le-of-suc-le-suc, lt-suc-self, le-step}
+use native.Mathlib.Nat.{eq-or-lt-of-le, le-of-suc-le-suc, lt-suc-self, le-step, le-refl}
 use native.Mathlib.Numerals.{add-one}
 use native.Mathlib.Omega.{arith}
 use borrow.Author.Tests.{eq-eqb, ne-eqb, eqb-false}
@@ -21,7 +21,7 @@ use Rattle.stripes.proofs.Degree.{other-first}
 use Rattle.stripes.proofs.Joined.{part-united, part-kept, part-bound}
 use Rattle.tally.specs.Tally.{Table}
 use Rattle.tally.proofs.Counted.{Crossed}
-use Rattle.parts.specs.Parted.{Names, Parted}
+use Rattle.parts.specs.Parted.{Values, Parted}
 use Rattle.parts.specs.Ways.{joinedBefore, between, longer, wayBy, closedBy, Walked}
 use Rattle.parts.proofs.Ways.{way-link, way-kept, part-closed, closed-kept}
 
@@ -39,13 +39,15 @@ module _ {L : Layout} {d low high : ℕ} (x : Crossed L d low high) where
   crossed-places fits = let l = x .lowBound in let h = x .highBound in (omega arith, omega arith)
 
 -- ---- the first disks
-pub parted-none : {L : Layout} (e : ℕ → Bool) {parts : List ℕ} → L .stripeBound ≤ length parts → Names (λ s. s) parts → Parted L e 0 parts
+pub parted-none : {L : Layout} (e : ℕ → Bool) {parts : List ℕ} → L .stripeBound ≤ length parts → {n : ℕ} → n ≡ L .stripeBound
+    → Values (λ s. s) n parts → Parted L e 0 parts
 unfolding partBy
-parted-none e fits names = record { stripesFit = fits; named = names }
+parted-none e fits is names = record { stripesFit = fits; named = λ s l. names s (omega arith) }
 
-pub walked-none : {L : Layout} (e : ℕ → Bool) {ways : List ℕ} → L .stripeBound ≤ length ways → Names (λ s. 0) ways → Walked L e 0 ways
+pub walked-none : {L : Layout} (e : ℕ → Bool) {ways : List ℕ} → L .stripeBound ≤ length ways → {n : ℕ} → n ≡ L .stripeBound
+    → Values (λ s. 0) n ways → Walked L e 0 ways
 unfolding wayBy
-walked-none e fits names = record { stripesFit = fits; walked = names }
+walked-none e fits is names = record { stripesFit = fits; walked = λ s l. names s (omega arith) }
 
 -- ---- one disk more
 module _ {L : Layout} {e : ℕ → Bool} {k low high : ℕ} (here : e k ≡ true) (x : Crossed L k low high) {parts ways : List ℕ}
@@ -53,13 +55,11 @@ module _ {L : Layout} {e : ℕ → Bool} {k low high : ℕ} (here : e k ≡ true
   -- What the tables say of it.
   pub read-joined : eqb (getD parts low 0) (getD parts high 0) ≡ joinedBefore L e k
   read-joined =
-      let (l, h) = crossed-places x (p .stripesFit) in
-      ap₂ eqb (p .named low l ∙ ap (partBy L e k) (sym (lower-crossed x))) (p .named high h ∙ ap (partBy L e k) (sym (higher-crossed x)))
+      ap₂ eqb (p .named low (x .lowBound) ∙ ap (partBy L e k) (sym (lower-crossed x))) (p .named high (x .highBound) ∙ ap (partBy L e k) (sym (higher-crossed x)))
 
   pub read-between : getD ways low 0 ⊕ getD ways high 0 ≡ between L (wayBy L e k) k
   read-between =
-      let (l, h) = crossed-places x (w .stripesFit) in
-      ap₂ (λ (a b : ℕ). a ⊕ b) (w .walked low l ∙ ap (wayBy L e k) (sym (lower-crossed x))) (w .walked high h ∙ ap (wayBy L e k) (sym (higher-crossed x)))
+      ap₂ (λ (a b : ℕ). a ⊕ b) (w .walked low (x .lowBound) ∙ ap (wayBy L e k) (sym (lower-crossed x))) (w .walked high (x .highBound) ∙ ap (wayBy L e k) (sym (higher-crossed x)))
 
   -- It closes a cycle, and the tables stay.
   module _ (same : getD parts low 0 ≡ getD parts high 0) where
@@ -83,19 +83,18 @@ module _ {L : Layout} {e : ℕ → Bool} {k low high : ℕ} (here : e k ≡ true
     off : joinedBefore L e k ≡ false
     off = sym read-joined ∙ ne-eqb _ _ apart
 
-    pub parted-next : {after : List ℕ} → length after ≡ length parts → Names (united low high (λ s. getD parts s 0)) after → Parted L e (k + 1) after
+    pub parted-next : {after : List ℕ} → length after ≡ length parts → {n : ℕ} → n ≡ L .stripeBound
+        → Values (united low high (λ s. getD parts s 0)) n after → Parted L e (k + 1) after
     unfolding united
-    parted-next same names =
-        let fits = p .stripesFit in
-        let (l, h) = crossed-places x fits in
+    parted-next same bound names =
         record {
-          stripesFit = omega arith;
+          stripesFit = let fits = p .stripesFit in omega arith;
           named = λ s b.
-              names s b
+              names s (omega arith)
               ∙ rw (
-                p .named s (omega arith),
-                p .named low l,
-                p .named high h,
+                p .named s b,
+                p .named low (x .lowBound),
+                p .named high (x .highBound),
                 add-one k,
                 part-united L e k here,
                 higher-crossed x,
@@ -103,24 +102,22 @@ module _ {L : Layout} {e : ℕ → Bool} {k low high : ℕ} (here : e k ≡ true
               );
         }
 
-    pub walked-next : {after : List ℕ} → length after ≡ length ways → length ways ≡ length parts → {link : ℕ} → link ≡ 2 ^ getD parts high 0
-        → Names (λ s. getD ways s 0 ⊕ gate (eqb (getD parts s 0) (getD parts high 0)) (getD ways low 0 ⊕ getD ways high 0 ⊕ link)) after
+    pub walked-next : {after : List ℕ} → length after ≡ length ways → {n : ℕ} → n ≡ L .stripeBound → {link : ℕ} → link ≡ 2 ^ getD parts high 0
+        → Values (λ s. getD ways s 0 ⊕ gate (eqb (getD parts s 0) (getD parts high 0)) (getD ways low 0 ⊕ getD ways high 0 ⊕ link)) n after
         → Walked L e (k + 1) after
     unfolding longer
-    walked-next same long is names =
-        let fits = w .stripesFit in
-        let (l, h) = crossed-places x fits in
+    walked-next same bound is names =
         record {
-          stripesFit = omega arith;
+          stripesFit = let fits = w .stripesFit in omega arith;
           walked = λ s b.
-              names s b
+              names s (omega arith)
               ∙ rw (
                 is,
-                p .named s (omega arith),
-                p .named high (omega arith),
-                w .walked s (omega arith),
-                w .walked low l,
-                w .walked high h,
+                p .named s b,
+                p .named high (x .highBound),
+                w .walked s b,
+                w .walked low (x .lowBound),
+                w .walked high (x .highBound),
                 add-one k,
                 way-link L e k here off,
                 higher-crossed x,
@@ -132,10 +129,10 @@ module _ {L : Layout} {e : ℕ → Bool} {k low high : ℕ} (here : e k ≡ true
     unfolding gate
     answer-link = rw off refl
 
--- The name of a part is below the number of places: it can be the number of a link.
-pub name-small : {L : Layout} {e : ℕ → Bool} {k : ℕ} {parts : List ℕ} → Parted L e k parts → TwoStripes L → k ≤ L .disks → (s : ℕ) → s < length parts
-    → getD parts s 0 < length parts
-name-small {L} {e} {k} {parts} p two l s b = rw (p .named s b) (part-bound L e two (length parts) (p .stripesFit) k s l b)
+-- The name of a part is a stripe's number.
+pub name-small : {L : Layout} {e : ℕ → Bool} {k : ℕ} {parts : List ℕ} → Parted L e k parts → TwoStripes L → k ≤ L .disks → (s : ℕ)
+    → s < L .stripeBound → getD parts s 0 < L .stripeBound
+name-small {L} {e} {k} p two l s b = rw (p .named s b) (part-bound L e two (L .stripeBound) (le-refl _) k s l b)
 
 -- ---- going over the erased disks
 

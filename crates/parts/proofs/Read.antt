@@ -6,7 +6,7 @@ use mathlib.Core.List.{List}
 use Prim.Native.Nat.{ℕ, _<_}
 use lib.Bits.{bitOr}
 use lib.Dec.{eqb}
-use lib.ListN.{length, getD}
+use lib.ListN.{getD}
 use Rattle.stripes.specs.Fold.{_⊕_, bit}
 use Rattle.stripes.specs.System.{Layout, lower}
 use Rattle.stripes.specs.Erased.{without}
@@ -16,17 +16,14 @@ use Rattle.tally.proofs.Counted.{Crossed}
 use Rattle.parts.specs.Parted.{Parted}
 use Rattle.parts.specs.Ways.{between, closedBy, Walked}
 use Rattle.parts.proofs.Bridges.{wayOf, test-undetermined, test-side}
-use Rattle.parts.proofs.Parted.{lower-crossed, higher-crossed, crossed-places}
+use Rattle.parts.proofs.Parted.{lower-crossed, higher-crossed}
 
 module _ {L : Layout} {e : ℕ → Bool} {d low high : ℕ} (here : e d ≡ true) (x : Crossed L d low high) {ways : List ℕ}
     (w : Walked L e (L .disks) ways) where
-  read-way : (s : ℕ) → s < length ways → getD ways s 0 ≡ wayOf L e s
-  read-way s l = w .walked s l
-
   read-links : getD ways low 0 ⊕ getD ways high 0 ≡ between L (wayOf L e) d
   read-links =
-      let (l, h) = crossed-places x (w .stripesFit) in
-      ap₂ (λ (a b : ℕ). a ⊕ b) (read-way low l ∙ ap (wayOf L e) (sym (lower-crossed x))) (read-way high h ∙ ap (wayOf L e) (sym (higher-crossed x)))
+      ap₂ (λ (a b : ℕ). a ⊕ b) (w .walked low (x .lowBound) ∙ ap (wayOf L e) (sym (lower-crossed x)))
+      (w .walked high (x .highBound) ∙ ap (wayOf L e) (sym (higher-crossed x)))
 
   -- Whether it is undetermined,
   pub read-undetermined : {closed : ℕ} → closed ≡ closedBy L e (L .disks)
@@ -34,13 +31,11 @@ module _ {L : Layout} {e : ℕ → Bool} {d low high : ℕ} (here : e d ≡ true
   read-undetermined is = rw (is, read-links) (test-undetermined L e d (x .disk) here)
 
   -- and which stripes are on its side.
-  pub read-side : {parts : List ℕ} → Parted L e (L .disks) parts → undetermined L e d ≡ false → (s : ℕ) → s < length parts → s < length ways →
+  pub read-side : {parts : List ℕ} → Parted L e (L .disks) parts → undetermined L e d ≡ false → (s : ℕ) → s < L .stripeBound →
       let way = getD ways s 0 ⊕ getD ways low 0 in
       let link = getD ways low 0 ⊕ getD ways high 0 in
       bit (eqb (getD parts s 0) (getD parts low 0) && not (eqb (bitOr way link) way)) ≡ bit (joined L (without e d) s (lower L d))
   unfolding part
-  read-side p off s l k =
-      let (m, n) = crossed-places x (p .stripesFit) in
-      let (i, j) = crossed-places x (w .stripesFit) in
-      rw (read-links, read-way s k, read-way low i, p .named s l, p .named low m, ← lower-crossed x)
+  read-side p off s l =
+      rw (read-links, w .walked s l, w .walked low (x .lowBound), p .named s l, p .named low (x .lowBound), ← lower-crossed x)
       (ap bit (test-side L e d (x .disk) here off s))

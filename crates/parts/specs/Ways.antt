@@ -12,7 +12,7 @@ use Rattle.stripes.specs.Fold.{_⊕_, gate, bit}
 use Rattle.stripes.specs.System.{Layout, lower, higher}
 use Rattle.stripes.specs.Erased.{without}
 use Rattle.stripes.specs.Joined.{partBy, joined}
-use Rattle.parts.specs.Parted.{Names}
+use Rattle.parts.specs.Parted.{Values}
 
 -- The disks of e before d join its two stripes.
 abbrev pub joinedBefore : Layout → (e : ℕ → Bool) → (d : ℕ) → Bool
@@ -22,7 +22,8 @@ joinedBefore L e d = eqb (partBy L e d (lower L d)) (partBy L e d (higher L d))
 abbrev pub between : Layout → (way : ℕ → ℕ) → (d : ℕ) → ℕ
 between L way d = way (lower L d) ⊕ way (higher L d)
 
--- A link joins the parts of stripes a and b. From each stripe of b's part it is now on by way of b, the link and a.
+-- A link joins the parts of stripes a and b. From each stripe of b's part the way to the name of a's leads through b, over the link, and
+-- on from a.
 unfoldable pub longer : (a b : ℕ) → (named way : ℕ → ℕ) → ℕ → ℕ
 longer a b named way s = way s ⊕ gate (eqb (named s) (named b)) (way a ⊕ way b ⊕ 2 ^ named b)
 
@@ -40,8 +41,8 @@ closedBy L e (suc k) = bitOr (closedBy L e k) (gate (e k && joinedBefore L e k) 
 -- The table of ways after the first k disks: it has a place for every stripe.
 pub record Walked (L : Layout) (e : ℕ → Bool) (k : ℕ) (ways : List ℕ) : Type 0 where
   pub stripesFit : L .stripeBound ≤ length ways
-  pub walked : Names (wayBy L e k) ways
+  pub walked : Values (wayBy L e k) (L .stripeBound) ways
 
 -- The table of the stripes that the disks of e but d join with its lower one: they have 1, and the others 0.
 abbrev pub SideOf : Layout → (e : ℕ → Bool) → (d : ℕ) → (side : List ℕ) → Type 0
-SideOf L e d side = Names (λ s. bit (joined L (without e d) s (lower L d))) side
+SideOf L e d side = Values (λ s. bit (joined L (without e d) s (lower L d))) (L .stripeBound) side

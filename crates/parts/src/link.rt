@@ -7,7 +7,7 @@ ghost use lib.ListN.{length};
 ghost use Rattle.stripes.specs.Fold.{gate};
 ghost use Rattle.stripes.specs.Erased.{erasures};
 ghost use Rattle.model.specs.Grid.{layoutOf};
-ghost use Rattle.layout.specs.Stripe.{Numbered, stripeLimit};
+ghost use Rattle.layout.specs.Stripe.{Numbered};
 ghost use Rattle.tally.specs.Tally.{Table};
 ghost use Rattle.parts.specs.Parted.{Parted};
 ghost use Rattle.parts.specs.Ways.{joinedBefore, between, wayBy, closedBy, Walked};
@@ -37,8 +37,6 @@ fn link(
     requires { ⌜ erasures (now work) disk ≡ true ⌝ }
     requires { ⌜ Parted (layoutOf size base) (erasures (now work)) disk (now parts) ⌝ }
     requires { ⌜ Walked (layoutOf size base) (erasures (now work)) disk (now ways) ⌝ }
-    requires { ⌜ length (now parts) ≤ stripeLimit ⌝ }
-    requires { ⌜ length (now ways) ≡ length (now parts) ⌝ }
     ensures parts { λ r. ⌜ Parted (layoutOf size base) (erasures (now (work .entry))) (disk + 1) (now (parts .exit)) ⌝ }
     ensures ways { λ r. ⌜ Walked (layoutOf size base) (erasures (now (work .entry))) (disk + 1) (now (ways .exit)) ⌝ }
     ensures answer { λ r. ⌜
@@ -56,8 +54,9 @@ fn link(
         return links;
     }
     let own = alone(old);
-    crate::table::extend(parts, ways, old, links ^ own);
-    crate::table::unite(parts, low, high);
+    let bound = layout::stripe::bound(size, base);
+    crate::table::extend(parts, ways, bound, old, links ^ own);
+    crate::table::unite(parts, bound, low, high);
     0
 }
 
@@ -73,14 +72,14 @@ pub fn link_all(
     requires { ⌜ Numbered size base ⌝ }
     requires { ⌜ Table (layoutOf size base) (now work) (now stripes) ⌝ }
     requires { ⌜ layoutOf size base .stripeBound ≤ length (now parts) ⌝ }
-    requires { ⌜ length (now parts) ≤ stripeLimit ⌝ }
-    requires { ⌜ length (now ways) ≡ length (now parts) ⌝ }
+    requires { ⌜ layoutOf size base .stripeBound ≤ length (now ways) ⌝ }
     ensures parts { λ r. ⌜ Parted (layoutOf size base) (erasures (now (work .entry))) (layoutOf size base .disks) (now (parts .exit)) ⌝ }
     ensures ways { λ r. ⌜ Walked (layoutOf size base) (erasures (now (work .entry))) (layoutOf size base .disks) (now (ways .exit)) ⌝ }
     ensures answer { λ r. ⌜ r ≡ closedBy (layoutOf size base) (erasures (now (work .entry))) (layoutOf size base .disks) ⌝ }
 {
-    crate::table::start(parts);
-    crate::table::clear(ways);
+    let bound = layout::stripe::bound(size, base);
+    crate::table::start(parts, bound);
+    crate::table::clear(ways, bound);
     let mut closed = 0u64;
     let mut from = 0;
     loop {

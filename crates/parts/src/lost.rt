@@ -1,14 +1,12 @@
 // Which erased disks the survivors do not determine, and how many these are.
 ghost use mathlib.Core.Path.{_≡_};
 ghost use mathlib.Core.Bool.{true};
-ghost use Prim.Native.Nat.{_≤_};
 ghost use lib.Bits.{bitOr};
 ghost use lib.Dec.{eqb};
-ghost use lib.ListN.{length};
 ghost use Rattle.stripes.specs.Erased.{erasures};
 ghost use Rattle.stripes.specs.Undetermined.{undetermined, lost};
 ghost use Rattle.model.specs.Grid.{layoutOf};
-ghost use Rattle.layout.specs.Stripe.{Numbered, stripeLimit};
+ghost use Rattle.layout.specs.Stripe.{Numbered};
 ghost use Rattle.tally.specs.Tally.{Table};
 ghost use Rattle.parts.specs.Ways.{closedBy, Walked};
 use model::Size;
@@ -43,39 +41,7 @@ pub fn is_undetermined(
     holds(closed, ways[low] ^ ways[high])
 }
 
-// `undetermined_count` with tables that are lent. What they held does not matter.
-fn count_in(
-    size: Size,
-    base: usize,
-    work: &[u8],
-    stripes: &[u8],
-    parts: &mut [u8],
-    ways: &mut [u64],
-) -> usize
-    requires { ⌜ Numbered size base ⌝ }
-    requires { ⌜ Table (layoutOf size base) (now work) (now stripes) ⌝ }
-    requires { ⌜ layoutOf size base .stripeBound ≤ length (now parts) ⌝ }
-    requires { ⌜ length (now parts) ≤ stripeLimit ⌝ }
-    requires { ⌜ length (now ways) ≡ length (now parts) ⌝ }
-    ensures { λ r. ⌜ r ≡ lost (layoutOf size base) (erasures (now (work .entry))) ⌝ }
-{
-    let closed = crate::link::link_all(size, base, work, stripes, parts, ways);
-    let mut count = 0;
-    let mut from = 0;
-    loop {
-        let d = tally::scan::next_erased(work, from);
-        if work.len() <= d {
-            return count;
-        }
-        if is_undetermined(size, base, work, stripes, ways, closed, d) {
-            count += 1;
-        }
-        from = d + 1;
-    }
-}
-
-// How many erased disks the survivors do not determine. The tables are no longer than the stripes ask for, since they are written
-// again and again.
+// How many erased disks the survivors do not determine.
 pub fn undetermined_count(size: Size, base: usize, work: &[u8], stripes: &[u8]) -> usize
     requires { ⌜ Numbered size base ⌝ }
     requires { ⌜ Table (layoutOf size base) (now work) (now stripes) ⌝ }
@@ -83,13 +49,17 @@ pub fn undetermined_count(size: Size, base: usize, work: &[u8], stripes: &[u8]) 
 {
     let mut parts = [0u8; tally::STRIPES];
     let mut ways = [0u64; tally::STRIPES];
-    let bound = layout::stripe::bound(size, base);
-    count_in(
-        size,
-        base,
-        work,
-        stripes,
-        &mut parts[..bound],
-        &mut ways[..bound],
-    )
+    let closed = crate::link::link_all(size, base, work, stripes, &mut parts, &mut ways);
+    let mut count = 0;
+    let mut from = 0;
+    loop {
+        let d = tally::scan::next_erased(work, from);
+        if work.len() <= d {
+            return count;
+        }
+        if is_undetermined(size, base, work, stripes, &ways, closed, d) {
+            count += 1;
+        }
+        from = d + 1;
+    }
 }

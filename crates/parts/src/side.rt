@@ -1,6 +1,7 @@
 // The side of a determined disk: the stripes that the other erased disks join with its lower one.
 ghost use mathlib.Core.Path.{_≡_};
 ghost use mathlib.Core.Bool.{true, false, not, _&&_};
+ghost use Prim.Native.Nat.{_≤_};
 ghost use lib.Bits.{bitOr};
 ghost use lib.Dec.{eqb};
 ghost use lib.ListN.{length};
@@ -44,8 +45,7 @@ pub fn mark(
     requires { ⌜ undetermined (layoutOf size base) (erasures (now work)) disk ≡ false ⌝ }
     requires { ⌜ Parted (layoutOf size base) (erasures (now work)) (layoutOf size base .disks) (now parts) ⌝ }
     requires { ⌜ Walked (layoutOf size base) (erasures (now work)) (layoutOf size base .disks) (now ways) ⌝ }
-    requires { ⌜ length (now parts) ≡ length (now side) ⌝ }
-    requires { ⌜ length (now ways) ≡ length (now side) ⌝ }
+    requires { ⌜ layoutOf size base .stripeBound ≤ length (now side) ⌝ }
     ensures { λ r. ⌜ SideOf (layoutOf size base) (erasures (now (work .entry))) disk (now (side .exit)) ⌝ }
 {
     let pair = tally::table::stripes_of(size, base, work, stripes, disk);
@@ -54,8 +54,9 @@ pub fn mark(
     let name = parts[low];
     let way = ways[low];
     let link = way ^ ways[high];
+    let bound = layout::stripe::bound(size, base);
     let mut s = 0;
-    while s < side.len() {
+    while s < bound {
         side[s] = beside(parts[s], name, ways[s] ^ way, link);
         s += 1;
     }

@@ -1,4 +1,5 @@
 // Tables with a place for each stripe, of the names of parts and of ways: making them, uniting two parts, and going on from one.
+// Only the places below the bound of the stripes are written: they are gone over again and again.
 ghost use mathlib.Core.Path.{_≡_};
 ghost use mathlib.Core.Bool.{cond};
 ghost use Prim.Native.Nat.{_≤_, _<_};
@@ -6,26 +7,28 @@ ghost use lib.Dec.{eqb};
 ghost use lib.ListN.{length, getD};
 ghost use Rattle.stripes.specs.Fold.{_⊕_, gate};
 ghost use Rattle.stripes.specs.Joined.{united};
-ghost use Rattle.parts.specs.Parted.{Names};
+ghost use Rattle.parts.specs.Parted.{Values};
 
 // Every stripe is a part by itself, and names it.
-pub fn start(parts: &mut [u8])
-    requires { ⌜ length (now parts) ≤ 256 ⌝ }
-    ensures { λ r. ⌜ Names (λ s. s) (now (parts .exit)) ⌝ }
+pub fn start(parts: &mut [u8], bound: usize)
+    requires { ⌜ bound ≤ length (now parts) ⌝ }
+    requires { ⌜ bound ≤ 256 ⌝ }
+    ensures { λ r. ⌜ Values (λ s. s) bound (now (parts .exit)) ⌝ }
 {
     let mut s = 0;
-    while s < parts.len() {
+    while s < bound {
         parts[s] = s as u8;
         s += 1;
     }
 }
 
 // Every way is empty.
-pub fn clear(ways: &mut [u64])
-    ensures { λ r. ⌜ Names (λ s. 0) (now (ways .exit)) ⌝ }
+pub fn clear(ways: &mut [u64], bound: usize)
+    requires { ⌜ bound ≤ length (now ways) ⌝ }
+    ensures { λ r. ⌜ Values (λ s. 0) bound (now (ways .exit)) ⌝ }
 {
     let mut s = 0;
-    while s < ways.len() {
+    while s < bound {
         ways[s] = 0;
         s += 1;
     }
@@ -41,17 +44,18 @@ fn renamed(part: u8, old: u8, name: u8) -> u8
     part
 }
 
-// The parts of two stripes become one, which has the name of the first. Every byte is written, whether it changes or not, so that the
+// The parts of two stripes become one, which has the name of the first. Every name is written, whether it changes or not, so that the
 // loop has no branch.
-pub fn unite(parts: &mut [u8], low: usize, high: usize)
-    requires { ⌜ low < length (now parts) ⌝ }
-    requires { ⌜ high < length (now parts) ⌝ }
-    ensures { λ r. ⌜ Names (united low high (λ s. getD (now (parts .entry)) s 0)) (now (parts .exit)) ⌝ }
+pub fn unite(parts: &mut [u8], bound: usize, low: usize, high: usize)
+    requires { ⌜ bound ≤ length (now parts) ⌝ }
+    requires { ⌜ low < bound ⌝ }
+    requires { ⌜ high < bound ⌝ }
+    ensures { λ r. ⌜ Values (united low high (λ s. getD (now (parts .entry)) s 0)) bound (now (parts .exit)) ⌝ }
 {
     let name = parts[low];
     let old = parts[high];
     let mut s = 0;
-    while s < parts.len() {
+    while s < bound {
         parts[s] = renamed(parts[s], old, name);
         s += 1;
     }
@@ -68,14 +72,15 @@ fn added(part: u8, old: u8, links: u64) -> u64
 }
 
 // The ways of the stripes in one part change by the same links. Every way is written, as above.
-pub fn extend(parts: &[u8], ways: &mut [u64], old: u8, links: u64)
-    requires { ⌜ length (now ways) ≡ length (now parts) ⌝ }
+pub fn extend(parts: &[u8], ways: &mut [u64], bound: usize, old: u8, links: u64)
+    requires { ⌜ bound ≤ length (now parts) ⌝ }
+    requires { ⌜ bound ≤ length (now ways) ⌝ }
     ensures { λ r. ⌜
-        Names (λ s. getD (now (ways .entry)) s 0 ⊕ gate (eqb (getD (now (parts .entry)) s 0) old) links) (now (ways .exit))
+        Values (λ s. getD (now (ways .entry)) s 0 ⊕ gate (eqb (getD (now (parts .entry)) s 0) old) links) bound (now (ways .exit))
         ⌝ }
 {
     let mut s = 0;
-    while s < parts.len() {
+    while s < bound {
         ways[s] = ways[s] ^ added(parts[s], old, links);
         s += 1;
     }

@@ -4,7 +4,6 @@ use mathlib.Core.Path.{_≡_, sym, _∙_, ap, ap₂}
 use mathlib.Core.Bool.{Bool, cond, not, _&&_}
 use mathlib.Core.List.{List}
 use Prim.Native.Nat.{ℕ, _<_}
-use native.Mathlib.Omega.{arith}
 use lib.Dec.{eqb}
 use lib.ListN.{getD}
 use Rattle.stripes.specs.Fold.{gate}
@@ -22,7 +21,7 @@ use Rattle.sums.specs.Cut.{inPart, cutSum}
 pub in-part : {L : Layout} {c : ℕ → Bool} {parts : List ℕ} → Parted L c (L .disks) parts → (t : ℕ) → t < L .stripeBound
     → (s : ℕ) → s < L .stripeBound → inPart parts (getD parts t 0) s ≡ joined L c s t
 unfolding joined part
-in-part p t k s h = let fits = p .stripesFit in ap₂ eqb (p .named s (omega arith)) (p .named t (omega arith))
+in-part p t k s h = ap₂ eqb (p .named s h) (p .named t k)
 
 -- The sum over the stripes that have a name is that over the stripes that are joined with t, if these have it.
 module _ {L : Layout} (two : TwoStripes L) (x : Stretch) (e c : ℕ → Bool) (parts : List ℕ) (name t : ℕ)

@@ -55,9 +55,9 @@ module _ {L : Layout} (two : TwoStripes L) (x : Stretch) (inside : x .offset + x
   saved-not = changed-self x inside (L .disks) a sized _ (λ i p l h. rw (and-false (eqb i d)))
 
   -- or it gets the sum over its side, the stripes that the others join with its lower one.
-  module _ (side : List ℕ) (marked : SideOf L e d side) (fits : L .stripeBound ≤ length side) where
+  module _ (side : List ℕ) (marked : SideOf L e d side) where
     on-side : (s : ℕ) → s < L .stripeBound → inPart side 1 s ≡ joined L (without e d) s (lower L d)
-    on-side s l = ap (λ (n : ℕ). eqb n 1) (marked s (omega arith)) ∙ bit-one (joined L (without e d) s (lower L d))
+    on-side s l = ap (λ (n : ℕ). eqb n 1) (marked s l) ∙ bit-one (joined L (without e d) s (lower L d))
 
     pub saved-by : {b : List ℕ}
         → b ≡ changed x a (λ i p. cond (eqb i d) (cutSum L x e (inPart side 1) a p) (byte x a i p)) → b ≡ savedIf L x a e d true

@@ -1,12 +1,11 @@
 // The determined disks that no repair reaches.
 ghost use mathlib.Core.Path.{_≡_};
 ghost use mathlib.Core.Bool.{true};
-ghost use lib.ListN.{length};
 ghost use Rattle.stripes.specs.Fold.{count};
 ghost use Rattle.stripes.specs.Erased.{erasures};
 ghost use Rattle.stripes.specs.Undetermined.{determined, saved};
 ghost use Rattle.model.specs.Grid.{layoutOf};
-ghost use Rattle.layout.specs.Stripe.{Numbered, stripeLimit};
+ghost use Rattle.layout.specs.Stripe.{Numbered};
 ghost use Rattle.tally.specs.Tally.{Table};
 ghost use Rattle.parts.specs.Parted.{Parted};
 ghost use Rattle.parts.specs.Ways.{closedBy, Walked};
@@ -36,8 +35,6 @@ fn sum_disk(
     requires { ⌜ Parted (layoutOf size base) (erasures (now work)) (layoutOf size base .disks) (now parts) ⌝ }
     requires { ⌜ Walked (layoutOf size base) (erasures (now work)) (layoutOf size base .disks) (now ways) ⌝ }
     requires { ⌜ closed ≡ closedBy (layoutOf size base) (erasures (now work)) (layoutOf size base .disks) ⌝ }
-    requires { ⌜ length (now parts) ≡ stripeLimit ⌝ }
-    requires { ⌜ length (now ways) ≡ stripeLimit ⌝ }
     ensures answer { λ r. ⌜ r ≡ determined (layoutOf size base) (erasures (now (work .entry))) disk ⌝ }
     ensures array { λ r. ⌜
         now (array .exit) ≡ savedIf (layoutOf size base) stretch (now (array .entry)) (erasures (now (work .entry))) disk r

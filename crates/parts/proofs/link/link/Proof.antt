@@ -32,13 +32,13 @@ mul-links : tie.Need-mul-links
 mul-links c = omega (arith, stripes-few (start c .pre .0), pair c .lowBound)
 
 slice-read-links : tie.Need-slice-read-links
-slice-read-links c = crossed-places (pair (c .before)) (start (c .before) .pre .1 .1 .1 .1 .0 .stripesFit) .0
+slice-read-links c = crossed-places (pair (c .before)) (start (c .before) .pre .1 .1 .1 .1 .stripesFit) .0
 
 mul-links-2 : tie.Need-mul-links-2
 mul-links-2 c = omega (arith, stripes-few (start (c .before) .pre .0), pair (c .before) .highBound)
 
 slice-read-links-2 : tie.Need-slice-read-links-2
-slice-read-links-2 c = crossed-places (pair (c .before .before)) (start (c .before .before) .pre .1 .1 .1 .1 .0 .stripesFit) .1
+slice-read-links-2 c = crossed-places (pair (c .before .before)) (start (c .before .before) .pre .1 .1 .1 .1 .stripesFit) .1
 
 slice-read-old : tie.Need-slice-read-old
 slice-read-old c = crossed-places (pair (c .before .before .before)) (start (c .before .before .before) .pre .1 .1 .1 .0 .stripesFit) .1
@@ -52,7 +52,7 @@ returns c =
     let p = c .before .before .before .before .before in
     let e = start p .pre in
     let parted = e .1 .1 .1 .0 in
-    let walked = e .1 .1 .1 .1 .0 in (
+    let walked = e .1 .1 .1 .1 in (
       parted-closed (e .1 .1 .0) (pair p) parted walked (c .if1 .taken),
       (walked-closed (e .1 .1 .0) (pair p) parted walked (c .if1 .taken), answer-closed (e .1 .1 .0) (pair p) parted walked (c .if1 .taken)),
     )
@@ -61,19 +61,30 @@ returns c =
 old-small : (p : tie.After-stripes-of) → getD (start p .args .parts .now) (p .stripes-of .result .high) 0 < 64
 old-small p =
     let e = start p .pre in
-    let parted = e .1 .1 .1 .0 in
-    let few = e .1 .1 .1 .1 .1 .0 in
-    let small = name-small parted (numbered-two (e .0)) (omega (arith, pair p .disk)) _ (crossed-places (pair p) (parted .stripesFit) .1) in
+    let few = stripes-few (e .0) in
+    let small = name-small (e .1 .1 .1 .0) (numbered-two (e .0)) (omega (arith, pair p .disk)) _ (pair p .highBound) in
     omega arith
 
 alone-requires : tie.Need-alone-requires
 alone-requires c κs = old-small (c .before .before .before .before .before)
 
+bound-requires : tie.Need-bound-requires
+bound-requires c κs = start (c .before .before .before .before .before .before) .pre .0
+
 extend-requires : tie.Need-extend-requires
-extend-requires c κs = search needs
+extend-requires c κs =
+    let e = start (c .before .before .before .before .before .before .before .before .before) .pre in
+    let is = c .before .before .bound .ensures in
+    let parts = e .1 .1 .1 .0 .stripesFit in
+    let ways = e .1 .1 .1 .1 .stripesFit in
+    (omega arith, omega arith)
 
 unite-requires : tie.Need-unite-requires
-unite-requires c κs = crossed-places (pair (c .before .before .before .before .before .before .before .before .before .before .before .before)) (start (c .before .before .before .before .before .before .before .before .before .before .before .before) .pre .1 .1 .1 .0 .stripesFit)
+unite-requires c κs =
+    let p = c .before .before .before .before .before .before .before .before .before .before .before .before .before in
+    let is = c .before .before .before .before .before .before .bound .ensures in
+    let fits = start p .pre .1 .1 .1 .0 .stripesFit in
+    (omega arith, (omega (arith, pair p .lowBound), omega (arith, pair p .highBound)))
 
 same-length : tie.Need-same-length
 same-length c = search needs
@@ -84,17 +95,17 @@ same-length-2 c = search needs
 returns-2 : tie.Need-returns-2
 unfolding _⊕_
 returns-2 c =
-    let p = c .before .before .before .before .before .before .before .before .before .before .before .before .before .before .before in
+    let p = c .before .before .before .before .before .before .before .before .before .before .before .before .before .before .before .before in
     let e = start p .pre in
     let parted = e .1 .1 .1 .0 in
-    let walked = e .1 .1 .1 .1 .0 in
-    let apart = c .before .before .before .before .before .before .before .before .before .before .if1 .left in
+    let walked = e .1 .1 .1 .1 in
+    let apart = c .before .before .before .before .before .before .before .before .before .before .before .if1 .left in
     let unite = c .before .before .unite in
-    let extend = c .before .before .before .before .before .before .extend in (
-      parted-next (e .1 .1 .0) (pair p) parted walked apart (unite .kept .0) (unite .ensures),
+    let extend = c .before .before .before .before .before .before .extend in
+    let bound = c .before .before .before .before .before .before .before .before .before .bound .ensures in (
+      parted-next (e .1 .1 .0) (pair p) parted walked apart (unite .kept .0) bound (unite .ensures),
       (
-        walked-next (e .1 .1 .0) (pair p) parted walked apart (extend .kept .1 .0) (e .1 .1 .1 .1 .1 .1) (c .before .before .before .before .before .before .before .before .before .alone .ensures)
-            (extend .ensures),
+        walked-next (e .1 .1 .0) (pair p) parted walked apart (extend .kept .1 .0) bound (c .before .before .before .before .before .before .before .before .before .before .alone .ensures) (extend .ensures),
         answer-link (e .1 .1 .0) (pair p) parted walked apart,
       ),
     )
@@ -112,6 +123,7 @@ link-spec =
     slice-read-if1
     returns
     alone-requires
+    bound-requires
     extend-requires
     unite-requires
     same-length

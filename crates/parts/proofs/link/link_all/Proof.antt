@@ -8,6 +8,7 @@ use borrow.Author.Needs.{needs}
 use lib.ListN.{length}
 use Rattle.stripes.specs.Erased.{erasures}
 use Rattle.model.specs.Grid.{layoutOf}
+use Rattle.layout.proofs.Runs.{stripes-few}
 use Rattle.tally.specs.Tally.{Passed}
 use Rattle.tally.proofs.Scanned.{next-passed, next-erased}
 use Rattle.parts.proofs.Parted.{Linking, parted-none, walked-none, linking-none, linking-over, linking-next, linking-all}
@@ -15,27 +16,37 @@ use Rattle.parts.proofs.link.link_all.Statement.{statement}
 use Rattle.parts.proofs.link.link_all.Tie as tie
 
 abbrev Inv-loop : tie.InvT-loop
-Inv-loop size base work stripes parts₀ ways₀ closed₀ from₀ parts ways closed from =
+Inv-loop size base work stripes parts₀ ways₀ bound closed₀ from₀ parts ways closed from =
     Linking (layoutOf size base) (erasures work) from parts ways closed × (from ≤ length work) × (length parts ≡ length parts₀)
     × (length ways ≡ length ways₀)
 
 abbrev μ-loop : tie.MeasureT-loop
-μ-loop size base work stripes parts₀ ways₀ closed₀ from₀ parts ways closed from = length work - from
+μ-loop size base work stripes parts₀ ways₀ bound closed₀ from₀ parts ways closed from = length work - from
+
+bound-requires : tie.Need-bound-requires Inv-loop μ-loop
+bound-requires c κs = search needs
 
 start-requires : tie.Need-start-requires Inv-loop μ-loop
-start-requires c κs = omega (arith, c .before .before .before .before .before .pre .1 .1 .1 .0)
+start-requires c κs =
+    let s = c .before .before .before .before .before .before in
+    let is = c .before .bound .ensures in
+    let few = stripes-few (s .pre .0) in
+    (omega (arith, s .pre .1 .1 .0), omega arith)
 
 clear-requires : tie.Need-clear-requires Inv-loop μ-loop
-clear-requires c κs = search needs
+clear-requires c κs =
+    let s = c .before .before .before .before .before .before .before .before .before .before in
+    let is = c .before .before .before .before .before .bound .ensures in
+    omega (arith, s .pre .1 .1 .1)
 
 loop-holds : tie.Need-loop-holds Inv-loop μ-loop
 loop-holds c =
-    let s = c .before .before .before .before .before .before .before .before .before .before .before .before in
+    let s = c .before .before .before .before .before .before .before .before .before .before .before .before .before in
     let parts = c .before .before .before .before .before .before .start .kept .0 in
     let ways = c .before .before .clear .kept .0 in
-    let fits = s .pre .1 .1 .0 in
-    let same = s .pre .1 .1 .1 .1 in (
-      linking-none (parted-none _ (omega arith) (c .before .before .before .before .before .before .start .ensures)) (walked-none _ (omega arith) (c .before .before .clear .ensures)) refl,
+    let is = c .before .before .before .before .before .before .before .before .bound .ensures in (
+      linking-none (parted-none _ (omega (arith, s .pre .1 .1 .0)) is (c .before .before .before .before .before .before .start .ensures))
+          (walked-none _ (omega (arith, s .pre .1 .1 .1)) is (c .before .before .clear .ensures)) refl,
       omega arith,
       refl,
       refl,
@@ -46,7 +57,7 @@ next-erased-requires c κs = search needs
 
 -- Where the code began.
 abbrev start : tie.At-loop Inv-loop μ-loop → tie.Start Inv-loop μ-loop
-start l = l .before .before .before .before .before .before .before .before .before .before .before .before .before
+start l = l .before .before .before .before .before .before .before .before .before .before .before .before .before .before
 
 -- The disks that a turn passes over.
 passed : (c : tie.After-next-erased Inv-loop μ-loop) → Passed (start (c .before) .args .work .now) (c .before .loop .from) (c .next-erased .result)
@@ -79,11 +90,7 @@ link-requires c κs =
     let l = t .before .before in
     let s = start l in
     let now = over (t .before) in
-    let parts = l .before .before .before .before .before .before .before .start .kept .0 in
-    let ways = l .before .before .before .clear .kept .0 in
-    let few = s .pre .1 .1 .1 .0 in
-    let same = s .pre .1 .1 .1 .1 in
-    (s .pre .0, (s .pre .1 .0, (erased t, (now .parted, (now .walked, (omega (arith, l .loop .inv .2), omega (arith, l .loop .inv .2, l .loop .inv .3)))))))
+    (s .pre .0, (s .pre .1 .0, (erased t, (now .parted, now .walked))))
 
 add-from : tie.Need-add-from Inv-loop μ-loop
 add-from c = omega (arith, c .before .before .before .before .before .before .before .if1 .left)
@@ -107,6 +114,7 @@ link-all-spec =
     (tie.spec
     Inv-loop
     μ-loop
+    bound-requires
     start-requires
     clear-requires
     loop-holds

@@ -9,10 +9,10 @@ use Rattle.parts.proofs.table.clear.Statement.{statement}
 use Rattle.parts.proofs.table.clear.Tie as tie
 
 abbrev Inv-loop : tie.InvT-loop
-Inv-loop ways₀ s₀ ways s = Filled (λ i. 0) ways₀ s ways
+Inv-loop ways₀ bound s₀ ways s = Filled (λ i. 0) ways₀ s ways
 
 abbrev μ-loop : tie.MeasureT-loop
-μ-loop ways₀ s₀ ways s = length ways₀ - s
+μ-loop ways₀ bound s₀ ways s = bound - s
 
 loop-holds : tie.Need-loop-holds Inv-loop μ-loop
 loop-holds c = filled-none _ _

@@ -12,10 +12,10 @@ use Rattle.parts.proofs.table.extend.Statement.{statement}
 use Rattle.parts.proofs.table.extend.Tie as tie
 
 abbrev Inv-loop : tie.InvT-loop
-Inv-loop parts ways₀ old links s₀ ways s = Filled (λ i. getD ways₀ i 0 ⊕ gate (eqb (getD parts i 0) old) links) ways₀ s ways
+Inv-loop parts ways₀ bound old links s₀ ways s = Filled (λ i. getD ways₀ i 0 ⊕ gate (eqb (getD parts i 0) old) links) ways₀ s ways
 
 abbrev μ-loop : tie.MeasureT-loop
-μ-loop parts ways₀ old links s₀ ways s = length parts - s
+μ-loop parts ways₀ bound old links s₀ ways s = bound - s
 
 loop-holds : tie.Need-loop-holds Inv-loop μ-loop
 loop-holds c = filled-none _ _

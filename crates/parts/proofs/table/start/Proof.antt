@@ -9,10 +9,10 @@ use Rattle.parts.proofs.table.start.Statement.{statement}
 use Rattle.parts.proofs.table.start.Tie as tie
 
 abbrev Inv-loop : tie.InvT-loop
-Inv-loop parts₀ s₀ parts s = Filled (λ i. i) parts₀ s parts
+Inv-loop parts₀ bound s₀ parts s = Filled (λ i. i) parts₀ s parts
 
 abbrev μ-loop : tie.MeasureT-loop
-μ-loop parts₀ s₀ parts s = length parts₀ - s
+μ-loop parts₀ bound s₀ parts s = bound - s
 
 loop-holds : tie.Need-loop-holds Inv-loop μ-loop
 loop-holds c = filled-none _ _

@@ -13,10 +13,10 @@ use Rattle.parts.proofs.table.unite.Statement.{statement}
 use Rattle.parts.proofs.table.unite.Tie as tie
 
 abbrev Inv-loop : tie.InvT-loop
-Inv-loop parts₀ low high name old s₀ parts s = Filled (united low high (λ i. getD parts₀ i 0)) parts₀ s parts
+Inv-loop parts₀ bound low high name old s₀ parts s = Filled (united low high (λ i. getD parts₀ i 0)) parts₀ s parts
 
 abbrev μ-loop : tie.MeasureT-loop
-μ-loop parts₀ low high name old s₀ parts s = length parts₀ - s
+μ-loop parts₀ bound low high name old s₀ parts s = bound - s
 
 slice-read-name : tie.Need-slice-read-name Inv-loop μ-loop
 slice-read-name c = search needs

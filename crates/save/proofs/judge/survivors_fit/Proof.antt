@@ -31,7 +31,7 @@ link-all-requires : tie.Need-link-all-requires Inv-loop μ-loop
 link-all-requires c κs =
     let s = c .before .before .before .before .before in
     let few = stripes-few (s .pre .0) in
-    (s .pre .0, (s .pre .1 .1, (omega arith, (search needs, search needs))))
+    (s .pre .0, (s .pre .1 .1, (omega arith, omega arith)))
 
 bound-requires : tie.Need-bound-requires Inv-loop μ-loop
 bound-requires c κs = c .before .before .before .before .before .before .before .before .pre .0

@@ -21,7 +21,7 @@ start c = c .before .before .before .before .before .before
 is-undetermined-requires : tie.Need-is-undetermined-requires
 is-undetermined-requires c κs =
     let p = c .before .before .before .before .before .pre in
-    (p .0, (p .1 .1 .0, (p .1 .1 .1 .0, (p .1 .1 .1 .1 .1 .0, p .1 .1 .1 .1 .1 .1 .0))))
+    (p .0, (p .1 .1 .0, (p .1 .1 .1 .0, (p .1 .1 .1 .1 .1 .0, p .1 .1 .1 .1 .1 .1))))
 
 returns : tie.Need-returns
 returns c =
@@ -41,9 +41,8 @@ mark-requires : tie.Need-mark-requires
 mark-requires c κs =
     let p = start (c .before .before) .pre in
     let off = sym (c .before .before .is-undetermined .ensures) ∙ c .before .if1 .left in
-    let parts = p .1 .1 .1 .1 .1 .1 .1 .0 in
-    let ways = p .1 .1 .1 .1 .1 .1 .1 .1 in
-    (p .0, (p .1 .1 .0, (p .1 .1 .1 .0, (off, (p .1 .1 .1 .1 .0, (p .1 .1 .1 .1 .1 .0, (parts, ways)))))))
+    let few = stripes-few (p .0) in
+    (p .0, (p .1 .1 .0, (p .1 .1 .1 .0, (off, (p .1 .1 .1 .1 .0, (p .1 .1 .1 .1 .1 .0, omega arith))))))
 
 slice-aggregate-fill : tie.Need-slice-aggregate-fill
 slice-aggregate-fill c = search needs
@@ -71,12 +70,10 @@ returns-2 c =
     let a = s .args in
     let L = layoutOf (a .size) (a .base) in
     let e = erasures (a .work .now) in
-    let few = stripes-few (s .pre .0) in
-    let long = c .before .before .before .before .before .before .before .before .mark .kept .1 .1 .1 .1 .1 .1 .1 .0 in
     let off = sym (c .before .before .before .before .before .before .before .before .before .before .before .is-undetermined .ensures) ∙ c .before .before .before .before .before .before .before .before .before .before .if1 .left in (
       sym (determined-not L e (a .disk) (s .pre .1 .1 .1 .0) ∙ ap not off),
       saved-by (layout-two (a .size) (a .base) (s .pre .0 .above)) (a .stretch) (s .pre .1 .0 .inside) e (a .array .now)
-          (sized-as (a .size) (a .base) (s .pre .1 .0)) (a .disk) (c .before .before .before .before .before .before .before .before .mark .last .1 .1 .1 .1 .1 .1 .1 .0) (c .before .before .before .before .before .before .before .before .mark .ensures) (omega arith) (c .before .before .before .fill .ensures),
+          (sized-as (a .size) (a .base) (s .pre .1 .0)) (a .disk) (c .before .before .before .before .before .before .before .before .mark .last .1 .1 .1 .1 .1 .1 .1 .0) (c .before .before .before .before .before .before .before .before .mark .ensures) (c .before .before .before .fill .ensures),
     )
 
 pub sum-disk-spec : {M : Type 1} → statement M

@@ -36,7 +36,7 @@ link-all-requires : tie.Need-link-all-requires Inv-loop μ-loop
 link-all-requires c κs =
     let s = c .before .before .before .before .before in
     let few = stripes-few (s .pre .0) in
-    (s .pre .0, (s .pre .1 .1, (omega arith, (search needs, search needs))))
+    (s .pre .0, (s .pre .1 .1, (omega arith, omega arith)))
 
 loop-holds : tie.Need-loop-holds Inv-loop μ-loop
 loop-holds c =
@@ -88,7 +88,7 @@ sum-disk-requires c κs =
     let held : Held (s .args .size) (s .args .stretch) (l .loop .array) =
     record { inside = s .pre .1 .0 .inside; block = s .pre .1 .0 .block; sized = l .loop .inv .2 ∙ s .pre .1 .0 .sized } in
     let all = l .before .before .before .link-all .ensures in
-    (s .pre .0, (held, (s .pre .1 .1, (erased t, (all .0, (all .1 .0, (all .1 .1, (search needs, search needs))))))))
+    (s .pre .0, (held, (s .pre .1 .1, (erased t, (all .0, (all .1 .0, all .1 .1))))))
 
 -- Its number is small.
 small : (c : tie.Else1 Inv-loop μ-loop) → c .before .next-erased .result < 256
