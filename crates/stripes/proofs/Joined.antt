@@ -179,3 +179,9 @@ module _ (L : Layout) (c : ℕ → Bool) where
       neither : (b : Bool) → cond b (not b) b ≡ false
       neither true = refl
       neither false = refl
+
+  -- One between stripes that are not joined has just one of them in the part of the lower one.
+  pub apart-crosses : (d : ℕ) → joined L c (lower L d) (higher L d) ≡ false → crosses L (λ s. joined L c s (lower L d)) d ≡ true
+  unfolding crosses
+  apart-crosses d h =
+      ap₂ (λ (s t : Bool). cond s (not t) t) (joined-self (lower L d)) (joined-comm (higher L d) (lower L d) ∙ h)

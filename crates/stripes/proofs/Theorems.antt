@@ -7,10 +7,11 @@ use mathlib.Core.List.{List}
 use Prim.Native.Nat.{ℕ, _+_, _*_, _≤_, _<_}
 use lib.ListN.{length, take, drop}
 use Rattle.stripes.specs.Fold.{count}
-use Rattle.stripes.specs.System.{Layout, Ordered, TwoStripes, whole, byte, Codeword, Bytes, consistent}
+use Rattle.stripes.specs.System.{Layout, Ordered, TwoStripes, lower, higher, whole, byte, Codeword, Bytes, consistent}
 use Rattle.stripes.specs.Erased.{without, Agree, Belongs, Ambiguous, AmbiguousIn, LostCount}
 use Rattle.stripes.specs.Repair.{Entry, diskOf, Peels, repairs, after, residual, fatal, rebuilt, InOrder}
 use Rattle.stripes.specs.Cycle.{Cycle, shownCycle}
+use Rattle.stripes.specs.Joined.{joined}
 use Rattle.stripes.specs.Undetermined.{undetermined, determined, lost, partsCancel, savedByte}
 use Rattle.stripes.specs.declared.Stretch.{Stretch}
 use Rattle.stripes.proofs.Fold.{by-cases}
@@ -21,7 +22,7 @@ use Rattle.stripes.proofs.Core.{ambiguous}
 use Rattle.stripes.proofs.Trace.{cycle-fatal, shown}
 use Rattle.stripes.proofs.Restore.{judge, restored-is, unique}
 use Rattle.stripes.proofs.Split.{repairs-rest, fatal-rest}
-use Rattle.stripes.proofs.Undetermined.{saved-byte, belongs-iff, undetermined-iff}
+use Rattle.stripes.proofs.Undetermined.{saved-byte, belongs-iff, damage-shown, any-bytes, undetermined-iff}
 use Rattle.stripes.proofs.Saved.{fatal-lost as Saved·fatal-lost, reached-determined as Saved·reached-determined, undetermined-after, lost-fewer, lost-tells, shown-undetermined}
 
 -- ---- where the stripes of a disk are listed in rising order
@@ -105,6 +106,12 @@ module _ (L : Layout) (two : TwoStripes L) (e : ℕ → Bool) where
     unfolding lost
     lost-counted inside some = (undetermined L e, refl, undetermined-differ inside some)
 
+    -- The survivors of a codeword say nothing of any one of them: they belong to a codeword with any bytes there.
+    pub any-bytes-fit : x .offset + x .width ≤ x .block → (b : List ℕ) → Codeword L x b → (d : ℕ) → d < L .disks → undetermined L e d ≡ true
+        → (v : ℕ → ℕ) → ((p : ℕ) → v p < 256)
+        → (c : List ℕ) × Codeword L x c × Agree L x e b c × ((p : ℕ) → p < x .width → byte x c d p ≡ v p)
+    any-bytes-fit = any-bytes L two x e
+
     -- Every determined disk is saved: sums of survivors give it the bytes of the codeword that the survivors belong to.
     pub all-saved : (a b : List ℕ) → Codeword L x b → Agree L x e a b → (d : ℕ) → d < L .disks → determined L e d ≡ true
         → (p : ℕ) → p < x .width → savedByte L x e a d p ≡ byte x b d p
@@ -114,6 +121,13 @@ module _ (L : Layout) (two : TwoStripes L) (e : ℕ → Bool) where
     pub parts-judged : x .offset + x .width ≤ x .block → (a : List ℕ) → length a ≡ L .disks * x .block → Bytes a
         → (partsCancel L x e a ≡ true) ↔ Belongs L x e a
     parts-judged = belongs-iff L two x e
+
+    -- Where just one survivor differs from a codeword, they still cancel exactly if the erased disks join the two stripes of that disk.
+    pub damage-shows : (a b : List ℕ) → Codeword L x b → (d : ℕ) → d < L .disks → e d ≡ false
+        → ((i : ℕ) → i < L .disks → e i ≡ false → (i ≡ d → ⊥) → (p : ℕ) → p < x .width → byte x a i p ≡ byte x b i p)
+        → (p : ℕ) × (p < x .width) × (byte x a d p ≡ byte x b d p → ⊥)
+        → partsCancel L x e a ≡ joined L e (lower L d) (higher L d)
+    damage-shows = damage-shown L two x e
 
   module _ (w : List Entry) (peels : Peels L e w) where
     -- What repairs bring back is determined,

@@ -14,14 +14,14 @@ use Rattle.stripes.specs.Erased.{without, Agree, Belongs, AmbiguousIn}
 use Rattle.stripes.specs.Joined.{part, joined, crosses}
 use Rattle.stripes.specs.Undetermined.{undetermined, determined, survivorSum, partSum, partsCancel, savedByte}
 use Rattle.stripes.specs.declared.Stretch.{Stretch}
-use Rattle.stripes.proofs.Xor.{⊕-self, ⊕-zero, zero-⊕, ⊕-cancel, equal-of-zero}
-use Rattle.stripes.proofs.Fold.{fails-with, eqb-comm, bit-gate, and-left, and-right, and-both, by-cases, xsum-ext, xsum-zero, xsum-only, xsum-at, xsum-byte, xsum-⊕, gate-zero, gate-and, gate-split, gate-small, every-at, every-all}
+use Rattle.stripes.proofs.Xor.{⊕-self, ⊕-zero, zero-⊕, ⊕-byte, ⊕-cancel, equal-of-zero, zero-of-equal}
+use Rattle.stripes.proofs.Fold.{fails-with, eqb-comm, bit-gate, and-left, and-right, and-both, by-cases, xsum-ext, xsum-zero, xsum-only, xsum-at, xsum-byte, xsum-⊕, gate-⊕, gate-zero, gate-and, gate-split, gate-small, every-at, every-all, every-not}
 use Rattle.stripes.proofs.Bytes.{small-byte, length-changed, changed-small, byte-changed}
 use Rattle.stripes.proofs.Sums.{sumOver-ext, sumOver-⊕, sumOver-xsum}
 use Rattle.stripes.proofs.Peel.{without-at, without-other, without-sub}
 use Rattle.stripes.proofs.Core.{ones-differ}
 use Rattle.stripes.proofs.Restore.{agree-gate}
-use Rattle.stripes.proofs.Joined.{is-joined, joined-self, joined-comm, joined-part, joined-disk, joined-whole}
+use Rattle.stripes.proofs.Joined.{lower-bound, is-joined, joined-part, joined-disk, joined-whole, apart-crosses}
 use Rattle.stripes.proofs.Ends.{Ends, ends-wider, ends-back, ends-chain, ends-disk, joined-ends-of, cut-sum}
 
 -- ---- sums over a part
@@ -49,10 +49,7 @@ module _ (L : Layout) (e : ℕ → Bool) (d : ℕ) where
 
   -- So of its two stripes just one is in the part of the lower one.
   determined-crosses : determined L e d ≡ true → crosses L (λ s. joined L (without e d) s (lower L d)) d ≡ true
-  unfolding crosses
-  determined-crosses h =
-      ap₂ (λ (s t : Bool). cond s (not t) t) (joined-self L (without e d) (lower L d))
-      (joined-comm L (without e d) (higher L d) (lower L d) ∙ determined-apart h)
+  determined-crosses h = apart-crosses L (without e d) d (determined-apart h)
 
 module _ (L : Layout) (two : TwoStripes L) (x : Stretch) (e : ℕ → Bool) where
   -- The survivors' sum over a part is that of the survivors that have just one of their two stripes there.
@@ -202,6 +199,43 @@ module _ (L : Layout) (two : TwoStripes L) (x : Stretch) (e : ℕ → Bool) wher
         every-all (x .width) (λ p h. eq-eqb (partSum L x e e a p t) 0 (part-cancels L two x e a b word same p h t))),
   )
 
+-- ---- whether one damaged survivor shows
+module _ (L : Layout) (two : TwoStripes L) (x : Stretch) (e : ℕ → Bool) (a b : List ℕ) (word : Codeword L x b)
+    (d : ℕ) (l : d < L .disks) (kept : e d ≡ false)
+    (same : (i : ℕ) → i < L .disks → e i ≡ false → (i ≡ d → ⊥) → (p : ℕ) → p < x .width → byte x a i p ≡ byte x b i p) where
+  -- Survivors of a codeword but for disk d: their sum over a part is what d differs by, if d has just one of its two stripes there.
+  damage-sum : (p t : ℕ) → p < x .width → partSum L x e e a p t ≡ gate (crosses L (λ s. joined L e s t) d) (byte x a d p ⊕ byte x b d p)
+  unfolding gate
+  damage-sum p t h =
+      let cross : ℕ → Bool = crosses L (λ s. joined L e s t) in
+      sym (⊕-zero _)
+      ∙ ap₂ (λ (v w : ℕ). v ⊕ w) (part-cut L two x e e a p t)
+      (sym (part-cancels L two x e b b word (λ i w k p h. refl) p h t) ∙ part-cut L two x e e b p t)
+      ∙ sym (xsum-⊕ (L .disks) (λ i. gate (not (e i) && cross i) (byte x a i p)) (λ i. gate (not (e i) && cross i) (byte x b i p)))
+      ∙ xsum-only (L .disks) d l (λ i w q.
+      by-cases (λ (u : Bool). gate (not u && cross i) (byte x a i p) ⊕ gate (not u && cross i) (byte x b i p) ≡ 0) (e i)
+      (λ k. ⊕-self 0)
+      (λ k. zero-of-equal _ _ (ap (gate (cross i)) (same i w k q p h))))
+      ∙ sym (gate-⊕ (not (e d) && cross d) (byte x a d p) (byte x b d p))
+      ∙ ap (λ (u : Bool). gate (not u && cross d) (byte x a d p ⊕ byte x b d p)) kept
+
+  -- So one damaged survivor shows exactly if the erased disks do not join its two stripes.
+  pub damage-shown : (p : ℕ) × (p < x .width) × (byte x a d p ≡ byte x b d p → ⊥)
+      → partsCancel L x e a ≡ joined L e (lower L d) (higher L d)
+  unfolding partsCancel gate
+  damage-shown (p, h, differ) =
+      by-cases (λ (u : Bool). partsCancel L x e a ≡ u) (joined L e (lower L d) (higher L d))
+      (λ k.
+      every-all (L .stripeBound) (λ t m.
+      every-all (x .width) (λ q n.
+      eq-eqb (partSum L x e e a q t) 0 (damage-sum q t n ∙ ap (λ (u : Bool). gate u (byte x a d q ⊕ byte x b d q)) (joined-whole L e d t k)))))
+      (λ k.
+      every-not (L .stripeBound) _ (lower L d) (lower-bound L two d l)
+      (every-not (x .width) _ p h
+      (ne-eqb (partSum L x e e a p (lower L d)) 0 (λ none.
+      differ (equal-of-zero _ _
+      (sym (damage-sum p (lower L d) h ∙ ap (λ (u : Bool). gate u (byte x a d p ⊕ byte x b d p)) (apart-crosses L e d k)) ∙ none))))))
+
 -- ---- which disks are undetermined
 
 -- Two codewords that agree on the survivors differ in erased disks only.
@@ -221,6 +255,32 @@ module _ (L : Layout) (two : TwoStripes L) (x : Stretch) (e : ℕ → Bool) wher
             (ends-disk L e two d l (and-left (e d) _ h))
             (ends-wider L c e (without-sub e d) (higher L d) (lower L d) (ends-back L c (lower L d) (higher L d) f)),
         ap₂ (λ (s t : Bool). cond s (not t) t) (eq-eqb d d refl) out,
+      )
+
+  -- So the survivors of a codeword say nothing of an undetermined disk: they belong to a codeword with any bytes there.
+  pub any-bytes : x .offset + x .width ≤ x .block → (b : List ℕ) → Codeword L x b → (d : ℕ) → d < L .disks → undetermined L e d ≡ true
+      → (v : ℕ → ℕ) → ((p : ℕ) → v p < 256)
+      → (c : List ℕ) × Codeword L x c × Agree L x e b c × ((p : ℕ) → p < x .width → byte x c d p ≡ v p)
+  unfolding gate stripeSum
+  any-bytes inside b word d l h v small =
+      let (f, here) = closed d l h in
+      let w : ℕ → ℕ = λ p. byte x b d p ⊕ v p in
+      let g : ℕ → ℕ → ℕ = λ i p. byte x b i p ⊕ gate (f .set i) (w p) in
+      let own : (i p : ℕ) → byte x b i p < 256 = small-byte b (word .bytes) x in
+      let at : (i p : ℕ) → i < L .disks → p < x .width → byte x (changed x b g) i p ≡ g i p =
+      byte-changed x inside (L .disks) b (word .sized) g in (
+        changed x b g,
+        record {
+          sized = length-changed x b g ∙ word .sized;
+          bytes = changed-small x b g (λ i p. ⊕-byte (own i p) (gate-small (f .set i) (⊕-byte (own d p) (small p)))) (word .bytes);
+          sums = λ s k p q.
+              sumOver-ext L (λ i m. at i p m q) s ∙ sumOver-⊕ L (λ i. byte x b i p) (λ i. gate (f .set i) (w p)) s
+              ∙ ap₂ (λ (y z : ℕ). y ⊕ z) (word .sums s k p q) (f .sum (w p) s ∙ ⊕-self _) ∙ ⊕-self 0;
+        },
+        λ i m k p q.
+            sym (at i p m q ∙ ap (λ (t : Bool). byte x b i p ⊕ gate t (w p)) (fails-with (f .set i) (e i) (f .within i) k)
+            ∙ ⊕-zero (byte x b i p)),
+        λ p q. at d p l q ∙ ap (λ (t : Bool). byte x b d p ⊕ gate t (w p)) here ∙ ⊕-cancel (byte x b d p) (v p),
       )
 
   -- The survivors leave exactly the undetermined disks open: ones on such a set are a codeword, as zeros are, and a determined disk has
