@@ -50,6 +50,28 @@ unfolding wayBy
 walked-none e fits is names = record { stripesFit = fits; walked = λ s l. names s (omega arith) }
 
 -- ---- one disk more
+module _ {L : Layout} {e : ℕ → Bool} {k low high : ℕ} (here : e k ≡ true) (x : Crossed L k low high) {parts : List ℕ}
+    (p : Parted L e k parts) where
+  -- Its two parts become one.
+  pub parted-next : {after : List ℕ} → length after ≡ length parts → {n : ℕ} → n ≡ L .stripeBound
+      → Values (united low high (λ s. getD parts s 0)) n after → Parted L e (k + 1) after
+  unfolding united
+  parted-next same bound names =
+      record {
+        stripesFit = let fits = p .stripesFit in omega arith;
+        named = λ s b.
+            names s (omega arith)
+            ∙ rw (
+              p .named s b,
+              p .named low (x .lowBound),
+              p .named high (x .highBound),
+              add-one k,
+              part-united L e k here,
+              higher-crossed x,
+              lower-crossed x,
+            );
+      }
+
 module _ {L : Layout} {e : ℕ → Bool} {k low high : ℕ} (here : e k ≡ true) (x : Crossed L k low high) {parts ways : List ℕ}
     (p : Parted L e k parts) (w : Walked L e k ways) where
   -- What the tables say of it.
@@ -78,29 +100,10 @@ module _ {L : Layout} {e : ℕ → Bool} {k low high : ℕ} (here : e k ≡ true
     unfolding gate
     answer-closed = read-between ∙ rw joins refl
 
-  -- It is a link: two parts become one, and ways go on over it.
+  -- It is a link, and ways go on over it.
   module _ (apart : getD parts low 0 ≡ getD parts high 0 → ⊥) where
     off : joinedBefore L e k ≡ false
     off = sym read-joined ∙ ne-eqb _ _ apart
-
-    pub parted-next : {after : List ℕ} → length after ≡ length parts → {n : ℕ} → n ≡ L .stripeBound
-        → Values (united low high (λ s. getD parts s 0)) n after → Parted L e (k + 1) after
-    unfolding united
-    parted-next same bound names =
-        record {
-          stripesFit = let fits = p .stripesFit in omega arith;
-          named = λ s b.
-              names s (omega arith)
-              ∙ rw (
-                p .named s b,
-                p .named low (x .lowBound),
-                p .named high (x .highBound),
-                add-one k,
-                part-united L e k here,
-                higher-crossed x,
-                lower-crossed x,
-              );
-        }
 
     pub walked-next : {after : List ℕ} → length after ≡ length ways → {n : ℕ} → n ≡ L .stripeBound → {link : ℕ} → link ≡ 2 ^ getD parts high 0
         → Values (λ s. getD ways s 0 ⊕ gate (eqb (getD parts s 0) (getD parts high 0)) (getD ways low 0 ⊕ getD ways high 0 ⊕ link)) n after
@@ -160,6 +163,18 @@ module _ (L : Layout) (e : ℕ → Bool) (j k : ℕ) (l : j ≤ k) (none : (i : 
   same-closed : closedBy L e k ≡ closedBy L e j
   same-closed = skip (closedBy L e) j k l (λ i a b. closed-kept L e i (none i a b))
 
+module _ {L : Layout} {e : ℕ → Bool} {parts : List ℕ} where
+  parted-as : (j k : ℕ) → partBy L e j ≡ partBy L e k → Parted L e j parts → Parted L e k parts
+  parted-as j k same p = record { stripesFit = p .stripesFit; named = λ s b. p .named s b ∙ ap (λ (f : ℕ → ℕ). f s) same }
+
+  module _ (j k : ℕ) (l : j ≤ k) (none : (i : ℕ) → j ≤ i → i < k → e i ≡ false) where
+    -- Disks that are present are passed over, forwards and back.
+    pub parted-over : Parted L e j parts → Parted L e k parts
+    parted-over = parted-as j k (sym (same-part L e j k l none))
+
+    pub parted-back : Parted L e k parts → Parted L e j parts
+    parted-back = parted-as k j (same-part L e j k l none)
+
 module _ {L : Layout} {e : ℕ → Bool} {parts ways : List ℕ} {links : ℕ} where
   pub linking-none : Parted L e 0 parts → Walked L e 0 ways → links ≡ 0 → Linking L e 0 parts ways links
   unfolding closedBy
@@ -169,11 +184,7 @@ module _ {L : Layout} {e : ℕ → Bool} {parts ways : List ℕ} {links : ℕ} w
       → Linking L e j parts ways links → Linking L e k parts ways links
   linking-as j k part way closed l =
       record {
-        parted =
-            record {
-              stripesFit = l .parted .stripesFit;
-              named = λ s b. l .parted .named s b ∙ ap (λ (f : ℕ → ℕ). f s) part;
-            };
+        parted = parted-as j k part (l .parted);
         walked =
             record {
               stripesFit = l .walked .stripesFit;
@@ -183,7 +194,6 @@ module _ {L : Layout} {e : ℕ → Bool} {parts ways : List ℕ} {links : ℕ} w
       }
 
   module _ (j k : ℕ) (l : j ≤ k) (none : (i : ℕ) → j ≤ i → i < k → e i ≡ false) where
-    -- Disks that are present are passed over, forwards and back.
     pub linking-over : Linking L e j parts ways links → Linking L e k parts ways links
     linking-over = linking-as j k (sym (same-part L e j k l none)) (sym (same-way L e j k l none)) (sym (same-closed L e j k l none))
 
@@ -203,3 +213,7 @@ pub linking-all : {L : Layout} {work stripes : List ℕ} → Table L work stripe
     → Linking L (erasures work) k parts ways links → Linking L (erasures work) (L .disks) parts ways links
 linking-all {L} {work} t {k} end l =
     linking-back (L .disks) k (let fits = t .disksFit in omega arith) (λ i a b. t .inside i a) l
+
+pub parted-all : {L : Layout} {work stripes : List ℕ} → Table L work stripes → {k : ℕ} {parts : List ℕ} → length work ≤ k
+    → Parted L (erasures work) k parts → Parted L (erasures work) (L .disks) parts
+parted-all {L} {work} t {k} end p = parted-back (L .disks) k (let fits = t .disksFit in omega arith) (λ i a b. t .inside i a) p

@@ -66,9 +66,8 @@ pub fn survivors_fit(
     ensures { λ r. ⌜ r ≡ partsCancel (layoutOf size base) stretch (erasures (now (work .entry))) (now (array .entry)) ⌝ }
 {
     let mut parts = [0u8; tally::STRIPES];
-    let mut ways = [0u64; tally::STRIPES];
     let mut list = [0u32; tally::DISKS];
-    parts::link::link_all(size, base, work, stripes, &mut parts, &mut ways);
+    parts::join::join_all(size, base, work, stripes, &mut parts);
     let bound = layout::stripe::bound(size, base);
     let mut s = 0;
     while s < bound {

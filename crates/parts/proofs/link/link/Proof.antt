@@ -103,7 +103,7 @@ returns-2 c =
     let unite = c .before .before .unite in
     let extend = c .before .before .before .before .before .before .extend in
     let bound = c .before .before .before .before .before .before .before .before .before .bound .ensures in (
-      parted-next (e .1 .1 .0) (pair p) parted walked apart (unite .kept .0) bound (unite .ensures),
+      parted-next (e .1 .1 .0) (pair p) parted (unite .kept .0) bound (unite .ensures),
       (
         walked-next (e .1 .1 .0) (pair p) parted walked apart (extend .kept .1 .0) bound (c .before .before .before .before .before .before .before .before .before .before .alone .ensures) (extend .ensures),
         answer-link (e .1 .1 .0) (pair p) parted walked apart,

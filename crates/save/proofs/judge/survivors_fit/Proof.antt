@@ -21,20 +21,17 @@ Inv-loop size base stretch array work stripes parts list₀ bound s₀ list s =
 abbrev μ-loop : tie.MeasureT-loop
 μ-loop size base stretch array work stripes parts list₀ bound s₀ list s = bound - s
 
-slice-aggregate-link-all : tie.Need-slice-aggregate-link-all Inv-loop μ-loop
-slice-aggregate-link-all c = search needs
+slice-aggregate-join-all : tie.Need-slice-aggregate-join-all Inv-loop μ-loop
+slice-aggregate-join-all c = search needs
 
-slice-aggregate-link-all-2 : tie.Need-slice-aggregate-link-all-2 Inv-loop μ-loop
-slice-aggregate-link-all-2 c = search needs
-
-link-all-requires : tie.Need-link-all-requires Inv-loop μ-loop
-link-all-requires c κs =
-    let s = c .before .before .before .before .before in
+join-all-requires : tie.Need-join-all-requires Inv-loop μ-loop
+join-all-requires c κs =
+    let s = c .before .before .before .before in
     let few = stripes-few (s .pre .0) in
-    (s .pre .0, (s .pre .1 .1, (omega arith, omega arith)))
+    (s .pre .0, (s .pre .1 .1, omega arith))
 
 bound-requires : tie.Need-bound-requires Inv-loop μ-loop
-bound-requires c κs = c .before .before .before .before .before .before .before .before .pre .0
+bound-requires c κs = c .before .before .before .before .before .before .pre .0
 
 loop-holds : tie.Need-loop-holds Inv-loop μ-loop
 loop-holds c = (passing-none, search needs, refl)
@@ -47,8 +44,8 @@ slice-aggregate-part-fits-2 c = search needs
 
 part-fits-requires : tie.Need-part-fits-requires Inv-loop μ-loop
 part-fits-requires c κs =
-    let s = c .before .before .before .before .before .before .before .before .before .before .before .before .before in
-    let parted = c .before .before .before .before .before .before .before .link-all .ensures .0 in
+    let s = c .before .before .before .before .before .before .before .before .before .before .before in
+    let parted = c .before .before .before .before .before .before .join-all .ensures in
     let fits = parted .stripesFit in
     let is = c .before .before .before .before .bound .ensures in
     let h = c .before .before .loop-test .taken in
@@ -60,15 +57,15 @@ part-fits-requires c κs =
 
 returns : tie.Need-returns Inv-loop μ-loop
 returns c =
-    let s = c .before .before .before .before .before .before .before .before .before .before .before .before .before .before .before .before in
+    let s = c .before .before .before .before .before .before .before .before .before .before .before .before .before .before in
     let is = c .before .before .before .before .before .before .before .bound .ensures in
     let h = c .before .before .before .before .before .loop-test .taken in
-    one-fails (layout-two (s .args .size) (s .args .base) (s .pre .0 .above)) (s .args .stretch) (c .before .before .before .before .before .before .before .before .before .before .link-all .ensures .0) (s .args .array .now)
+    one-fails (layout-two (s .args .size) (s .args .base) (s .pre .0 .above)) (s .args .stretch) (c .before .before .before .before .before .before .before .before .before .join-all .ensures) (s .args .array .now)
     (c .before .before .before .before .before .before .loop .s) (omega arith) (c .before .before .part-fits .ensures) (not-true _ (c .if1 .taken))
 
 add-s : tie.Need-add-s Inv-loop μ-loop
 add-s c =
-    let few = stripes-few (c .before .before .before .before .before .before .before .before .before .before .before .before .before .before .before .before .pre .0) in
+    let few = stripes-few (c .before .before .before .before .before .before .before .before .before .before .before .before .before .before .pre .0) in
     let is = c .before .before .before .before .before .before .before .bound .ensures in
     omega (arith, c .before .before .before .before .before .loop-test .taken)
 
@@ -77,10 +74,10 @@ loop-less c = omega (arith, c .before .before .before .before .before .loop-test
 
 loop-again : tie.Need-loop-again Inv-loop μ-loop
 loop-again c =
-    let s = c .before .before .before .before .before .before .before .before .before .before .before .before .before .before .before .before in
+    let s = c .before .before .before .before .before .before .before .before .before .before .before .before .before .before in
     let is = c .before .before .before .before .before .before .before .bound .ensures in
     let h = c .before .before .before .before .before .loop-test .taken in (
-      passing-next (layout-two (s .args .size) (s .args .base) (s .pre .0 .above)) (s .args .stretch) (c .before .before .before .before .before .before .before .before .before .before .link-all .ensures .0) (s .args .array .now)
+      passing-next (layout-two (s .args .size) (s .args .base) (s .pre .0 .above)) (s .args .stretch) (c .before .before .before .before .before .before .before .before .before .join-all .ensures) (s .args .array .now)
           (c .before .before .before .before .before .before .loop .s) (omega arith) (c .before .before .before .before .before .before .loop .inv .0) (c .before .before .part-fits .ensures) (not-false _ (c .if1 .left)),
       omega arith,
       search needs,
@@ -88,12 +85,12 @@ loop-again c =
 
 returns-2 : tie.Need-returns-2 Inv-loop μ-loop
 returns-2 c =
-    let s = c .before .before .before .before .before .before .before .before .before .before .before in
+    let s = c .before .before .before .before .before .before .before .before .before in
     let is = c .before .before .bound .ensures in
     let L = layoutOf (s .args .size) (s .args .base) in
     let end : c .before .loop .s ≡ L .stripeBound = omega (arith, c .loop-test .left, c .before .loop .inv .1) in
-    all-pass (layout-two (s .args .size) (s .args .base) (s .pre .0 .above)) (s .args .stretch) (c .before .before .before .before .before .link-all .ensures .0) (s .args .array .now)
-    (subst (λ (k : ℕ). Passing L (s .args .stretch) (erasures (s .args .work .now)) (s .args .array .now) (c .before .before .before .before .before .link-all .last .1 .1 .1 .1 .0) k) end (c .before .loop .inv .0))
+    all-pass (layout-two (s .args .size) (s .args .base) (s .pre .0 .above)) (s .args .stretch) (c .before .before .before .before .join-all .ensures) (s .args .array .now)
+    (subst (λ (k : ℕ). Passing L (s .args .stretch) (erasures (s .args .work .now)) (s .args .array .now) (c .before .before .before .before .join-all .last .1 .1 .1 .1 .0) k) end (c .before .loop .inv .0))
 
 pub survivors-fit-spec : {M : Type 1} → statement M
 survivors-fit-spec =
@@ -101,9 +98,8 @@ survivors-fit-spec =
     (tie.spec
     Inv-loop
     μ-loop
-    slice-aggregate-link-all
-    slice-aggregate-link-all-2
-    link-all-requires
+    slice-aggregate-join-all
+    join-all-requires
     bound-requires
     loop-holds
     slice-aggregate-part-fits
