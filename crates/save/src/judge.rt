@@ -25,7 +25,7 @@ fn part_fits(
     work: &[u8],
     parts: &[u8],
     stripe: usize,
-    list: &mut [u32],
+    list: &mut [u16],
 ) -> bool
     requires { ⌜ Numbered size base ⌝ }
     requires { ⌜ Held size stretch (now array) ⌝ }
@@ -66,7 +66,7 @@ pub fn survivors_fit(
     ensures { λ r. ⌜ r ≡ partsCancel (layoutOf size base) stretch (erasures (now (work .entry))) (now (array .entry)) ⌝ }
 {
     let mut parts = [0u8; tally::STRIPES];
-    let mut list = [0u32; tally::DISKS];
+    let mut list = [0u16; tally::DISKS];
     parts::join::join_all(size, base, work, stripes, &mut parts);
     let bound = layout::stripe::bound(size, base);
     let mut s = 0;

@@ -44,7 +44,7 @@ fn sum_disk(
         return false;
     }
     let mut side = [0u8; tally::STRIPES];
-    let mut list = [0u32; tally::DISKS];
+    let mut list = [0u16; tally::DISKS];
     parts::side::mark(size, base, work, stripes, parts, ways, disk, &mut side);
     sums::cut::fill(size, base, stretch, array, work, &side, 1, &mut list, disk);
     true

@@ -37,7 +37,7 @@ fn list_stripe(
     parts: &[u8],
     name: u8,
     stripe: usize,
-    list: &mut [u32],
+    list: &mut [u16],
     have: usize,
 ) -> usize
     requires { ⌜ Numbered size base ⌝ }
@@ -67,7 +67,7 @@ fn list_stripe(
         let disk = first + k * step;
         let other = layout::stripe::other_at(size, base, stripe, k);
         if leaves(map, parts, name, disk, other) {
-            list[n] = disk as u32;
+            list[n] = disk as u16;
             n += 1;
         }
         k += 1;
@@ -82,7 +82,7 @@ pub fn list_cut(
     map: &[u8],
     parts: &[u8],
     name: u8,
-    list: &mut [u32],
+    list: &mut [u16],
 ) -> usize
     requires { ⌜ Numbered size base ⌝ }
     requires { ⌜ disks size ≤ length (now map) ⌝ }
@@ -113,7 +113,7 @@ pub fn cancels(
     map: &[u8],
     parts: &[u8],
     name: u8,
-    list: &mut [u32],
+    list: &mut [u16],
 ) -> bool
     requires { ⌜ Numbered size base ⌝ }
     requires { ⌜ Held size stretch (now array) ⌝ }
@@ -142,7 +142,7 @@ pub fn fill(
     map: &[u8],
     parts: &[u8],
     name: u8,
-    list: &mut [u32],
+    list: &mut [u16],
     disk: usize,
 )
     requires { ⌜ Numbered size base ⌝ }

@@ -8,7 +8,7 @@ use crate::put::put;
 use crate::sum::mix;
 
 // The sum of w bytes of each of the first `count` of them.
-fn sum(a: &[u8], first: usize, step: usize, list: &[u32], count: usize, w: usize) -> [u8; 128]
+fn sum(a: &[u8], first: usize, step: usize, list: &[u16], count: usize, w: usize) -> [u8; 128]
     requires { ⌜ w ≤ 128 ⌝ }
     requires { ⌜ Chosen (now a) first step (now list) count w ⌝ }
     ensures { λ r. ⌜ ((i : ℕ) → i < w → getD r i 0 ≡ picked (now (a .entry)) (first + i) step (now (list .entry)) count) ⌝ }
@@ -29,7 +29,7 @@ fn parts_cancel(
     a: &[u8],
     first: usize,
     step: usize,
-    list: &[u32],
+    list: &[u16],
     count: usize,
     parts: usize,
     w: usize,
@@ -51,7 +51,7 @@ fn parts_cancel(
 }
 
 // The sum of `len` bytes of each of the first `count` of them is zero at each place.
-pub fn cancels(a: &[u8], first: usize, step: usize, list: &[u32], count: usize, len: usize) -> bool
+pub fn cancels(a: &[u8], first: usize, step: usize, list: &[u16], count: usize, len: usize) -> bool
     requires { ⌜ Chosen (now a) first step (now list) count len ⌝ }
     requires { ⌜ first + len ≤ length (now a) ⌝ }
     ensures { λ r. ⌜ r ≡ pickedCancelled len (now (a .entry)) first step (now (list .entry)) count ⌝ }
@@ -82,7 +82,7 @@ fn fill_parts(
     a: &mut [u8],
     first: usize,
     step: usize,
-    list: &[u32],
+    list: &[u16],
     count: usize,
     target: usize,
     parts: usize,
@@ -106,7 +106,7 @@ pub fn fill(
     a: &mut [u8],
     first: usize,
     step: usize,
-    list: &[u32],
+    list: &[u16],
     count: usize,
     target: usize,
     len: usize,
