@@ -21,6 +21,7 @@ use Rattle.parts.specs.Ways.{joinedBefore, between, wayBy, closedBy}
 use Rattle.parts.proofs.Digits.{digit, digit-⊕, digit-one, or-within, one-within}
 use Rattle.parts.proofs.Ways.{number, numbers-differ, between-link, between-closed, Cut, cut-way, cut-closed, twice-none}
 
+-- A digit with 1 added is 1 exactly if it was 0.
 flips : (b : Bool) → not (eqb (bit b ⊕ 1) 1) ≡ b
 unfolding bit _⊕_
 flips true = refl
@@ -31,7 +32,7 @@ module _ (L : Layout) (e : ℕ → Bool) where
   abbrev pub wayOf : ℕ → ℕ
   wayOf = wayBy L e (L .disks)
 
-  abbrev pub closedOf : ℕ
+  abbrev closedOf : ℕ
   closedOf = closedBy L e (L .disks)
 
   module _ (d : ℕ) (l : d < L .disks) (h : e d ≡ true) where
@@ -89,6 +90,7 @@ module _ (L : Layout) (e : ℕ → Bool) where
               ∙ ap bit (ne-eqb n (number L e i) (numbers-differ L e d i h apart there q (without-apart e d i k))))
               refl
 
+      -- So its own digit tells.
       one-test : eqb (digit closedOf (number L e d)) 1 ≡ byOthers
       one-test =
           by-cases (λ (b : Bool). byOthers ≡ b → eqb (digit closedOf (number L e d)) 1 ≡ b) byOthers

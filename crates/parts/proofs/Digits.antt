@@ -26,7 +26,7 @@ digit-⊕ a b t = ap (λ (x : ℕ). x % 2) (xor-shr a b t) ∙ xor-mod (a / 2 ^ 
 pub digit-none : (t : ℕ) → digit 0 t ≡ 0
 digit-none t = ap (λ (x : ℕ). digit x t) (sym (⊕-self 0)) ∙ digit-⊕ 0 0 t ∙ ⊕-self (digit 0 t)
 
-pub digit-half : (a t : ℕ) → digit a (suc t) ≡ digit (a / 2) t
+digit-half : (a t : ℕ) → digit a (suc t) ≡ digit (a / 2) t
 digit-half a t = rw (← one-add t) (ap (λ (x : ℕ). x % 2) (sym (shr-shr a 1 t)))
 
 -- A power of two stands for one number.

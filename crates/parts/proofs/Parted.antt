@@ -75,11 +75,11 @@ module _ {L : Layout} {e : ℕ → Bool} {k low high : ℕ} (here : e k ≡ true
 module _ {L : Layout} {e : ℕ → Bool} {k low high : ℕ} (here : e k ≡ true) (x : Crossed L k low high) {parts ways : List ℕ}
     (p : Parted L e k parts) (w : Walked L e k ways) where
   -- What the tables say of it.
-  pub read-joined : eqb (getD parts low 0) (getD parts high 0) ≡ joinedBefore L e k
+  read-joined : eqb (getD parts low 0) (getD parts high 0) ≡ joinedBefore L e k
   read-joined =
       ap₂ eqb (p .named low (x .lowBound) ∙ ap (partBy L e k) (sym (lower-crossed x))) (p .named high (x .highBound) ∙ ap (partBy L e k) (sym (higher-crossed x)))
 
-  pub read-between : getD ways low 0 ⊕ getD ways high 0 ≡ between L (wayBy L e k) k
+  read-between : getD ways low 0 ⊕ getD ways high 0 ≡ between L (wayBy L e k) k
   read-between =
       ap₂ (λ (a b : ℕ). a ⊕ b) (w .walked low (x .lowBound) ∙ ap (wayBy L e k) (sym (lower-crossed x))) (w .walked high (x .highBound) ∙ ap (wayBy L e k) (sym (higher-crossed x)))
 
@@ -172,7 +172,7 @@ module _ {L : Layout} {e : ℕ → Bool} {parts : List ℕ} where
     pub parted-over : Parted L e j parts → Parted L e k parts
     parted-over = parted-as j k (sym (same-part L e j k l none))
 
-    pub parted-back : Parted L e k parts → Parted L e j parts
+    parted-back : Parted L e k parts → Parted L e j parts
     parted-back = parted-as k j (same-part L e j k l none)
 
 module _ {L : Layout} {e : ℕ → Bool} {parts ways : List ℕ} {links : ℕ} where
@@ -197,7 +197,7 @@ module _ {L : Layout} {e : ℕ → Bool} {parts ways : List ℕ} {links : ℕ} w
     pub linking-over : Linking L e j parts ways links → Linking L e k parts ways links
     linking-over = linking-as j k (sym (same-part L e j k l none)) (sym (same-way L e j k l none)) (sym (same-closed L e j k l none))
 
-    pub linking-back : Linking L e k parts ways links → Linking L e j parts ways links
+    linking-back : Linking L e k parts ways links → Linking L e j parts ways links
     linking-back = linking-as k j (same-part L e j k l none) (same-way L e j k l none) (same-closed L e j k l none)
 
 -- An erased disk more.

@@ -81,7 +81,8 @@ module _ (L : Layout) (e : ℕ → Bool) where
   name-gone : (d : ℕ) → e d ≡ true → joinedBefore L e d ≡ false → (k : ℕ) → d < k → (s : ℕ) → partBy L e k s ≡ number d → ⊥
   name-gone d h apart zero l = absurd (not-suc-le-zero l)
   name-gone d h apart (suc k) l =
-      ⊎-elim (λ (q : d ≡ k). subst (λ (i : ℕ). (s : ℕ) → partBy L e (suc i) s ≡ number d → ⊥) q (name-ended d h apart)) (λ w. name-none k (number d) (name-gone d h apart k w)) (eq-or-lt-of-le (le-of-suc-le-suc l))
+      ⊎-elim (λ (q : d ≡ k). subst (λ (i : ℕ). (s : ℕ) → partBy L e (suc i) s ≡ number d → ⊥) q (name-ended d h apart))
+      (λ w. name-none k (number d) (name-gone d h apart k w)) (eq-or-lt-of-le (le-of-suc-le-suc l))
 
   -- So two links have two numbers.
   pub numbers-differ : (d i : ℕ) → e d ≡ true → joinedBefore L e d ≡ false → e i ≡ true → joinedBefore L e i ≡ false

@@ -42,6 +42,7 @@ savedBelow L x a e k = changed x a (λ d p. cond (below k (determined L e) d) (s
 pub sized-as : (z : Size) (base : ℕ) {x : Stretch} {a : List ℕ} → Held z x a → length a ≡ layoutOf z base .disks * x .block
 sized-as z base {x} held = held .sized ∙ ap (λ (n : ℕ). n * x .block) (sym (layout-disks z base))
 
+-- A test from its bit.
 bit-one : (b : Bool) → eqb (bit b) 1 ≡ b
 unfolding bit
 bit-one true = refl

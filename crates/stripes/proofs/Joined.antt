@@ -66,16 +66,6 @@ module _ (L : Layout) (c : ℕ → Bool) where
   part-stays j (suc k) s t l e =
       ⊎-elim (λ q. rw q at e) (λ w. part-next k s t (part-stays j k s t (le-of-suc-le-suc w) e)) (eq-or-lt-of-le l)
 
-  -- Disks that are not of c change nothing.
-  pub part-skip : (j k : ℕ) → j ≤ k → ((i : ℕ) → j ≤ i → i < k → c i ≡ false) → partBy L c k ≡ partBy L c j
-  part-skip j zero l none = let same : j ≡ 0 = omega arith in rw same
-  part-skip j (suc k) l none =
-      ⊎-elim (λ q. rw q)
-      (λ w.
-      part-kept k (none k (le-of-suc-le-suc w) (lt-suc-self k))
-      ∙ part-skip j k (le-of-suc-le-suc w) (λ i m b. none i m (le-step b)))
-      (eq-or-lt-of-le l)
-
 -- The parts after k disks depend on these only.
 pub part-same : (L : Layout) (c f : ℕ → Bool) (k : ℕ) → ((i : ℕ) → i < k → c i ≡ f i) → partBy L c k ≡ partBy L f k
 unfolding partBy
