@@ -84,6 +84,14 @@
  *                  stripe and the number of the next. raid2d_sheet_first and
  *                  its like read them; SPECIFICATION.md has the bytes. It does
  *                  not say for which rows and columns it is.
+ *   off the chain  Said of every byte of a sheet but the kind, the number of
+ *                  the first record and the bytes of the records that the
+ *                  chain visits.
+ *   tidy           Said of a list of repairs whose chain visits the records 1,
+ *                  2, 3 and so on, in this order, and that has only zeros off
+ *                  the chain. Every list of repairs that the library writes is
+ *                  tidy. The tidy form of a sheet is the tidy sheet with the
+ *                  same list.
  *
  * PARAMETERS
  *
@@ -151,10 +159,10 @@ extern "C" {
 
 /* The version of this header, as three numbers, as one, and as a string. */
 #define RAID2D_VERSION_MAJOR   0
-#define RAID2D_VERSION_MINOR   7
+#define RAID2D_VERSION_MINOR   8
 #define RAID2D_VERSION_PATCH   0
-#define RAID2D_VERSION_NUMBER  700
-#define RAID2D_VERSION_STRING  "0.7.0"
+#define RAID2D_VERSION_NUMBER  800
+#define RAID2D_VERSION_STRING  "0.8.0"
 
 /* The range of a side: of data rows, and of data columns. */
 #define RAID2D_SIDE_MIN  2
@@ -206,6 +214,8 @@ enum raid2d_status {
     RAID2D_ERR_CHAIN = 10,
     RAID2D_ERR_REPAIRS = 11,
     RAID2D_ERR_LIMIT = 12,
+    RAID2D_ERR_RING = 13,
+    RAID2D_ERR_LEFTOVERS = 14,
     RAID2D_NOT_SEALED = 64
 };
 
@@ -243,11 +253,15 @@ static inline const char *raid2d_strerror(uint32_t status)
     case RAID2D_ERR_DATA_LENGTH:
         return "the new block's length is not that of a block";
     case RAID2D_ERR_CHAIN:
-        return "the sheet's kind is not 1, or its chain leads outside or back";
+        return "the sheet's kind is not 1, or its chain leads outside";
     case RAID2D_ERR_REPAIRS:
         return "a repair of the sheet is not allowed, or a disk is left over";
     case RAID2D_ERR_LIMIT:
         return "the limit of repairs is 0";
+    case RAID2D_ERR_RING:
+        return "the sheet's chain comes back to a record";
+    case RAID2D_ERR_LEFTOVERS:
+        return "a byte off the sheet's chain is not zero";
     case RAID2D_NOT_SEALED:
         return "the array is not sealed";
     default:
@@ -298,7 +312,8 @@ size_t raid2d_array_bytes(size_t rows, size_t columns, size_t block);
  *
  * A sheet from elsewhere can have any bytes: another kind, numbers above
  * RAID2D_SHEET_RECORDS, a chain that comes back to a record and never ends.
- * raid2d_follow refuses such a sheet; the loop above is for others.
+ * raid2d_follow and raid2d_tidy refuse such a sheet; the loop above is for
+ * others.
  */
 size_t raid2d_sheet_kind(const uint8_t *sheet);
 size_t raid2d_sheet_first(const uint8_t *sheet);
@@ -549,12 +564,16 @@ uint32_t raid2d_rebuild(size_t rows, size_t columns, size_t block,
  * Makes the repairs of a sheet in the order of its chain, whatever the erased
  * blocks hold, and then checks all stripes. Any list will do in which each
  * repair is allowed at its step and after which no disk is erased: it need
- * not be that of raid2d_plan, its chain may visit the records in any order,
- * and bytes off the chain are ignored. The array is then what raid2d_rebuild
- * makes of it in one turn with a limit that allows all repairs. A fatal loss
- * has no such list, so that it gets RAID2D_ERR_CHAIN or RAID2D_ERR_REPAIRS and
- * never RAID2D_FATAL. The sheet is judged as a whole before any block is
- * changed. The map is not cleared.
+ * not be that of raid2d_plan, and its chain may visit the records in any
+ * order. The array is then what raid2d_rebuild makes of it in one turn with a
+ * limit that allows all repairs. A fatal loss has no such list: it gets
+ * RAID2D_ERR_REPAIRS where no status before that applies, and never
+ * RAID2D_FATAL. The sheet is judged as a whole before any block is changed.
+ * The map is not cleared.
+ *
+ * A sheet that is not zero off its chain is refused: somebody may have taken
+ * what stands there for repairs. A host that has made sure that only the chain
+ * counts calls raid2d_tidy first, and follow then answers by the list alone.
  *
  *   sheet      the repairs, each erased disk once
  *   count      receives the number of repairs, which is that of the erased
@@ -573,9 +592,12 @@ uint32_t raid2d_rebuild(size_t rows, size_t columns, size_t block,
  *   RAID2D_ERR_ARRAY_LENGTH
  *   RAID2D_ERR_MAP
  *   RAID2D_ERR_SHEET_LENGTH
- *   RAID2D_ERR_CHAIN         the kind is not 1, the number of the first record
- *                            or, on the chain, of a next one is above 32, or a
- *                            record is reached twice
+ *   RAID2D_ERR_CHAIN         the kind is not 1, or the number of the first
+ *                            record or, on the chain, of a next one is above
+ *                            32
+ *   RAID2D_ERR_RING          the chain reaches a record twice, and so never
+ *                            ends
+ *   RAID2D_ERR_LEFTOVERS     a byte off the chain is not zero
  *   RAID2D_ERR_REPAIRS       a repair is not allowed at its step: its disk is
  *                            not in the grid, is not erased or was repaired
  *                            before, its stripe does not go through the disk,
@@ -593,6 +615,30 @@ uint32_t raid2d_follow(size_t rows, size_t columns, size_t block,
                        const uint8_t *map, size_t map_len,
                        const uint8_t *sheet, size_t sheet_len,
                        size_t *count);
+
+/*
+ * raid2d_tidy: rewrite a list of repairs in its tidy form.
+ *
+ * The records of the chain become the records 1, 2, 3 and so on, in the
+ * chain's order, and all that stood off the chain becomes zero. The disks and
+ * stripes that the chain lists stay, in their order, and are not judged: any
+ * numbers will do. Two sheets that are taken have the same tidy form exactly
+ * if they list the same disks and stripes in the same order, so that comparing
+ * bytes then compares lists. A sheet that is tidy stays as it is.
+ *
+ *   sheet      a list of repairs, which becomes tidy
+ *
+ *   Reads      the sheet
+ *   Writes     the whole sheet with RAID2D_OK, else nothing
+ *
+ * Returns the first of these that applies:
+ *
+ *   RAID2D_ERR_SHEET_LENGTH
+ *   RAID2D_ERR_CHAIN         as from raid2d_follow, also for a cycle
+ *   RAID2D_ERR_RING          as from raid2d_follow
+ *   RAID2D_OK                the sheet is tidy
+ */
+uint32_t raid2d_tidy(uint8_t *sheet, size_t sheet_len);
 
 /*
  * raid2d_save: restore every erased disk that the survivors determine.

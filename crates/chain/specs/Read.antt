@@ -1,13 +1,19 @@
--- What a whole chain comes to.
+-- What reading a sheet comes to.
 -- Assumes nothing.
-use mathlib.Core.Bool.{cond}
+use mathlib.Core.Bool.{Bool, cond}
 use mathlib.Core.List.{List}
 use Prim.Native.Nat.{ℕ}
-use lib.ListN.{length}
+use lib.Dec.{eqb}
+use lib.ListN.{length, getD}
 use Rattle.model.specs.Sheet.{narrow}
-use Rattle.model.specs.Chain.{chainFits, chainEntries}
+use Rattle.model.specs.Chain.{chainEntries}
 use Rattle.chain.specs.declared.Chain.{Chain}
-use Rattle.chain.specs.declared.Chain.the-variants.{Records, Broken}
+use Rattle.chain.specs.declared.Chain.the-variants.{Records, Refused}
 
-unfoldable pub chainRead : List ℕ → Chain
-chainRead s = cond (chainFits narrow s) (Records (length (chainEntries narrow s))) Broken
+-- Record k is marked.
+unfoldable pub marked : List ℕ → ℕ → Bool
+marked m k = eqb (getD m k 0) 1
+
+-- The answer for a sheet whose tests give the refusal k, or 0.
+unfoldable pub chainRead : ℕ → List ℕ → Chain
+chainRead k s = cond (eqb k 0) (Records (length (chainEntries narrow s))) (Refused k)

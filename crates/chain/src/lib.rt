@@ -1,34 +1,47 @@
-// The chain of a sheet from elsewhere, which may visit its records in any order.
+// The chain of a sheet from elsewhere, which may visit its records in any order, and what stands off it.
 ghost use mathlib.Core.Path.{_≡_};
-ghost use mathlib.Core.Bool.{true};
-ghost use Prim.Native.Nat.{_≤_};
-ghost use lib.ListN.{length};
+ghost use mathlib.Core.Bool.{_||_, false};
+ghost use Prim.Native.Nat.{ℕ, _≤_, _<_};
+ghost use lib.Dec.{eqb, ltb};
+ghost use lib.ListN.{length, getD};
+ghost use Rattle.stripes.specs.Fold.{every};
+ghost use Rattle.stripes.specs.System.{among};
 ghost use Rattle.entries.specs.Listed.{listed};
 ghost use Rattle.model.specs.Sheet.{narrow, sheetBytes};
-ghost use Rattle.model.specs.Chain.{chainFits, chainEntries};
-ghost use Rattle.chain.specs.Read.{chainRead};
+ghost use Rattle.model.specs.Chain.{chainNumbers, chainRefusal, cleanRefusal, recordNumber, chainEntries};
+ghost use Rattle.chain.specs.Read.{marked, chainRead};
 use reader::Found;
 
 // What a sheet lists.
 pub enum Chain {
     // The number of repairs.
     Records(usize),
-    // It is no sheet of repairs, or its chain leads outside or comes back to a record.
-    Broken,
+    // A refusal by its number.
+    Refused(u32),
 }
 
-// Reads the records of a chain into a list, in the chain's order. What the list holds after `Broken` is left open.
-pub fn read(sheet: &[u8], list: &mut [u32]) -> Chain
+// A mark for each number up to that of the last record: 1 for a record that a chain visits, else 0.
+pub const MARKS: usize = sheet::RECORDS + 1;
+
+// Reads the records of a chain into a list, in the chain's order, and marks them. What list and marks hold after a refusal is left
+// open.
+pub fn read(sheet: &[u8], list: &mut [u32], marks: &mut [u8]) -> Chain
     requires { ⌜ length (now sheet) ≡ sheetBytes narrow ⌝ }
     requires { ⌜ narrow .records ≤ length (now list) ⌝ }
-    ensures chain { λ r. ⌜ r ≡ chainRead (now (sheet .entry)) ⌝ }
+    requires { ⌜ narrow .records < length (now marks) ⌝ }
+    requires { ⌜ ((k : ℕ) → marked (now marks) k ≡ false) ⌝ }
+    ensures chain { λ r. ⌜ r ≡ chainRead (chainRefusal narrow (now (sheet .entry))) (now (sheet .entry)) ⌝ }
     ensures list { λ r. ⌜
-        (chainFits narrow (now (sheet .entry)) ≡ true
+        (chainRefusal narrow (now (sheet .entry)) ≡ 0
         → listed (now (list .exit)) (length (chainEntries narrow (now (sheet .entry)))) ≡ chainEntries narrow (now (sheet .entry)))
+        ⌝ }
+    ensures marks { λ r. ⌜
+        (chainRefusal narrow (now (sheet .entry)) ≡ 0
+        → (k : ℕ) → marked (now (marks .exit)) k ≡ among k (chainNumbers narrow (now (sheet .entry))))
         ⌝ }
 {
     if sheet[0] != sheet::REPAIR_KIND {
-        return Chain::Broken;
+        return Chain::Refused(10);
     }
     let mut number = sheet[1] as usize;
     let mut k = 0;
@@ -38,11 +51,57 @@ pub fn read(sheet: &[u8], list: &mut [u32]) -> Chain
             break;
         };
         entries::put(list, k, disk, stripe);
+        marks[number] = 1;
         number = following;
         k += 1;
     }
     if number == 0 {
         return Chain::Records(k);
     }
-    Chain::Broken
+    if sheet::RECORDS < number {
+        return Chain::Refused(10);
+    }
+    Chain::Refused(13)
+}
+
+// Whether every byte is zero that is in no record marked. The first two bytes of a sheet are in no record and may hold anything.
+pub fn rest_is_zero(sheet: &[u8], marks: &[u8]) -> bool
+    requires { ⌜ length (now sheet) ≡ sheetBytes narrow ⌝ }
+    requires { ⌜ narrow .records < length (now marks) ⌝ }
+    ensures { λ r. ⌜
+        r ≡ every (sheetBytes narrow)
+        (λ i. (ltb i 2 || marked (now (marks .entry)) (recordNumber narrow i)) || eqb (getD (now (sheet .entry)) i 0) 0)
+        ⌝ }
+{
+    let mut i = 2;
+    while i < sheet::BYTES {
+        if sheet[i] != 0 {
+            if marks[(i - 2) / sheet::RECORD_BYTES + 1] != 1 {
+                return false;
+            }
+        }
+        i += 1;
+    }
+    true
+}
+
+// Reads the records of a chain off which nothing is left over.
+pub fn read_clean(sheet: &[u8], list: &mut [u32]) -> Chain
+    requires { ⌜ length (now sheet) ≡ sheetBytes narrow ⌝ }
+    requires { ⌜ narrow .records ≤ length (now list) ⌝ }
+    ensures chain { λ r. ⌜ r ≡ chainRead (cleanRefusal narrow (now (sheet .entry))) (now (sheet .entry)) ⌝ }
+    ensures list { λ r. ⌜
+        (cleanRefusal narrow (now (sheet .entry)) ≡ 0
+        → listed (now (list .exit)) (length (chainEntries narrow (now (sheet .entry)))) ≡ chainEntries narrow (now (sheet .entry)))
+        ⌝ }
+{
+    let mut marks = [0u8; MARKS];
+    let chain = read(sheet, list, &mut marks);
+    let Chain::Records(count) = chain else {
+        return chain;
+    };
+    if !rest_is_zero(sheet, &marks) {
+        return Chain::Refused(14);
+    }
+    Chain::Records(count)
 }

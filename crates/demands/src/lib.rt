@@ -1,5 +1,5 @@
 // What is proved of the definitions, said of the calls: demand 2 of seal, check and write, demand 3 of plan and rebuild's turns on
-// one input, of follow that it does as rebuild, and of save what it gives back.
+// one input, of follow that it does as rebuild, of tidy what it makes of sheets, and of save what it gives back.
 ghost use mathlib.Core.Path.{_≡_};
 ghost use mathlib.Core.Bool.{true, false};
 ghost use mathlib.Core.Logic.{_↔_};
@@ -16,7 +16,9 @@ ghost use Rattle.model.specs.Array.{sealStatus, sealArray, checked, checkStatus
 ghost use Rattle.model.specs.Sheet.{narrow, sheetBytes, sheetsIn};
 ghost use Rattle.model.specs.Plan.{planTests, sheetLayout, planOutcome, planSheet, outcomeStatus};
 ghost use Rattle.model.specs.Rebuild.{bufferRefusal, rebuildRefusal, rebuildTurn};
-ghost use Rattle.model.specs.Follow.{Usable, followOutcome, followArray};
+ghost use Rattle.model.specs.Chain.{Leftover, chainEntries};
+ghost use Rattle.model.specs.Follow.{Usable, listOutcome, listArray, followOutcome, followArray, looseStatus};
+ghost use Rattle.model.specs.Tidy.{tidyStatus, tidySheet, TidyDemand};
 ghost use Rattle.model.specs.Save.{saveLayout, mapTests, saveAnswer, saveArray, AsTurn, SaveDemand};
 ghost use Rattle.model.specs.Edition.{superparity};
 ghost use Rattle.model.specs.Demand2.{SealDemand, CheckDemand, WriteDemand};
@@ -144,9 +146,67 @@ pub fn follow_sheet(size: Size, block: usize, array: &mut [u8], map: &[u8], shee
         ↔ (Usable size (now (map .entry)) (now (sheet .entry))
         × (Belongs (sheetLayout size) (whole block) (erasures (now (map .entry))) (now (array .entry)) → ⊥))))
         ⌝ }
+    ensures leftovers { λ r. ⌜
+        (bufferRefusal size block (now (array .entry)) (now (map .entry)) (now (sheet .entry)) ≡ 0
+        → tidyStatus narrow (now (sheet .entry)) ≡ 0
+        → ((outcomeStatus r ≡ 14) ↔ ((i : ℕ) × Leftover narrow (now (sheet .entry)) i)))
+        ⌝ }
     ensures kept { λ r. ⌜ (fatal (sheetLayout size) (erasures (now (map .entry))) ≡ true → now (array .exit) ≡ now (array .entry)) ⌝ }
 {
     follow::follow(size, block, array, map, sheet)
+}
+
+// What tidy answers for two sheets.
+pub struct Tidied {
+    pub one: u32,
+    pub other: u32,
+}
+
+// Tidies two sheets. One that is taken becomes what is asked for, and where both are taken, they become the same exactly if they
+// listed the same disks and stripes in the same order.
+pub fn tidy_sheets(one: &mut [u8], other: &mut [u8]) -> Tidied
+    ensures statuses { λ r. ⌜
+        (r .one ≡ tidyStatus narrow (now (one .entry))) × (r .other ≡ tidyStatus narrow (now (other .entry)))
+        ⌝ }
+    ensures sheets { λ r. ⌜
+        (now (one .exit) ≡ tidySheet narrow (now (one .entry))) × (now (other .exit) ≡ tidySheet narrow (now (other .entry)))
+        ⌝ }
+    ensures demand { λ r. ⌜ (r .one ≡ 0 → TidyDemand narrow (now (one .entry)) (now (one .exit))) ⌝ }
+    ensures same { λ r. ⌜
+        (r .one ≡ 0 → r .other ≡ 0
+        → ((now (one .exit) ≡ now (other .exit)) ↔ (chainEntries narrow (now (one .entry)) ≡ chainEntries narrow (now (other .entry)))))
+        ⌝ }
+{
+    let first = tidy::tidy(one);
+    let second = tidy::tidy(other);
+    Tidied {
+        one: first,
+        other: second,
+    }
+}
+
+// Tidies a sheet and follows it. The answer and the array are those of follow where leftovers are ignored.
+pub fn tidy_and_follow(
+    size: Size,
+    block: usize,
+    array: &mut [u8],
+    map: &[u8],
+    sheet: &mut [u8],
+) -> Outcome
+    ensures sheet { λ r. ⌜ now (sheet .exit) ≡ tidySheet narrow (now (sheet .entry)) ⌝ }
+    ensures outcome { λ r. ⌜
+        r ≡ listOutcome (looseStatus size block (now (array .entry)) (now (map .entry)) (now (sheet .entry)))
+        (chainEntries narrow (now (sheet .entry)))
+        ⌝ }
+    ensures array { λ r. ⌜
+        now (array .exit) ≡ listArray size block (now (array .entry)) (now (map .entry))
+        (looseStatus size block (now (array .entry)) (now (map .entry)) (now (sheet .entry)))
+        (chainEntries narrow (now (sheet .entry)))
+        ⌝ }
+{
+    tidy::tidy(sheet);
+    let followed = follow::follow(size, block, array, map, sheet);
+    followed
 }
 
 // Saves what the survivors determine. Where the refusals before 7 let the input through, the promise of paper 02 holds; where the loss is

@@ -10,22 +10,23 @@ use Rattle.stripes.specs.Erased.{erasures}
 use Rattle.stripes.specs.Repair.{Peels, clears}
 use Rattle.model.specs.Refusal.{refusal, arrayTests}
 use Rattle.model.specs.Sheet.{narrow}
-use Rattle.model.specs.Chain.{chainFits, chainEntries}
+use Rattle.model.specs.Chain.{cleanRefusal, chainEntries}
 use Rattle.model.specs.Plan.{sheetTests, sheetLayout}
 use Rattle.model.specs.Rebuild.{bufferTests, bufferRefusal}
-use Rattle.model.specs.Follow.{followedArray, followOutcome, followArray}
+use Rattle.model.specs.Follow.{followOutcome, followArray}
 use Rattle.model.specs.declared.Size.{Size}
 use Rattle.model.specs.declared.Outcome.{Outcome}
 use Rattle.model.specs.declared.Outcome.the-variants.{Repairs, Refused}
 use Rattle.stripes.proofs.Clears.{clears-peels}
 use Rattle.stripes.specs.System.{whole}
 use Rattle.model.proofs.Refusal.{refused-first, array-fits, array-passed}
-use Rattle.model.proofs.Chain.{chain-few}
-use Rattle.model.proofs.Follow.{Gives, follow-given, follow-first, follow-order, follow-ten, follow-eleven}
+use Rattle.model.proofs.Chain.{clean-exact, chain-few}
+use Rattle.model.proofs.Follow.{Gives, follow-given, follow-first, follow-listed, follow-unclean, follow-eleven}
 use Rattle.entries.specs.Listed.{listed}
 use Rattle.chain.specs.Read.{chainRead}
 use Rattle.chain.specs.declared.Chain.{Chain}
-use Rattle.chain.specs.declared.Chain.the-variants.{Records, Broken}
+use Rattle.chain.specs.declared.Chain.the-variants.{Records, Refused as Turned}
+use Rattle.chain.proofs.Clean.{by-number, by-records}
 use Rattle.restore.specs.Restored.{fits, restored}
 
 -- What follow promises of its answer and of the array after it.
@@ -57,42 +58,28 @@ module _ (z : Size) (B : ℕ) (a m s : List ℕ) where
 
 -- ---- the sheet
 
--- Reading has answered that the chain is broken.
-pub broken : (z : Size) (B : ℕ) (a m s : List ℕ) → bufferRefusal z B a m s ≡ 0
-    → (answer : Chain) → answer ≡ chainRead s → answer ≡ Broken → Followed z B a m s (Refused 10) a
-unfolding chainRead
-broken z B a m s ok answer answer-is e = go (chainFits narrow s) refl
-  where
-    go : (t : Bool) → chainFits narrow s ≡ t → Followed z B a m s (Refused 10) a
-    go true q =
-        let found : answer ≡ Records (length (chainEntries narrow s)) = answer-is ∙ rw q in
-        let clash : _≡_ {A = ℕ} 0 1 = cc in
-        absurd (omega arith)
-    go false q = as-given z B a m s (follow-ten z B a m s ok q)
+-- Reading has refused it.
+pub unclean : (z : Size) (B : ℕ) (a m s : List ℕ) → bufferRefusal z B a m s ≡ 0
+    → (answer : Chain) (k : ℕ) → answer ≡ chainRead (cleanRefusal narrow s) s → answer ≡ Turned k → Followed z B a m s (Refused k) a
+unclean z B a m s ok answer k answer-is e =
+    let (same, some) = by-number (cleanRefusal narrow s) s answer answer-is k e in
+    subst (λ (k : ℕ). Followed z B a m s (Refused k) a) same (as-given z B a m s (follow-unclean z B a m s ok some))
 
--- The chain fits: the list `own` has its records in their order, `count` of them.
+-- The sheet is taken: the list `own` has its records in their order, `count` of them.
 pub record Read (s own : List ℕ) (count : ℕ) : Type 0 where
-  pub chain : chainFits narrow s ≡ true
+  pub clean : cleanRefusal narrow s ≡ 0
   pub counted : count ≡ length (chainEntries narrow s)
   pub written : listed own (length (chainEntries narrow s)) ≡ chainEntries narrow s
 
-pub records-listed : (s own : List ℕ) (answer : Chain) → answer ≡ chainRead s
-    → (chainFits narrow s ≡ true → listed own (length (chainEntries narrow s)) ≡ chainEntries narrow s) → (count : ℕ) → answer ≡ Records count → Read s own count
-unfolding chainRead
-records-listed s own answer answer-is own-is count e = go (chainFits narrow s) refl
-  where
-    go : (t : Bool) → chainFits narrow s ≡ t → Read s own count
-    go true q =
-        let found : answer ≡ Records (length (chainEntries narrow s)) = answer-is ∙ rw q in
-        record { chain = q; counted = cc; written = own-is q }
-    go false q =
-        let found : answer ≡ Broken = answer-is ∙ rw q in
-        let clash : _≡_ {A = ℕ} 0 1 = cc in
-        absurd (omega arith)
+pub records-listed : (s own : List ℕ) (answer : Chain) → answer ≡ chainRead (cleanRefusal narrow s) s
+    → (cleanRefusal narrow s ≡ 0 → listed own (length (chainEntries narrow s)) ≡ chainEntries narrow s) → (count : ℕ) → answer ≡ Records count → Read s own count
+records-listed s own answer answer-is own-is count e =
+    let (none, counted) = by-records (cleanRefusal narrow s) s answer answer-is count e in
+    record { clean = none; counted = counted; written = own-is none }
 
 module _ {s own : List ℕ} {count : ℕ} (is : Read s own count) where
   pub count-few : count ≤ 32
-  count-few = let h = chain-few narrow s (is .chain) in let e = is .counted in omega arith
+  count-few = let h = chain-few narrow s (clean-exact narrow s .0 (is .clean) .0) in let e = is .counted in omega arith
 
   own-entries : listed own count ≡ chainEntries narrow s
   own-entries = ap (listed own) (is .counted) ∙ is .written
@@ -102,7 +89,7 @@ module _ {s own : List ℕ} {count : ℕ} (is : Read s own count) where
     pub steps-refused : clears (sheetLayout z) (erasures m) (listed own count) ≡ false → Followed z B a m s (Refused 11) a
     steps-refused unclear =
         as-given z B a m s
-        (follow-eleven z B a m s ok (is .chain) (ap (clears (sheetLayout z) (erasures m)) (sym own-entries) ∙ unclear))
+        (follow-eleven z B a m s ok (is .clean) (ap (clears (sheetLayout z) (erasures m)) (sym own-entries) ∙ unclear))
 
     module _ (clear : clears (sheetLayout z) (erasures m) (listed own count) ≡ true) where
       pub peels : Peels (sheetLayout z) (erasures m) (listed own count)
@@ -113,15 +100,15 @@ module _ {s own : List ℕ} {count : ℕ} (is : Read s own count) where
 
       module _ (b : List ℕ) (array-is : b ≡ restored (sheetLayout z) (whole B) a (erasures m) (listed own count)) where
         pub agreed : fits (sheetLayout z) (whole B) a (listed own count) ≡ true → Followed z B a m s (Repairs count) b
-        unfolding fits restored followedArray
+        unfolding fits restored
         agreed fit =
             let c : fits (sheetLayout z) (whole B) a (chainEntries narrow s) ≡ true = ap (fits (sheetLayout z) (whole B) a) (sym own-entries) ∙ fit in
-            let g = as-given z B a m s (follow-given z B a m s 0 (follow-order z B a m s ok ∙ rw (is .chain, usable, c))) in
+            let g = as-given z B a m s (follow-given z B a m s 0 (follow-listed z B a m s ok (is .clean) ∙ rw (usable, c))) in
             (ap Repairs (is .counted) ∙ g .0, array-is ∙ ap (restored (sheetLayout z) (whole B) a (erasures m)) own-entries ∙ (rw c) ∙ g .1)
 
         pub contradicted : fits (sheetLayout z) (whole B) a (listed own count) ≡ false → Followed z B a m s (Refused 7) b
-        unfolding fits restored followedArray
+        unfolding fits restored
         contradicted unfit =
             let c : fits (sheetLayout z) (whole B) a (chainEntries narrow s) ≡ false = ap (fits (sheetLayout z) (whole B) a) (sym own-entries) ∙ unfit in
-            let g = as-given z B a m s (follow-given z B a m s 7 (follow-order z B a m s ok ∙ rw (is .chain, usable, c))) in
+            let g = as-given z B a m s (follow-given z B a m s 7 (follow-listed z B a m s ok (is .clean) ∙ rw (usable, c))) in
             (g .0, array-is ∙ ap (restored (sheetLayout z) (whole B) a (erasures m)) own-entries ∙ (rw c) ∙ g .1)

@@ -23,9 +23,10 @@ pub fn follow(size: Size, block: usize, array: &mut [u8], map: &[u8], sheet: &[u
         return Outcome::Refused(of_sheet);
     }
     let mut list = [0u32; entries::CAPACITY];
-    let chain = chain::read(sheet, &mut list);
-    let Chain::Records(count) = chain else {
-        return Outcome::Refused(10);
+    let chain = chain::read_clean(sheet, &mut list);
+    let count = match chain {
+        Chain::Records(count) => count,
+        Chain::Refused(number) => return Outcome::Refused(number),
     };
     if !replay::clears(size, sheet::BASE, map, &list, count) {
         return Outcome::Refused(11);

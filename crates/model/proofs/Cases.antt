@@ -17,13 +17,14 @@ use Rattle.model.specs.Grid.{grid, layoutOf, rectangle, rows, columns, a
 use Rattle.model.specs.Equations.{cell, rowData, columnData}
 use Rattle.model.specs.Refusal.{refusal, arrayTests}
 use Rattle.model.specs.Array.{encodedByte, encoded, sealStatus, sealArray, writeTests, isParityOf, writtenByte, written, writeStatus, writeArray}
-use Rattle.model.specs.Sheet.{chainBytes, sheetOf, blankSheet, numberBytes, numberAt}
-use Rattle.model.specs.Chain.{entryAt, nextNumber, visited, chainNumbers, within, different, chainFits, entriesAt, chainEntries}
+use Rattle.model.specs.Sheet.{narrow, chainBytes, sheetOf, blankSheet, numberBytes, numberAt}
+use Rattle.model.specs.Chain.{entryAt, nextNumber, visited, chainNumbers, within, different, numbersFit, chainTests, onChain, noLeftovers, cleanTests, entriesAt, chainEntries}
+use Rattle.model.specs.Tidy.{tidyTests, tidyStatus, tidyForm, tidySheet}
 use Rattle.model.specs.Plan.{sheetTests, planTests, planOutcome, outcomeStatus, outcomeCount, lossOutcome, lossSheet, planSheet}
 use Rattle.model.specs.Turn.{clear, lossTold, contradiction, repairsMade, turnRepairs, contradicts, turnOf}
 use Rattle.model.specs.Rebuild.{bufferTests, rebuildTests, rebuildRefusal, rebuildTurn}
 use Rattle.model.specs.Save.{mapTests, saveTests, saveStatus, saveAnswer, saveArray, savingStatus, savingCount}
-use Rattle.model.specs.Follow.{followedArray, followTests, followStatus, followOutcome, followArray}
+use Rattle.model.specs.Follow.{listTests, followTests, followStatus, followOutcome, followArray}
 use Rattle.model.specs.Listing.{digit, decimal, repairWord, fatalWord, refusedWord, entryLines, listed, listing}
 use Rattle.model.specs.declared.Size.{Size}
 
@@ -45,6 +46,10 @@ high = rectangle 3 2
 -- The paper's sealed array A.
 A : List ℕ
 A = 1 ∷ 2 ∷ 3 ∷ 4 ∷ 8 ∷ 12 ∷ 5 ∷ 10 ∷ 15 ∷ []
+
+-- A with other bytes on disks 0, 2 and 6.
+D : List ℕ
+D = 7 ∷ 2 ∷ 7 ∷ 4 ∷ 8 ∷ 12 ∷ 7 ∷ 10 ∷ 15 ∷ []
 
 -- A sealed array with two data rows and three data columns, and one with three and two.
 W : List ℕ
@@ -79,12 +84,16 @@ followed : Size → (a m sheet : List ℕ) → List ℕ
 followed z a m sheet =
     outcomeStatus (followOutcome z 1 a m sheet) ∷ outcomeCount (followOutcome z 1 a m sheet) 99 ∷ followArray z 1 a m sheet
 
+-- What tidy gives for a sheet: the number, the sheet.
+tidied : List ℕ → List ℕ
+tidied sheet = tidyStatus narrow sheet ∷ tidySheet narrow sheet
+
 -- What save gives for an array and a map: the number, the count, the array.
 rescued : Size → (a m : List ℕ) → List ℕ
 rescued z a m = savingStatus (saveAnswer z 1 a m) ∷ savingCount (saveAnswer z 1 a m) 99 ∷ saveArray z 1 a m
 
 unfoldable pub cases : List Case
-unfolding two wide high A W H planned turned restored followed rescued
+unfolding two wide high A W H D planned turned restored followed tidied rescued
 cases =
     -- Data 1 2 / 4 8 seals to A, whatever stands in the parities' place.
     record {
@@ -167,19 +176,31 @@ cases =
       computed = planned two (1 ∷ 1 ∷ 1 ∷ 1 ∷ 1 ∷ 1 ∷ 0 ∷ 0 ∷ 1 ∷ []);
       expected = 6 ∷ 6 ∷ 2 ∷ 1 ∷ 0 ∷ 0 ∷ 2 ∷ 1 ∷ 17 ∷ 3 ∷ 4 ∷ 1 ∷ 4 ∷ 3 ∷ 16 ∷ 0 ∷ replicate 84 0;
     }
-    -- Case 3's repairs from a sheet whose chain visits records 3, 1 and 2, with other bytes behind them; the same with a ring; the
-    -- same with a disk left over.
+    -- Case 3's repairs from a sheet whose chain visits records 3, 1 and 2; the same with other bytes behind them, with a ring, with a
+    -- number that no record has, and with a disk left over.
     ∷ record {
       number = 0;
       computed =
-          followed two (7 ∷ 2 ∷ 7 ∷ 4 ∷ 8 ∷ 12 ∷ 7 ∷ 10 ∷ 15 ∷ []) (1 ∷ 0 ∷ 1 ∷ 0 ∷ 0 ∷ 0 ∷ 1 ∷ 0 ∷ 0 ∷ [])
-          (1 ∷ 3 ∷ 0 ∷ 0 ∷ 2 ∷ 6 ∷ 2 ∷ 0 ∷ 2 ∷ 18 ∷ 1 ∷ replicate 87 99)
-          ++ followed two (7 ∷ 2 ∷ 7 ∷ 4 ∷ 8 ∷ 12 ∷ 7 ∷ 10 ∷ 15 ∷ []) (1 ∷ 0 ∷ 1 ∷ 0 ∷ 0 ∷ 0 ∷ 1 ∷ 0 ∷ 0 ∷ [])
-          (1 ∷ 3 ∷ 0 ∷ 0 ∷ 2 ∷ 6 ∷ 2 ∷ 3 ∷ 2 ∷ 18 ∷ 1 ∷ replicate 87 0)
-          ++ followed two (7 ∷ 2 ∷ 7 ∷ 4 ∷ 8 ∷ 12 ∷ 7 ∷ 10 ∷ 15 ∷ []) (1 ∷ 0 ∷ 1 ∷ 0 ∷ 0 ∷ 0 ∷ 1 ∷ 0 ∷ 0 ∷ [])
-          (1 ∷ 3 ∷ 0 ∷ 0 ∷ 0 ∷ 6 ∷ 2 ∷ 0 ∷ 2 ∷ 18 ∷ 1 ∷ replicate 87 0);
+          followed two D (1 ∷ 0 ∷ 1 ∷ 0 ∷ 0 ∷ 0 ∷ 1 ∷ 0 ∷ 0 ∷ []) (1 ∷ 3 ∷ 0 ∷ 0 ∷ 2 ∷ 6 ∷ 2 ∷ 0 ∷ 2 ∷ 18 ∷ 1 ∷ replicate 87 0)
+          ++ followed two D (1 ∷ 0 ∷ 1 ∷ 0 ∷ 0 ∷ 0 ∷ 1 ∷ 0 ∷ 0 ∷ []) (1 ∷ 3 ∷ 0 ∷ 0 ∷ 2 ∷ 6 ∷ 2 ∷ 0 ∷ 2 ∷ 18 ∷ 1 ∷ replicate 87 99)
+          ++ followed two D (1 ∷ 0 ∷ 1 ∷ 0 ∷ 0 ∷ 0 ∷ 1 ∷ 0 ∷ 0 ∷ []) (1 ∷ 3 ∷ 0 ∷ 0 ∷ 2 ∷ 6 ∷ 2 ∷ 3 ∷ 2 ∷ 18 ∷ 1 ∷ replicate 87 99)
+          ++ followed two D (1 ∷ 0 ∷ 1 ∷ 0 ∷ 0 ∷ 0 ∷ 1 ∷ 0 ∷ 0 ∷ []) (1 ∷ 3 ∷ 0 ∷ 0 ∷ 2 ∷ 6 ∷ 2 ∷ 33 ∷ 2 ∷ 18 ∷ 1 ∷ replicate 87 99)
+          ++ followed two D (1 ∷ 0 ∷ 1 ∷ 0 ∷ 0 ∷ 0 ∷ 1 ∷ 0 ∷ 0 ∷ []) (1 ∷ 3 ∷ 0 ∷ 0 ∷ 0 ∷ 0 ∷ 0 ∷ 0 ∷ 2 ∷ 18 ∷ 1 ∷ replicate 87 0);
+      expected = 0 ∷ 3 ∷ A ++ 14 ∷ 99 ∷ D ++ 13 ∷ 99 ∷ D ++ 10 ∷ 99 ∷ D ++ 11 ∷ 99 ∷ D;
+    }
+    -- Tidy on the sheets of these that have other bytes behind the records: taken, and refused by 13 and 10; refused too with the
+    -- kind of a loop and a ring, and with a byte too few.
+    ∷ record {
+      number = 0;
+      computed =
+          tidied (1 ∷ 3 ∷ 0 ∷ 0 ∷ 2 ∷ 6 ∷ 2 ∷ 0 ∷ 2 ∷ 18 ∷ 1 ∷ replicate 87 99)
+          ++ tidied (1 ∷ 3 ∷ 0 ∷ 0 ∷ 2 ∷ 6 ∷ 2 ∷ 3 ∷ 2 ∷ 18 ∷ 1 ∷ replicate 87 99)
+          ++ tidied (1 ∷ 3 ∷ 0 ∷ 0 ∷ 2 ∷ 6 ∷ 2 ∷ 33 ∷ 2 ∷ 18 ∷ 1 ∷ replicate 87 99)
+          ++ tidied (2 ∷ 1 ∷ 0 ∷ 0 ∷ 1 ∷ replicate 93 0) ++ tidied (1 ∷ 1 ∷ replicate 95 0);
       expected =
-          0 ∷ 3 ∷ A ++ 10 ∷ 99 ∷ 7 ∷ 2 ∷ 7 ∷ 4 ∷ 8 ∷ 12 ∷ 7 ∷ 10 ∷ 15 ∷ 11 ∷ 99 ∷ 7 ∷ 2 ∷ 7 ∷ 4 ∷ 8 ∷ 12 ∷ 7 ∷ 10 ∷ 15 ∷ [];
+          0 ∷ 1 ∷ 1 ∷ 2 ∷ 18 ∷ 2 ∷ 0 ∷ 0 ∷ 3 ∷ 6 ∷ 2 ∷ 0 ∷ replicate 87 0
+          ++ 13 ∷ 1 ∷ 3 ∷ 0 ∷ 0 ∷ 2 ∷ 6 ∷ 2 ∷ 3 ∷ 2 ∷ 18 ∷ 1 ∷ replicate 87 99 ++ 10 ∷ 1 ∷ 3 ∷ 0 ∷ 0 ∷ 2 ∷ 6 ∷ 2 ∷ 33 ∷ 2 ∷ 18 ∷ 1 ∷ replicate 87 99
+          ++ 10 ∷ 2 ∷ 1 ∷ 0 ∷ 0 ∷ 1 ∷ replicate 93 0 ++ 5 ∷ 1 ∷ 1 ∷ replicate 95 0;
     }
     -- Case 3 in turns of two: the first repairs disks 2 and 0 and leaves 6 erased, the second repairs it and finds all sums zero.
     ∷ record {
@@ -262,8 +283,8 @@ cases =
 
 -- Every case holds, and the paper's nine are there.
 pub cases-hold : (map (λ (c : Case). c .computed) cases ≡ map (λ (c : Case). c .expected) cases)
-    × (map (λ (c : Case). c .number) cases ≡ 1 ∷ 2 ∷ 3 ∷ 4 ∷ 5 ∷ 6 ∷ 7 ∷ 8 ∷ 9 ∷ replicate 10 0)
-unfolding cases sealStatus sealArray encoded encodedByte writeStatus writeArray writeTests written writtenByte isParityOf refusal arrayTests sideFits sizeFits blockFits arrayBytes arrayOf disks across down rows columns diskAt isData rowData columnData cell byte whole xsum _⊕_ tabulate gate every bit count lowest among on sumOver stripeSum sumsToZero grid layoutOf mapFits erasures without alone allowed firstAllowed someAllowed nextDisk repairOf peel repairs after residual residualCount lost fatal changed sumOfOthers repaired rebuilt zeroed consistent below closing core partner firstOf otherThan trace lowestOf cycleOf shownCycle numberBytes numberAt chainBytes sheetOf blankSheet sheetTests planTests lossOutcome lossSheet planOutcome planSheet outcomeStatus outcomeCount mapAfter clear lossTold contradiction repairsMade turnRepairs contradicts turnOf bufferTests rebuildTests rebuildRefusal rebuildTurn entryAt nextNumber visited chainNumbers within different chainFits entriesAt chainEntries allAllowed clears followedArray followTests followStatus followOutcome followArray united partBy part joined undetermined determined survivorSum partSum partsCancel savedByte saved mapTests saveTests saveStatus saveAnswer saveArray savingStatus savingCount rectangle digit decimal repairWord fatalWord refusedWord entryLines listed listing
+    × (map (λ (c : Case). c .number) cases ≡ 1 ∷ 2 ∷ 3 ∷ 4 ∷ 5 ∷ 6 ∷ 7 ∷ 8 ∷ 9 ∷ replicate 11 0)
+unfolding cases sealStatus sealArray encoded encodedByte writeStatus writeArray writeTests written writtenByte isParityOf refusal arrayTests sideFits sizeFits blockFits arrayBytes arrayOf disks across down rows columns diskAt isData rowData columnData cell byte whole xsum _⊕_ tabulate gate every bit count lowest among on sumOver stripeSum sumsToZero grid layoutOf mapFits erasures without alone allowed firstAllowed someAllowed nextDisk repairOf peel repairs after residual residualCount lost fatal changed sumOfOthers repaired rebuilt zeroed consistent below closing core partner firstOf otherThan trace lowestOf cycleOf shownCycle numberBytes numberAt chainBytes sheetOf blankSheet sheetTests planTests lossOutcome lossSheet planOutcome planSheet outcomeStatus outcomeCount mapAfter clear lossTold contradiction repairsMade turnRepairs contradicts turnOf bufferTests rebuildTests rebuildRefusal rebuildTurn entryAt nextNumber visited chainNumbers within different numbersFit chainTests onChain noLeftovers cleanTests entriesAt chainEntries tidyTests tidyStatus tidyForm tidySheet allAllowed clears listTests followTests followStatus followOutcome followArray united partBy part joined undetermined determined survivorSum partSum partsCancel savedByte saved mapTests saveTests saveStatus saveAnswer saveArray savingStatus savingCount rectangle digit decimal repairWord fatalWord refusedWord entryLines listed listing
 cases-hold = (refl, refl)
 
 -- The example of paper 02, P3, on the sealed array 1 2 4 7 / 8 16 32 56 / 64 128 3 195 / 73 146 39 252. Nine disks are erased: eight are

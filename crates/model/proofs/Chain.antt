@@ -1,25 +1,28 @@
 -- The laws of the chain of a sheet from elsewhere: how to read it record by record, which chains fit, and what they list.
 -- Assumes nothing.
 use mathlib.Core.Path.{_≡_, refl, sym, _∙_, ap, ap₂, subst}
-use mathlib.Core.Bool.{Bool, true, false, cond, not, _&&_, _||_, or-true, true≢false, false≢true}
+use mathlib.Core.Bool.{Bool, true, false, cond, not, _&&_, _||_, and-assoc, and-false, or-true, true≢false, false≢true}
 use mathlib.Core.Logic.{_↔_, _⊎_, inl, inr, ⊎-elim}
-use mathlib.Core.List.{List, [], _∷_, _++_, append-nil}
-use Prim.Native.Nat.{ℕ, zero, suc, _+_, _-_, _≤_, _<_, zero-le}
-use native.Mathlib.Nat.{le-refl, le-of-suc-le-suc, not-suc-le-zero, pos-of-ne-zero, sub-zero}
+use mathlib.Core.List.{List, [], _∷_, _++_, append-assoc, append-nil}
+use Prim.Native.Nat.{ℕ, zero, suc, _+_, _*_, _-_, _/_, _≤_, _<_, zero-le}
+use native.Mathlib.Nat.{le-refl, le-of-suc-le-suc, not-suc-le-zero, pos-of-ne-zero, sub-zero, eq-or-lt-of-le, div-lt-iff-lt-mul, div-add-mod, mod-lt, mul-comm, mul-le-mul-left}
 use native.Mathlib.Numerals.{add-one}
 use native.Mathlib.Omega.{arith}
-use borrow.Author.Tests.{eq-eqb, ne-eqb, eqb-true, eqb-false, leb-true, le-leb, not-true, lt-leb}
-use lib.Dec.{eqb, leb}
-use lib.ListN.{length, getD, take, length-append}
+use borrow.Author.Tests.{eq-eqb, ne-eqb, eqb-true, eqb-false, leb-true, le-leb, not-true, lt-leb, lt-ltb, le-ltb}
+use lib.Arith.{digits-div}
+use lib.Dec.{eqb, leb, ltb}
+use lib.ListN.{length, getD, take, length-append, List·getD-eq-default}
 use lib.Seq.{append-snoc, take-suc, take-length}
 use Rattle.stripes.specs.Fold.{count}
 use Rattle.stripes.specs.System.{among}
 use Rattle.stripes.specs.Erased.{without}
 use Rattle.stripes.specs.Repair.{Entry, diskOf, stripeOf}
-use Rattle.stripes.proofs.Fold.{and-left, and-right, and-both, by-cases, count-le, count-without}
+use Rattle.stripes.proofs.Fold.{and-left, and-right, and-both, or-left, or-right, by-cases, lt-or-le, every-all, every-fails, every-not, count-le, count-without}
 use Rattle.stripes.proofs.Peel.{without-other}
-use Rattle.model.specs.Sheet.{Format, sheetOf, SheetBytes}
-use Rattle.model.specs.Chain.{entryAt, nextNumber, visited, chainNumbers, within, different, chainFits, entriesAt, chainEntries}
+use Rattle.model.specs.Refusal.{Test, _unless_, refusal}
+use Rattle.model.specs.Sheet.{Format, recordBytes, recordAt, sheetBytes, sheetOf, SheetBytes}
+use Rattle.model.specs.Chain.{entryAt, nextNumber, visited, chainNumbers, within, different, numbersFit, chainTests, chainRefusal, recordNumber, onChain, noLeftovers, Leftover, cleanTests, cleanRefusal, entriesAt, chainEntries}
+use Rattle.model.proofs.Refusal.{no-tests, fails, passes, by-test, passed, refused-first, first-accepted}
 use Rattle.model.proofs.Sheets.{Fitting, sheet-kind, sheet-bytes}
 
 -- ---- lists of numbers
@@ -35,6 +38,20 @@ among-which : (k j : ℕ) (ks : List ℕ) → among k (j ∷ ks) ≡ true → (k
 unfolding among
 among-which k j ks =
     by-cases (λ (b : Bool). (b || among k ks) ≡ true → (k ≡ j) ⊎ (among k ks ≡ true)) (eqb k j) (λ e h. inl (eqb-true k j e)) (λ e h. inr h)
+
+or-swap : (a b c : Bool) → (a || (b || c)) ≡ (b || (a || c))
+or-swap true b c = sym (or-true b)
+or-swap false b c = refl
+
+pub among-snoc : (k : ℕ) (ks : List ℕ) (j : ℕ) → among k (ks ++ (j ∷ [])) ≡ (eqb k j || among k ks)
+unfolding among
+among-snoc k [] j = refl
+among-snoc k (i ∷ ks) j = ap (λ (b : Bool). eqb k i || b) (among-snoc k ks j) ∙ or-swap (eqb k i) (eqb k j) (among k ks)
+
+within-append : (n : ℕ) (js ks : List ℕ) → within n (js ++ ks) ≡ (within n js && within n ks)
+unfolding within
+within-append n [] ks = refl
+within-append n (j ∷ js) ks = ap (λ (b : Bool). leb j n && b) (within-append n js ks) ∙ sym (and-assoc (leb j n) (within n js) (within n ks))
 
 -- Different numbers up to n of which a test holds are no more than it counts.
 count-listed : (n : ℕ) (t : ℕ → Bool) (ks : List ℕ) → within n ks ≡ true → different ks ≡ true
@@ -62,10 +79,15 @@ few n ks inside apart none =
 
 -- ---- the records visited
 module _ (f : Format) (s : List ℕ) where
-  entries-length : (ks : List ℕ) → length (entriesAt f s ks) ≡ length ks
+  pub entries-length : (ks : List ℕ) → length (entriesAt f s ks) ≡ length ks
   unfolding entriesAt
   entries-length [] = refl
   entries-length (k ∷ ks) = ap suc (entries-length ks)
+
+  pub entries-append : (js ks : List ℕ) → entriesAt f s (js ++ ks) ≡ entriesAt f s js ++ entriesAt f s ks
+  unfolding entriesAt
+  entries-append [] ks = refl
+  entries-append (j ∷ js) ks = ap (λ (w : List Entry). entryAt f s j ∷ w) (entries-append js ks)
 
   -- What is to be shown of the records visited from number k on, by cases: the chain ends there or goes on.
   visited-cases : (P : List ℕ → Type 0) (n k : ℕ) → (k ≡ 0 → P []) → (0 < k → P (k ∷ visited f s n (nextNumber f s k)))
@@ -90,6 +112,10 @@ module _ (f : Format) (s : List ℕ) where
   visited-zero (suc n) k =
       visited-cases (λ (ks : List ℕ). among 0 ks ≡ false) n k (λ e. refl)
       (λ h. rw (ne-eqb 0 k (λ e. omega arith)) (visited-zero n (nextNumber f s k)))
+
+  visited-none : (k : ℕ) → visited f s 0 k ≡ []
+  unfolding visited
+  visited-none k = refl
 
   -- A chain that has ended is the same in more steps.
   visited-more : (n k : ℕ) → length (visited f s n k) < n → visited f s (suc n) k ≡ visited f s n k
@@ -133,33 +159,179 @@ module _ (f : Format) (s : List ℕ) where
       (λ m. refl))
       (visited-different n (nextNumber f s k) (omega arith)))
 
-  -- ---- the test
+  first-on-chain : (i : ℕ) → i < 2 → onChain f s i ≡ true
+  unfolding onChain
+  first-on-chain i l = rw (lt-ltb i 2 l)
+
+  -- ---- the tests
+
+  pub numbers-fit : getD s 0 0 ≡ f .repairKind → within (f .records) (chainNumbers f s) ≡ true → numbersFit f s ≡ true
+  unfolding numbersFit
+  numbers-fit e inside = and-both (eq-eqb (getD s 0 0) (f .repairKind) e) inside
+
+  -- What is refused by which number,
+  pub refused-ten : numbersFit f s ≡ false → chainRefusal f s ≡ 10
+  unfolding chainRefusal chainTests
+  refused-ten = fails 10 (numbersFit f s) _
+
+  pub refused-thirteen : numbersFit f s ≡ true → different (chainNumbers f s) ≡ false → chainRefusal f s ≡ 13
+  unfolding chainRefusal chainTests
+  refused-thirteen fit twice = passes 10 (numbersFit f s) _ fit ∙ fails 13 (different (chainNumbers f s)) _ twice
+
+  chain-accepted : numbersFit f s ≡ true → different (chainNumbers f s) ≡ true → chainRefusal f s ≡ 0
+  unfolding chainRefusal chainTests
+  chain-accepted fit apart = passes 10 (numbersFit f s) _ fit ∙ passes 13 (different (chainNumbers f s)) _ apart ∙ no-tests
+
+  -- and what is known where nothing is.
+  chain-passed : chainRefusal f s ≡ 0
+      → (getD s 0 0 ≡ f .repairKind) × (within (f .records) (chainNumbers f s) ≡ true) × (different (chainNumbers f s) ≡ true)
+  unfolding chainRefusal chainTests numbersFit
+  chain-passed e =
+      let ks : List ℕ = chainNumbers f s in
+      let (fit, rest) = passed 10 (numbersFit f s) _ (omega arith) e in
+      let apart = passed 13 (different ks) _ (omega arith) rest .0 in
+      let kind : Bool = eqb (getD s 0 0) (f .repairKind) in
+      (eqb-true (getD s 0 0) (f .repairKind) (and-left kind (within (f .records) ks) fit), and-right kind (within (f .records) ks) fit, apart)
+
+  -- The tests that follow are reached,
+  pub chain-goes-on : chainRefusal f s ≡ 0 → (ts : List Test) → refusal (chainTests f s ++ ts) ≡ refusal ts
+  unfolding chainRefusal chainTests
+  chain-goes-on e ts =
+      let (fit, rest) = passed 10 (numbersFit f s) _ (omega arith) e in
+      passes 10 (numbersFit f s) _ fit ∙ passes 13 (different (chainNumbers f s)) ts (passed 13 (different (chainNumbers f s)) _ (omega arith) rest .0)
+
+  -- 14 among them,
+  pub chain-clean : chainRefusal f s ≡ 0 → cleanRefusal f s ≡ cond (noLeftovers f s) 0 14
+  unfolding cleanRefusal cleanTests refusal
+  chain-clean fit = chain-goes-on fit _
+
+  -- and otherwise not.
+  pub clean-first : (chainRefusal f s ≡ 0 → ⊥) → cleanRefusal f s ≡ chainRefusal f s
+  unfolding cleanRefusal cleanTests chainRefusal
+  clean-first = refused-first (chainTests f s) _
+
+  pub clean-exact : (cleanRefusal f s ≡ 0) ↔ ((chainRefusal f s ≡ 0) × (noLeftovers f s ≡ true))
+  unfolding cleanRefusal cleanTests chainRefusal
+  clean-exact = (
+    λ e.
+        let fit : chainRefusal f s ≡ 0 = first-accepted (chainTests f s) _ e in
+        (fit, passed 14 (noLeftovers f s) [] (omega arith) (sym (chain-goes-on fit _) ∙ e) .0),
+    λ (fit, clean). chain-goes-on fit _ ∙ passes 14 (noLeftovers f s) [] clean ∙ no-tests,
+  )
+
+  pub clean-goes-on : cleanRefusal f s ≡ 0 → (ts : List Test) → refusal (cleanTests f s ++ ts) ≡ refusal ts
+  unfolding cleanTests
+  clean-goes-on e ts =
+      let (fit, clean) = clean-exact .0 e in
+      ap refusal (append-assoc (chainTests f s) _ ts) ∙ chain-goes-on fit _ ∙ passes 14 (noLeftovers f s) ts clean
+
+  -- A sheet is refused by 10, 13 or 14.
+  pub clean-numbers : (P : ℕ → Type 0) → P 0 → P 10 → P 13 → P 14 → P (cleanRefusal f s)
+  unfolding cleanRefusal cleanTests chainTests
+  clean-numbers P none ten thirteen fourteen =
+      by-test P 10 (numbersFit f s) _ ten
+      (by-test P 13 (different (chainNumbers f s)) _ thirteen (by-test P 14 (noLeftovers f s) _ fourteen (rw no-tests none)))
 
   -- A chain that has ended within its steps fits if no number is too large.
   ended-fits : getD s 0 0 ≡ f .repairKind → length (chainNumbers f s) ≤ f .records → within (f .records) (chainNumbers f s) ≡ true
-      → chainFits f s ≡ true
-  unfolding chainFits chainNumbers
+      → chainRefusal f s ≡ 0
+  unfolding chainNumbers
   ended-fits e l inside =
-      and-both (eq-eqb (getD s 0 0) (f .repairKind) e) (and-both inside (visited-different (suc (f .records)) (getD s 1 0) (omega arith)))
+      chain-accepted (numbers-fit e inside) (visited-different (suc (f .records)) (getD s 1 0) (omega arith))
 
-  fits-numbers : chainFits f s ≡ true → (within (f .records) (chainNumbers f s) ≡ true) × (different (chainNumbers f s) ≡ true)
-  unfolding chainFits
-  fits-numbers e =
-      let ks : List ℕ = chainNumbers f s in
-      let both = and-right (eqb (getD s 0 0) (f .repairKind)) (within (f .records) ks && different ks) e in
-      (and-left (within (f .records) ks) (different ks) both, and-right (within (f .records) ks) (different ks) both)
-
-  fits-few : chainFits f s ≡ true → length (chainNumbers f s) ≤ f .records
+  fits-few : chainRefusal f s ≡ 0 → length (chainNumbers f s) ≤ f .records
   unfolding chainNumbers
   fits-few e =
-      let (inside, apart) = fits-numbers e in few (f .records) (chainNumbers f s) inside apart (visited-zero (suc (f .records)) (getD s 1 0))
+      let (kind, inside, apart) = chain-passed e in
+      few (f .records) (chainNumbers f s) inside apart (visited-zero (suc (f .records)) (getD s 1 0))
 
-  pub chain-few : chainFits f s ≡ true → length (chainEntries f s) ≤ f .records
+  pub chain-few : chainRefusal f s ≡ 0 → length (chainEntries f s) ≤ f .records
   unfolding chainEntries
   chain-few e = let most = fits-few e in let same = entries-length (chainNumbers f s) in omega arith
 
-  unfit : (chainFits f s ≡ true → ⊥) → chainFits f s ≡ false
-  unfit h = by-cases (λ (b : Bool). b ≡ false) (chainFits f s) (λ e. absurd (h e)) (λ e. refl)
+  -- A chain that leads outside ends there: behind the sheet all bytes count as 0.
+  outside-ends : length s ≡ sheetBytes f → (n k : ℕ) → within (f .records) (visited f s n k) ≡ false → visited f s (suc n) k ≡ visited f s n k
+  unfolding within visited nextNumber
+  outside-ends long zero k = λ out. absurd (true≢false out)
+  outside-ends long (suc n) k =
+      by-cases
+      (λ (b : Bool). within (f .records) (cond b [] (k ∷ visited f s n (nextNumber f s k))) ≡ false
+      → cond b [] (k ∷ visited f s (suc n) (nextNumber f s k)) ≡ cond b [] (k ∷ visited f s n (nextNumber f s k)))
+      (eqb k 0) (λ e out. refl)
+      (λ e out.
+      ap (λ (ks : List ℕ). k ∷ ks)
+      (⊎-elim
+      (λ (l : f .records < k).
+      let most = mul-le-mul-left (recordBytes f) (let h : f .records ≤ k - 1 = omega arith in h) in
+      let none : nextNumber f s k ≡ 0 = List·getD-eq-default s 0 (omega arith) in
+      ap (visited f s (suc n)) none ∙ visited-end (suc n) ∙ sym (ap (visited f s n) none ∙ visited-end n))
+      (λ (l : k ≤ f .records). outside-ends long n (nextNumber f s k) (rw (le-leb k (f .records) l) at out))
+      (lt-or-le (f .records) k)))
+
+  visited-few : (n k : ℕ) → length (visited f s n k) ≤ n
+  unfolding visited
+  visited-few zero k = zero-le
+  visited-few (suc n) k =
+      visited-cases (λ (ks : List ℕ). length ks ≤ suc n) n k (λ e. zero-le) (λ p. let up = visited-few n (nextNumber f s k) in omega arith)
+
+  -- So it does not come back to a record: a chain has not both a number that is too large and a record that is reached twice.
+  pub outside-no-ring : length s ≡ sheetBytes f → within (f .records) (chainNumbers f s) ≡ false → different (chainNumbers f s) ≡ true
+  unfolding chainNumbers
+  outside-no-ring long out =
+      let steps : ℕ = suc (f .records) in
+      let first : ℕ = getD s 1 0 in
+      let same : visited f s (suc steps) first ≡ visited f s steps first = outside-ends long steps first out in
+      let few = visited-few steps first in
+      let size = ap length same in
+      ap different (sym same) ∙ visited-different (suc steps) first (omega arith)
+
+  -- ---- bytes off the chain
+
+  -- A byte behind the first two is on the chain exactly if it is one of a record that the chain visits.
+  pub on-chain-exact : (i : ℕ) → 2 ≤ i
+      → (onChain f s i ≡ true)
+      ↔ ((k : ℕ) × (among k (chainNumbers f s) ≡ true) × (recordAt f k ≤ i) × (i < recordAt f k + recordBytes f))
+  unfolding onChain chainNumbers
+  on-chain-exact i h =
+      let n : ℕ = recordBytes f in
+      let whole = div-add-mod (i - 2) n in
+      let part = mod-lt (i - 2) {m = n} (omega arith) in
+      let back : recordNumber f i - 1 ≡ (i - 2) / n = omega arith in
+      let same = ap (λ (k : ℕ). n * k) back in (
+        λ e. (recordNumber f i, rw (le-ltb i 2 h) at e, omega arith, omega arith),
+        λ (k, on, low, high).
+            let some : 0 < k = pos-of-ne-zero (λ z.
+            true≢false (sym on ∙ ap (λ (j : ℕ). among j (chainNumbers f s)) z ∙ visited-zero (suc (f .records)) (getD s 1 0))) in
+            let turned = mul-comm n (k - 1) in
+            let split : i - 2 ≡ (k - 1) * n + (i - recordAt f k) = omega arith in
+            let is : (i - 2) / n ≡ k - 1 = ap (λ (j : ℕ). j / n) split ∙ digits-div (k - 1) (omega arith) in
+            let number : recordNumber f i ≡ k = omega arith in
+            ap (λ (j : ℕ). ltb i 2 || among j (chainNumbers f s)) number ∙ (rw (on, or-true)),
+      )
+
+  -- What refusal 14 finds is a byte that is left over.
+  pub leftovers-exact : (noLeftovers f s ≡ false) ↔ ((i : ℕ) × Leftover f s i)
+  unfolding noLeftovers
+  leftovers-exact = (
+    λ e.
+        let (i, inside, fails) = every-fails (sheetBytes f) (λ i. onChain f s i || eqb (getD s i 0) 0) e in
+        let off = or-left (onChain f s i) (eqb (getD s i 0) 0) fails in
+        let behind : 2 ≤ i =
+        ⊎-elim (λ l. absurd (true≢false (sym (first-on-chain i l) ∙ off))) (λ l. l) (lt-or-le i 2) in (
+          i,
+          record {
+            behind = behind;
+            inside = inside;
+            off = λ k on low high. true≢false (sym (on-chain-exact i behind .1 (k, on, low, high)) ∙ off);
+            some = eqb-false (getD s i 0) 0 (or-right (onChain f s i) (eqb (getD s i 0) 0) fails);
+          },
+        ),
+    λ (i, p).
+        let off : onChain f s i ≡ false =
+        by-cases (λ (b : Bool). b ≡ false) (onChain f s i)
+        (λ e. let (k, on, low, high) = on-chain-exact i (p .behind) .0 e in absurd (p .off k on low high)) (λ e. refl) in
+        every-not (sheetBytes f) _ i (p .inside) (rw (off, ne-eqb (getD s i 0) 0 (p .some))),
+  )
 
 -- ---- reading record by record
 
@@ -167,61 +339,90 @@ module _ (f : Format) (s : List ℕ) where
 abbrev unread : Format → List ℕ → (k number : ℕ) → List ℕ
 unread f s k number = visited f s (suc (f .records - k)) number
 
--- The first k records of a chain are read, `number` comes next, and w is what they list.
-pub record Walked (f : Format) (s : List ℕ) (k number : ℕ) (w : List Entry) : Type 0 where
-  pub lists : chainEntries f s ≡ w ++ entriesAt f s (unread f s k number)
-  pub inside : within (f .records) (chainNumbers f s) ≡ within (f .records) (unread f s k number)
-  pub counted : length w ≡ k
-  pub most : k ≤ f .records
+-- The records ks of a chain are read, its first ones, and `number` comes next.
+pub record Walked (f : Format) (s : List ℕ) (number : ℕ) (ks : List ℕ) : Type 0 where
+  pub numbers : chainNumbers f s ≡ ks ++ unread f s (length ks) number
+  pub inside : within (f .records) ks ≡ true
+  pub most : length ks ≤ f .records
 
-pub walked-first : (f : Format) (s : List ℕ) → Walked f s 0 (getD s 1 0) []
-unfolding chainNumbers chainEntries
-walked-first f s = record { lists = rw sub-zero; inside = rw sub-zero; counted = refl; most = zero-le }
+pub walked-first : (f : Format) (s : List ℕ) → Walked f s (getD s 1 0) []
+unfolding chainNumbers within
+walked-first f s = record { numbers = rw sub-zero; inside = refl; most = zero-le }
 
-pub walked-next : (f : Format) (s : List ℕ) (k number : ℕ) (w : List Entry) → Walked f s k number w
-    → k < f .records → 0 < number → number ≤ f .records
-    → Walked f s (k + 1) (nextNumber f s number) (w ++ (entryAt f s number ∷ []))
-unfolding within entriesAt
-walked-next f s k number w p more some most =
-    let steps : f .records - k ≡ suc (f .records - (k + 1)) = omega arith in
-    let on : unread f s k number ≡ number ∷ unread f s (k + 1) (nextNumber f s number) =
+pub walked-next : (f : Format) (s : List ℕ) (number : ℕ) (ks : List ℕ) → Walked f s number ks
+    → length ks < f .records → 0 < number → number ≤ f .records → Walked f s (nextNumber f s number) (ks ++ (number ∷ []))
+unfolding within
+walked-next f s number ks p more some most =
+    let k : ℕ = length ks in
+    let long : length (ks ++ (number ∷ [])) ≡ suc k = length-append ks (number ∷ []) ∙ add-one k in
+    let steps : f .records - k ≡ suc (f .records - suc k) = omega arith in
+    let on : unread f s k number ≡ number ∷ unread f s (suc k) (nextNumber f s number) =
     visited-next f s (f .records - k) number some ∙ ap (λ (n : ℕ). number ∷ visited f s n (nextNumber f s number)) steps in
     record {
-      lists = p .lists ∙ ap (λ (ks : List ℕ). w ++ entriesAt f s ks) on ∙ sym (append-snoc w (entryAt f s number) _);
-      inside = p .inside ∙ ap (within (f .records)) on ∙ (rw (le-leb number (f .records) most));
-      counted = length-append w (entryAt f s number ∷ []) ∙ ap (λ (n : ℕ). n + 1) (p .counted);
+      numbers = p .numbers ∙ ap (λ (js : List ℕ). ks ++ js) on
+          ∙ ap (λ (n : ℕ). ks ++ (number ∷ unread f s n (nextNumber f s number))) (sym long) ∙ sym (append-snoc ks number _);
+      inside = within-append (f .records) ks (number ∷ []) ∙ and-both (p .inside) (and-both (le-leb number (f .records) most) refl);
       most = omega arith;
     }
 
-module _ {f : Format} {s : List ℕ} {k number : ℕ} {w : List Entry} (p : Walked f s k number w) where
+module _ {f : Format} {s : List ℕ} {number : ℕ} {ks : List ℕ} (p : Walked f s number ks) where
+  -- Where another number comes next, the chain goes on with it.
+  walked-on : 0 < number → chainNumbers f s ≡ ks ++ (number ∷ visited f s (f .records - length ks) (nextNumber f s number))
+  walked-on some = p .numbers ∙ ap (λ (js : List ℕ). ks ++ js) (visited-next f s (f .records - length ks) number some)
+
   -- A chain that ends fits: a record reached twice would be reached again and again.
-  pub walked-end : number ≡ 0 → getD s 0 0 ≡ f .repairKind → (chainFits f s ≡ true) × (chainEntries f s ≡ w)
-  unfolding chainEntries within entriesAt
+  pub walked-end : number ≡ 0 → getD s 0 0 ≡ f .repairKind → (chainRefusal f s ≡ 0) × (chainNumbers f s ≡ ks)
   walked-end z kind =
-      let none : unread f s k number ≡ [] = ap (visited f s (suc (f .records - k))) z ∙ visited-end f s (suc (f .records - k)) in
-      let is : chainEntries f s ≡ w = p .lists ∙ ap (λ (ks : List ℕ). w ++ entriesAt f s ks) none ∙ append-nil w in
-      let long = sym (entries-length f s (chainNumbers f s)) ∙ ap length is ∙ p .counted in
-      (ended-fits f s kind (omega arith) (p .inside ∙ ap (within (f .records)) none), is)
+      let none : unread f s (length ks) number ≡ [] =
+      ap (visited f s (suc (f .records - length ks))) z ∙ visited-end f s (suc (f .records - length ks)) in
+      let is : chainNumbers f s ≡ ks = p .numbers ∙ ap (λ (js : List ℕ). ks ++ js) none ∙ append-nil ks in
+      let long = ap length is in
+      let most = p .most in
+      (ended-fits f s kind (omega arith) (ap (within (f .records)) is ∙ p .inside), is)
 
-  -- The next number is too large.
-  pub walked-outside : f .records < number → chainFits f s ≡ false
-  unfolding within
+  -- The next number is too large: 10.
+  pub walked-outside : f .records < number → chainRefusal f s ≡ 10
+  unfolding within numbersFit
   walked-outside h =
-      unfit f s (λ e.
-      true≢false (sym (fits-numbers f s e .0) ∙ p .inside
-      ∙ ap (within (f .records)) (visited-next f s (f .records - k) number (omega arith)) ∙ (rw (lt-leb number (f .records) h))))
+      let outside : within (f .records) (chainNumbers f s) ≡ false =
+      ap (within (f .records)) (walked-on (omega arith)) ∙ within-append (f .records) ks _ ∙ (rw (p .inside, lt-leb number (f .records) h)) in
+      refused-ten f s (rw (outside, and-false))
 
-  -- All records are read, and another number comes next.
-  pub walked-ring : f .records ≤ k → 0 < number → chainFits f s ≡ false
-  unfolding chainEntries entriesAt
-  walked-ring all some =
-      unfit f s (λ e.
-      let few = chain-few f s e in
-      let on = visited-next f s (f .records - k) number some in
-      let long = ap length (p .lists ∙ ap (λ (ks : List ℕ). w ++ entriesAt f s ks) on) ∙ length-append w _ in
-      omega arith)
+  -- All records are read, and another one comes next: 13.
+  pub walked-ring : getD s 0 0 ≡ f .repairKind → f .records ≤ length ks → 0 < number → number ≤ f .records → chainRefusal f s ≡ 13
+  unfolding within
+  walked-ring kind all some most =
+      let none : f .records - length ks ≡ 0 = omega arith in
+      let is : chainNumbers f s ≡ ks ++ (number ∷ []) =
+      walked-on some ∙ ap (λ (n : ℕ). ks ++ (number ∷ visited f s n (nextNumber f s number))) none ∙ (rw visited-none) in
+      let inside : within (f .records) (chainNumbers f s) ≡ true =
+      ap (within (f .records)) is ∙ within-append (f .records) ks (number ∷ []) ∙ and-both (p .inside) (and-both (le-leb number (f .records) most) refl) in
+      let fit : numbersFit f s ≡ true = numbers-fit f s kind inside in
+      let long = ap length is ∙ length-append ks (number ∷ []) in
+      refused-thirteen f s fit
+      (by-cases (λ (b : Bool). b ≡ false) (different (chainNumbers f s))
+      (λ e. let few = fits-few f s (chain-accepted f s fit e) in absurd (omega arith)) (λ e. refl))
 
 -- ---- the sheets that the library writes
+
+-- The numbers from 1 to n.
+unfoldable upTo : ℕ → List ℕ
+upTo zero = []
+upTo (suc n) = upTo n ++ (suc n ∷ [])
+
+upTo-length : (n : ℕ) → length (upTo n) ≡ n
+unfolding upTo
+upTo-length zero = refl
+upTo-length (suc n) = let up = upTo-length n in length-append (upTo n) (suc n ∷ []) ∙ omega arith
+
+upTo-among : (n k : ℕ) → 0 < k → k ≤ n → among k (upTo n) ≡ true
+unfolding upTo
+upTo-among zero k some most = absurd (omega arith)
+upTo-among (suc n) k some most =
+    among-snoc k (upTo n) (suc n)
+    ∙ ⊎-elim (λ (e : k ≡ suc n). rw (eq-eqb k (suc n) e)) (λ (l : k < suc n). rw (upTo-among n k some (le-of-suc-le-suc l), or-true))
+    (eq-or-lt-of-le most)
+
 module _ (f : Format) (w : List Entry) (byte : f .repairKind < 256) (fits : Fitting f w) where
   abbrev sheet : List ℕ
   sheet = sheetOf f (f .repairKind) w
@@ -238,31 +439,61 @@ module _ (f : Format) (w : List Entry) (byte : f .repairKind < 256) (fits : Fitt
 
   -- Its first k records are the first k entries of the list; record number k + 1 comes next, if there is one.
   written-walked : (k : ℕ) → k ≤ length w
-      → (number : ℕ) × Walked f sheet k number (take k w) × (k < length w → number ≡ suc k) × (k ≡ length w → number ≡ 0)
-  unfolding nextNumber
-  written-walked zero h = (getD sheet 1 0, walked-first f sheet, λ l. bytes .firstRecord l, λ e. bytes .noRecord (sym e))
+      → (number : ℕ) × Walked f sheet number (upTo k) × (entriesAt f sheet (upTo k) ≡ take k w)
+      × (k < length w → number ≡ suc k) × (k ≡ length w → number ≡ 0)
+  unfolding nextNumber upTo entriesAt
+  written-walked zero h = (getD sheet 1 0, walked-first f sheet, refl, λ l. bytes .firstRecord l, λ e. bytes .noRecord (sym e))
   written-walked (suc k) h =
-      let (number, walked, on, _) = written-walked k (omega arith) in
+      let (number, walked, lists, on, _) = written-walked k (omega arith) in
       let room = fits .room in
-      let is : number ≡ suc k = on h in
-      let entry = ap (entryAt f sheet) is ∙ written-entry k h in (
+      let long = upTo-length k in
+      let is : number ≡ suc k = on h in (
         nextNumber f sheet number,
-        rw (take-suc w k (record { disk = 0; stripe = 0 }) h, ← entry, ← add-one k)
-            (walked-next f sheet k number (take k w) walked (omega arith) (omega arith) (omega arith)),
+        subst (λ (n : ℕ). Walked f sheet (nextNumber f sheet number) (upTo k ++ (n ∷ []))) is
+            (walked-next f sheet number (upTo k) walked (omega arith) (omega arith) (omega arith)),
+        entries-append f sheet (upTo k) (suc k ∷ []) ∙ ap₂ (λ (v u : List Entry). v ++ u) lists (ap (λ (r : Entry). r ∷ []) (written-entry k h))
+            ∙ sym (take-suc w k (record { disk = 0; stripe = 0 }) h),
         λ l. ap (nextNumber f sheet) is ∙ bytes .next (suc k) (omega arith) l ∙ add-one (suc k),
         λ e. ap (nextNumber f sheet) is ∙ bytes .last (suc k) (omega arith) e,
       )
 
-  -- The list of repairs is read back as it was meant.
-  pub written-chain : (chainFits f sheet ≡ true) × (chainEntries f sheet ≡ w)
-  written-chain =
-      let (number, walked, _, end) = written-walked (length w) (le-refl (length w)) in
-      walked-end (rw take-length at walked) (end refl) (bytes .kindFirst)
+  written-numbers : (chainRefusal f sheet ≡ 0) × (chainNumbers f sheet ≡ upTo (length w)) × (entriesAt f sheet (upTo (length w)) ≡ w)
+  written-numbers =
+      let (number, walked, lists, _, end) = written-walked (length w) (le-refl (length w)) in
+      let (fit, is) = walked-end walked (end refl) (bytes .kindFirst) in
+      (fit, is, lists ∙ take-length w)
+
+  -- Nothing is left over: the chain visits the first records, and behind them stand zeros.
+  written-clean : noLeftovers f sheet ≡ true
+  unfolding noLeftovers onChain
+  written-clean =
+      every-all (sheetBytes f)
+      (λ i b.
+      ⊎-elim (λ l. rw (first-on-chain f sheet i l))
+      (λ h.
+      ⊎-elim
+      (λ l.
+      let turned = mul-comm (recordBytes f) (length w) in
+      let most : recordNumber f i ≤ length w = div-lt-iff-lt-mul (omega arith) .1 (omega arith) in
+      let on : among (recordNumber f i) (chainNumbers f sheet) ≡ true =
+      ap (among (recordNumber f i)) (written-numbers .1) ∙ upTo-among (length w) (recordNumber f i) (omega arith) most in
+      rw (on, or-true))
+      (λ l.
+      let same = ap (λ (n : ℕ). recordBytes f * n) (let back : length w + 1 - 1 ≡ length w = omega arith in back) in
+      let zero : getD sheet i 0 ≡ 0 = bytes .zeros i (omega arith) b in
+      rw (eq-eqb (getD sheet i 0) 0 zero, or-true))
+      (lt-or-le i (2 + recordBytes f * length w)))
+      (lt-or-le i 2))
+
+  -- So the list of repairs is read back as it was meant.
+  pub written-chain : (cleanRefusal f sheet ≡ 0) × (chainEntries f sheet ≡ w)
+  unfolding chainEntries
+  written-chain = let (fit, is, lists) = written-numbers in (clean-exact f sheet .1 (fit, written-clean), ap (entriesAt f sheet) is ∙ lists)
 
 -- A loop's sheet is refused.
-pub loop-sheet-unfit : (f : Format) (w : List Entry) → (f .loopKind ≡ f .repairKind → ⊥) → chainFits f (sheetOf f (f .loopKind) w) ≡ false
-unfolding chainFits
-loop-sheet-unfit f w other = rw (sheet-kind f (f .loopKind) w, ne-eqb (f .loopKind) (f .repairKind) other)
+pub clean-loop : (f : Format) (w : List Entry) → (f .loopKind ≡ f .repairKind → ⊥) → cleanRefusal f (sheetOf f (f .loopKind) w) ≡ 10
+unfolding cleanRefusal cleanTests chainTests numbersFit
+clean-loop f w other = fails 10 _ _ (rw (sheet-kind f (f .loopKind) w, ne-eqb (f .loopKind) (f .repairKind) other))
 
 -- ---- chains that visit any records in any order
 
@@ -284,7 +515,7 @@ module _ (f : Format) (s : List ℕ) where
 
   -- Such a chain fits if no number is too large. Its records differ, so they are few.
   pub linked-fits : (ks : List ℕ) (w : List Entry) → getD s 0 0 ≡ f .repairKind → Linked f s (getD s 1 0) ks w → within (f .records) ks ≡ true
-      → (chainFits f s ≡ true) × (chainEntries f s ≡ w) × (chainNumbers f s ≡ ks)
+      → (chainRefusal f s ≡ 0) × (chainEntries f s ≡ w) × (chainNumbers f s ≡ ks)
   unfolding chainNumbers chainEntries
   linked-fits ks w kind linked inside =
       let first : ℕ = getD s 1 0 in
@@ -305,20 +536,16 @@ module _ (f : Format) (s : List ℕ) where
       (λ e h. subst (λ (k : ℕ). Linked f s k [] []) (sym e) ends) (λ p h. goes p (visited-linked n (nextNumber f s k) (le-of-suc-le-suc h)))
 
   -- Conversely a chain that fits ends.
-  pub fits-linked : chainFits f s ≡ true → Linked f s (getD s 1 0) (chainNumbers f s) (chainEntries f s)
+  pub fits-linked : chainRefusal f s ≡ 0 → Linked f s (getD s 1 0) (chainNumbers f s) (chainEntries f s)
   unfolding chainNumbers chainEntries
   fits-linked e = let most = fits-few f s e in visited-linked (suc (f .records)) (getD s 1 0) (omega arith)
 
-  -- What refusal 10 tests, in one sentence: the kind is that of repairs, and from the first number on the chain visits records of the
-  -- sheet and ends.
-  pub chain-exact : (chainFits f s ≡ true)
+  -- What 10 and 13 let through, in one sentence: the kind is that of repairs, and from the first number on the chain visits records of
+  -- the sheet and ends.
+  pub chain-exact : (chainRefusal f s ≡ 0)
       ↔ ((getD s 0 0 ≡ f .repairKind) × ((ks : List ℕ) × (w : List Entry) × Linked f s (getD s 1 0) ks w × (within (f .records) ks ≡ true)))
-  unfolding chainFits
   chain-exact = (
-    λ e. (
-      eqb-true (getD s 0 0) (f .repairKind) (and-left (eqb (getD s 0 0) (f .repairKind)) _ e),
-      (chainNumbers f s, chainEntries f s, fits-linked e, fits-numbers f s e .0),
-    ),
+    λ e. let (kind, inside, apart) = chain-passed f s e in (kind, (chainNumbers f s, chainEntries f s, fits-linked e, inside)),
     λ (kind, (ks, w, linked, inside)). linked-fits ks w kind linked inside .0,
   )
 
@@ -346,12 +573,14 @@ module _ (f : Format) (s t : List ℕ) where
 
   pub off-chain : getD s 0 0 ≡ getD t 0 0 → getD s 1 0 ≡ getD t 1 0
       → ((k : ℕ) → among k (chainNumbers f s) ≡ true → (entryAt f s k ≡ entryAt f t k) × (nextNumber f s k ≡ nextNumber f t k))
-      → (chainFits f s ≡ chainFits f t) × (chainEntries f s ≡ chainEntries f t)
-  unfolding chainNumbers chainFits chainEntries
+      → (chainRefusal f s ≡ chainRefusal f t) × (chainEntries f s ≡ chainEntries f t)
+  unfolding chainNumbers chainRefusal chainTests numbersFit chainEntries
   off-chain kind first agree =
       let steps : ℕ = suc (f .records) in
       let same : chainNumbers f s ≡ chainNumbers f t =
       visited-same steps (getD s 1 0) (λ j m. agree j m .1) ∙ ap (visited f t steps) first in (
-        ap₂ (λ (k : ℕ) (ks : List ℕ). eqb k (f .repairKind) && (within (f .records) ks && different ks)) kind same,
+        ap₂
+            (λ (k : ℕ) (ks : List ℕ). refusal (10 unless (eqb k (f .repairKind) && within (f .records) ks) ∷ 13 unless different ks ∷ []))
+            kind same,
         entries-same (chainNumbers f s) (λ k m. agree k m .0) ∙ ap (entriesAt f t) same,
       )

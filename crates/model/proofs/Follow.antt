@@ -4,7 +4,7 @@
 use mathlib.Core.Path.{_≡_, refl, sym, _∙_, ap}
 use mathlib.Core.Bool.{Bool, true, false, cond, true≢false}
 use mathlib.Core.Logic.{_↔_, _⊎_, inl, inr}
-use mathlib.Core.List.{List}
+use mathlib.Core.List.{List, _++_}
 use Prim.Native.Nat.{ℕ, _≤_, _<_}
 use native.Mathlib.Omega.{arith}
 use borrow.Author.Tests.{ne-eqb, eqb-true, eqb-false}
@@ -17,12 +17,12 @@ use Rattle.stripes.specs.Repair.{Entry, repairs, fatal, rebuilt, zeroed, clears
 use Rattle.stripes.specs.Cycle.{shownCycle}
 use Rattle.model.specs.Grid.{disks, sizeFits}
 use Rattle.model.specs.Refusal.{refusal}
-use Rattle.model.specs.Sheet.{sheetOf, narrow, sheetBytes}
-use Rattle.model.specs.Chain.{entryAt, nextNumber, chainNumbers, within, chainFits, chainEntries}
+use Rattle.model.specs.Sheet.{Format, sheetOf, narrow, sheetBytes}
+use Rattle.model.specs.Chain.{within, chainTests, chainRefusal, noLeftovers, cleanTests, cleanRefusal, chainEntries}
 use Rattle.model.specs.Plan.{planTests, outcomeStatus, lossSheet, planSheet, sheetLayout}
 use Rattle.model.specs.Turn.{Turn, lossTold, contradiction, repairsMade, turnOf, wholeRebuild}
 use Rattle.model.specs.Rebuild.{bufferTests, bufferRefusal, rebuildRefusal, rebuildTurn}
-use Rattle.model.specs.Follow.{Usable, followedArray, followTests, followStatus, followOutcome, followArray}
+use Rattle.model.specs.Follow.{Usable, followedArray, listTests, followTests, followStatus, listOutcome, listArray, followOutcome, followArray}
 use Rattle.model.specs.declared.Size.{Size}
 use Rattle.model.specs.declared.Outcome.{Outcome}
 use Rattle.model.specs.declared.Outcome.the-variants.{Repairs, Refused}
@@ -35,7 +35,7 @@ use Rattle.model.proofs.Refusal.{refused-first, passed}
 use Rattle.model.proofs.Limits.{peels-fitting}
 use Rattle.model.proofs.Accept.{first-five, buffers-fit, buffers-passed}
 use Rattle.model.proofs.Sheets.{sheet-length}
-use Rattle.model.proofs.Chain.{written-chain, loop-sheet-unfit, Linked, linked-fits, off-chain}
+use Rattle.model.proofs.Chain.{clean-exact, clean-goes-on, clean-numbers, written-chain, clean-loop, Linked, linked-fits}
 use Rattle.model.proofs.Contents.{same-whole}
 use Rattle.model.proofs.Demand3.{rebuild-whole}
 
@@ -47,12 +47,11 @@ Gives z B a m s o b = (followOutcome z B a m s ≡ o) × (followArray z B a m s 
 module _ (z : Size) (B : ℕ) (a m s : List ℕ) where
   -- What follow gives where it refuses by k, or where k is 0.
   pub follow-given : (k : ℕ) → followStatus z B a m s ≡ k
-      → Gives z B a m s (cond (eqb k 0) (Repairs (length (chainEntries narrow s))) (Refused k))
-      (cond (eqb k 0) (followedArray z B a s) (cond (eqb k 7) (zeroed (whole B) a (erasures m)) a))
+      → Gives z B a m s (listOutcome k (chainEntries narrow s)) (listArray z B a m k (chainEntries narrow s))
   unfolding followOutcome followArray
   follow-given k e = (rw e, rw e)
 
-  status-is : outcomeStatus (followOutcome z B a m s) ≡ followStatus z B a m s
+  pub status-is : outcomeStatus (followOutcome z B a m s) ≡ followStatus z B a m s
   unfolding followOutcome outcomeStatus
   status-is =
       let k = followStatus z B a m s in
@@ -60,11 +59,14 @@ module _ (z : Size) (B : ℕ) (a m s : List ℕ) where
       (λ e. sym (eqb-true k 0 e)) (λ e. refl)
 
 -- It is 7 in one case only.
-seven-only : (p q r : Bool) → _≡_ {A = ℕ} (cond p (cond q (cond r 0 7) 11) 10) 7 → (p ≡ true) × (q ≡ true) × (r ≡ false)
-seven-only true true true e = absurd (omega arith)
-seven-only true true false e = (refl, refl, refl)
-seven-only true false r e = absurd (omega arith)
-seven-only false q r e = absurd (omega arith)
+seven-only : (q r : Bool) → _≡_ {A = ℕ} (cond q (cond r 0 7) 11) 7 → (q ≡ true) × (r ≡ false)
+seven-only true true e = absurd (omega arith)
+seven-only true false e = (refl, refl)
+seven-only false r e = absurd (omega arith)
+
+-- A sheet is not refused by 7.
+clean-seven : (f : Format) (s : List ℕ) → cleanRefusal f s ≡ 7 → ⊥
+clean-seven f s = clean-numbers f s (λ k. k ≡ 7 → ⊥) (λ e. omega arith) (λ e. omega arith) (λ e. omega arith) (λ e. omega arith)
 
 -- Rebuild keeps the array where the loss is fatal.
 rebuild-kept : (z : Size) (B : ℕ) (a m t : List ℕ) (k : ℕ) → fatal (sheetLayout z) (erasures m) ≡ true → rebuildTurn z B a m t k .array ≡ a
@@ -83,16 +85,21 @@ module _ (z : Size) (B : ℕ) (a m s : List ℕ) where
       rw (ne-eqb k 0 refused, ne-eqb k 7 (λ e. omega arith)) at
       (follow-given z B a m s k (refused-first (bufferTests z B (length a) m (length s)) _ refused))
 
-  -- Otherwise 10 exactly if the chain does not fit; else 11 exactly if a step is not an allowed repair or a disk stays erased; else 7
-  -- exactly if a stripe's sum is not zero after the repairs.
-  pub follow-order : bufferRefusal z B a m s ≡ 0
-      → followStatus z B a m s
-      ≡ cond (chainFits narrow s)
-      (cond (clears (sheetLayout z) (erasures m) (chainEntries narrow s)) (cond (consistent (sheetLayout z) (whole B) (followedArray z B a s)) 0 7) 11) 10
-  unfolding followStatus followTests refusal
+  -- Otherwise the sheet's tests decide, 10, 13 and 14, before those of its list.
+  follow-order : bufferRefusal z B a m s ≡ 0 → followStatus z B a m s ≡ refusal (cleanTests narrow s ++ listTests z B a m (chainEntries narrow s))
+  unfolding followStatus followTests
   follow-order ok = buffers-passed z B a m s ok _
 
-  -- Numbers 10 and 11 come before any block is changed: after a refusal by a number other than 7 the array is as it was.
+  -- Where these let it through, 11 exactly if a step is not an allowed repair or a disk stays erased; else 7 exactly if a stripe's sum
+  -- is not zero after the repairs.
+  pub follow-listed : bufferRefusal z B a m s ≡ 0 → cleanRefusal narrow s ≡ 0
+      → followStatus z B a m s
+      ≡ cond (clears (sheetLayout z) (erasures m) (chainEntries narrow s))
+      (cond (consistent (sheetLayout z) (whole B) (followedArray z B a (chainEntries narrow s))) 0 7) 11
+  unfolding listTests refusal
+  follow-listed ok clean = follow-order ok ∙ clean-goes-on narrow s clean _
+
+  -- All numbers but 7 come before any block is changed: after a refusal by a number other than 7 the array is as it was.
   pub follow-refused : (outcomeStatus (followOutcome z B a m s) ≡ 0 → ⊥) → (outcomeStatus (followOutcome z B a m s) ≡ 7 → ⊥)
       → followArray z B a m s ≡ a
   unfolding followArray
@@ -101,44 +108,46 @@ module _ (z : Size) (B : ℕ) (a m s : List ℕ) where
       rw (ne-eqb (followStatus z B a m s) 0 (λ e. some (status ∙ e)), ne-eqb (followStatus z B a m s) 7 (λ e. other (status ∙ e)))
 
   module _ (ok : bufferRefusal z B a m s ≡ 0) where
-    -- 10, and nothing changes.
-    pub follow-ten : chainFits narrow s ≡ false → Gives z B a m s (Refused 10) a
-    follow-ten unfit = follow-given z B a m s 10 (follow-order ok ∙ (rw unfit))
+    -- 10, 13 and 14, and nothing changes.
+    pub follow-unclean : (cleanRefusal narrow s ≡ 0 → ⊥) → Gives z B a m s (Refused (cleanRefusal narrow s)) a
+    unfolding cleanRefusal
+    follow-unclean refused =
+        let k = cleanRefusal narrow s in
+        rw (ne-eqb k 0 refused, ne-eqb k 7 (clean-seven narrow s)) at
+        (follow-given z B a m s k (follow-order ok ∙ refused-first (cleanTests narrow s) _ refused))
 
     -- 11, and nothing changes.
-    pub follow-eleven : chainFits narrow s ≡ true → clears (sheetLayout z) (erasures m) (chainEntries narrow s) ≡ false → Gives z B a m s (Refused 11) a
-    follow-eleven chain unclear = follow-given z B a m s 11 (follow-order ok ∙ (rw (chain, unclear)))
+    pub follow-eleven : cleanRefusal narrow s ≡ 0 → clears (sheetLayout z) (erasures m) (chainEntries narrow s) ≡ false → Gives z B a m s (Refused 11) a
+    follow-eleven clean unclear = follow-given z B a m s 11 (follow-listed ok clean ∙ (rw unclear))
 
     -- The repairs of a usable sheet leave all sums zero exactly if the survivors belong to a sealed array.
     pub follow-judged : Usable z m s → Bytes a
-        → (consistent (sheetLayout z) (whole B) (followedArray z B a s) ≡ true) ↔ Belongs (sheetLayout z) (whole B) (erasures m) a
-    unfolding followedArray
-    follow-judged (chain, clear) =
+        → (consistent (sheetLayout z) (whole B) (followedArray z B a (chainEntries narrow s)) ≡ true) ↔ Belongs (sheetLayout z) (whole B) (erasures m) a
+    follow-judged (clean, clear) =
         let array = buffers-fit z B a m s ok .0 in
         clears-judged (sheetLayout z) (layout-ordered z (narrow .base) (rows-below z (array .size)) .bounded) B (erasures m) a (layout-sized z (narrow .base) B a (array .long)) (chainEntries narrow s) clear
 
     -- If they do, the array becomes that one, and the count of repairs is that of the erased disks.
     pub follow-restores : Usable z m s → (b : List ℕ) → Codeword (sheetLayout z) (whole B) b → Agree (sheetLayout z) (whole B) (erasures m) a b
         → Gives z B a m s (Repairs (count (disks z) (erasures m))) b
-    unfolding followedArray
-    follow-restores (chain, clear) b word agree =
+    follow-restores (clean, clear) b word agree =
         let array = buffers-fit z B a m s ok .0 in
-        let is : followedArray z B a s ≡ b =
+        let is : followedArray z B a (chainEntries narrow s) ≡ b =
         clears-restored (sheetLayout z) (layout-ordered z (narrow .base) (rows-below z (array .size)) .bounded) B (erasures m) a (layout-sized z (narrow .base) B a (array .long))
         (chainEntries narrow s) clear b word agree in
-        let sealed : consistent (sheetLayout z) (whole B) (followedArray z B a s) ≡ true =
+        let sealed : consistent (sheetLayout z) (whole B) (followedArray z B a (chainEntries narrow s)) ≡ true =
         ap (consistent (sheetLayout z) (whole B)) is ∙ consistent-iff (sheetLayout z) (whole B) b .1 (word .sums) in
-        let (answer, left) = follow-given z B a m s 0 (follow-order ok ∙ (rw (chain, clear, sealed))) in
+        let (answer, left) = follow-given z B a m s 0 (follow-listed ok clean ∙ (rw (clear, sealed))) in
         (answer ∙ (rw (clears-length (sheetLayout z) (erasures m) (chainEntries narrow s) clear, layout-disks z (narrow .base))), left ∙ is)
 
     -- If they belong to none, follow refuses by 7, with zeros in the erased blocks;
     pub follow-seven : Usable z m s → Bytes a → (Belongs (sheetLayout z) (whole B) (erasures m) a → ⊥)
         → Gives z B a m s (Refused 7) (zeroed (whole B) a (erasures m))
     follow-seven usable small none =
-        let unsealed : consistent (sheetLayout z) (whole B) (followedArray z B a s) ≡ false =
-        by-cases (λ (t : Bool). t ≡ false) (consistent (sheetLayout z) (whole B) (followedArray z B a s))
+        let unsealed : consistent (sheetLayout z) (whole B) (followedArray z B a (chainEntries narrow s)) ≡ false =
+        by-cases (λ (t : Bool). t ≡ false) (consistent (sheetLayout z) (whole B) (followedArray z B a (chainEntries narrow s)))
         (λ e. absurd (none (follow-judged usable small .0 e))) (λ e. refl) in
-        follow-given z B a m s 7 (follow-order ok ∙ (rw (usable .0, usable .1, unsealed)))
+        follow-given z B a m s 7 (follow-listed ok (usable .0) ∙ (rw (usable .1, unsealed)))
 
     -- and it does so just then.
     pub follow-contradicted : Bytes a
@@ -146,8 +155,12 @@ module _ (z : Size) (B : ℕ) (a m s : List ℕ) where
     unfolding outcomeStatus
     follow-contradicted small = (
       λ e.
-          let (chain, clear, unsealed) = seven-only (chainFits narrow s) _ _ (sym (follow-order ok) ∙ sym (status-is z B a m s) ∙ e) in
-          ((chain, clear), λ belongs. true≢false (sym (follow-judged (chain, clear) small .1 belongs) ∙ unsealed)),
+          let clean : cleanRefusal narrow s ≡ 0 =
+          by-cases (λ (b : Bool). eqb (cleanRefusal narrow s) 0 ≡ b → cleanRefusal narrow s ≡ 0) (eqb (cleanRefusal narrow s) 0)
+          (λ q _. eqb-true (cleanRefusal narrow s) 0 q)
+          (λ q _. absurd (clean-seven narrow s (sym (ap outcomeStatus (follow-unclean (eqb-false (cleanRefusal narrow s) 0 q) .0)) ∙ e))) refl in
+          let (clear, unsealed) = seven-only _ _ (sym (follow-listed ok clean) ∙ sym (status-is z B a m s) ∙ e) in
+          ((clean, clear), λ belongs. true≢false (sym (follow-judged (clean, clear) small .1 belongs) ∙ unsealed)),
       λ (usable, none). ap outcomeStatus (follow-seven usable small none .0),
     )
 
@@ -155,31 +168,36 @@ module _ (z : Size) (B : ℕ) (a m s : List ℕ) where
   pub follow-zeros : outcomeStatus (followOutcome z B a m s) ≡ 7 → followArray z B a m s ≡ zeroed (whole B) a (erasures m)
   follow-zeros e = follow-given z B a m s 7 (sym (status-is z B a m s) ∙ e) .1
 
-  -- On a map whose loss is fatal follow changes nothing, whatever the sheet, and refuses by 10 or 11 where it has not refused before.
+  -- On a map whose loss is fatal follow changes nothing, whatever the sheet, and where it has not refused before, it refuses by 10, 13
+  -- or 14, or by 11.
   pub follow-fatal : fatal (sheetLayout z) (erasures m) ≡ true
       → (followArray z B a m s ≡ a)
-      × (bufferRefusal z B a m s ≡ 0 → (followOutcome z B a m s ≡ Refused 10) ⊎ (followOutcome z B a m s ≡ Refused 11))
-  follow-fatal lossy = go (eqb (bufferRefusal z B a m s) 0) refl (chainFits narrow s) refl (clears (sheetLayout z) (erasures m) (chainEntries narrow s)) refl
+      × (bufferRefusal z B a m s ≡ 0
+      → ((cleanRefusal narrow s ≡ 0 → ⊥) × (followOutcome z B a m s ≡ Refused (cleanRefusal narrow s))) ⊎ (followOutcome z B a m s ≡ Refused 11))
+  follow-fatal lossy = go (eqb (bufferRefusal z B a m s) 0) refl (eqb (cleanRefusal narrow s) 0) refl
     where
-      go : (u : Bool) → eqb (bufferRefusal z B a m s) 0 ≡ u → (p : Bool) → chainFits narrow s ≡ p
-          → (q : Bool) → clears (sheetLayout z) (erasures m) (chainEntries narrow s) ≡ q
+      go : (u : Bool) → eqb (bufferRefusal z B a m s) 0 ≡ u → (p : Bool) → eqb (cleanRefusal narrow s) 0 ≡ p
           → (followArray z B a m s ≡ a)
-          × (bufferRefusal z B a m s ≡ 0 → (followOutcome z B a m s ≡ Refused 10) ⊎ (followOutcome z B a m s ≡ Refused 11))
-      go false e p chain q clear =
+          × (bufferRefusal z B a m s ≡ 0
+          → ((cleanRefusal narrow s ≡ 0 → ⊥) × (followOutcome z B a m s ≡ Refused (cleanRefusal narrow s))) ⊎ (followOutcome z B a m s ≡ Refused 11))
+      go false e p clean =
           let refused = eqb-false (bufferRefusal z B a m s) 0 e in (follow-first refused .1, λ ok. absurd (refused ok))
-      go true e false unfit q clear =
-          let (answer, kept) = follow-ten (eqb-true (bufferRefusal z B a m s) 0 e) unfit in (kept, λ ok. inl answer)
-      go true e true chain false unclear =
-          let (answer, kept) = follow-eleven (eqb-true (bufferRefusal z B a m s) 0 e) chain unclear in (kept, λ ok. inr answer)
-      go true e true chain true clear =
-          absurd (true≢false (sym lossy ∙ clears-fine (sheetLayout z) (erasures m) (chainEntries narrow s) clear))
+      go true e false unclean =
+          let refused = eqb-false (cleanRefusal narrow s) 0 unclean in
+          let (answer, kept) = follow-unclean (eqb-true (bufferRefusal z B a m s) 0 e) refused in (kept, λ ok. inl (refused, answer))
+      go true e true clean =
+          let unclear =
+          by-cases (λ (b : Bool). b ≡ false) (clears (sheetLayout z) (erasures m) (chainEntries narrow s))
+          (λ q. absurd (true≢false (sym lossy ∙ clears-fine (sheetLayout z) (erasures m) (chainEntries narrow s) q))) (λ q. refl) in
+          let (answer, kept) = follow-eleven (eqb-true (bufferRefusal z B a m s) 0 e) (eqb-true (cleanRefusal narrow s) 0 clean) unclear in
+          (kept, λ ok. inr answer)
 
 -- Otherwise the array is as after rebuild: follow on s gives the answer and the array of a rebuild without turns. It is so for every
 -- usable sheet: in which order disks are repaired, and by which stripes, counts for nothing.
 pub follow-whole : (z : Size) (B : ℕ) (a m s : List ℕ) → bufferRefusal z B a m s ≡ 0 → Bytes a → Usable z m s
     → let t = wholeRebuild (sheetLayout z) narrow (whole B) a m in Gives z B a m s (t .answer) (t .array)
-unfolding wholeRebuild repairsMade contradiction followedArray
-follow-whole z B a m s ok small (chain, clear) = go (consistent (sheetLayout z) (whole B) (rebuilt (sheetLayout z) (whole B) a w)) refl
+unfolding wholeRebuild repairsMade contradiction
+follow-whole z B a m s ok small (clean, clear) = go (consistent (sheetLayout z) (whole B) (rebuilt (sheetLayout z) (whole B) a w)) refl
   where
     w : List Entry
     w = repairs (sheetLayout z) (erasures m)
@@ -187,8 +205,8 @@ follow-whole z B a m s ok small (chain, clear) = go (consistent (sheetLayout z) 
     fine : fatal (sheetLayout z) (erasures m) ≡ false
     fine = clears-fine (sheetLayout z) (erasures m) (chainEntries narrow s) clear
 
-    alike : (consistent (sheetLayout z) (whole B) (followedArray z B a s) ≡ consistent (sheetLayout z) (whole B) (rebuilt (sheetLayout z) (whole B) a w))
-        × (consistent (sheetLayout z) (whole B) (rebuilt (sheetLayout z) (whole B) a w) ≡ true → followedArray z B a s ≡ rebuilt (sheetLayout z) (whole B) a w)
+    alike : (consistent (sheetLayout z) (whole B) (followedArray z B a (chainEntries narrow s)) ≡ consistent (sheetLayout z) (whole B) (rebuilt (sheetLayout z) (whole B) a w))
+        × (consistent (sheetLayout z) (whole B) (rebuilt (sheetLayout z) (whole B) a w) ≡ true → followedArray z B a (chainEntries narrow s) ≡ rebuilt (sheetLayout z) (whole B) a w)
     alike =
         let array = buffers-fit z B a m s ok .0 in
         clears-alike (sheetLayout z) (layout-ordered z (narrow .base) (rows-below z (array .size)) .bounded) B (erasures m) a (layout-sized z (narrow .base) B a (array .long)) small
@@ -197,10 +215,10 @@ follow-whole z B a m s ok small (chain, clear) = go (consistent (sheetLayout z) 
     go : (v : Bool) → consistent (sheetLayout z) (whole B) (rebuilt (sheetLayout z) (whole B) a w) ≡ v
         → Gives z B a m s (wholeRebuild (sheetLayout z) narrow (whole B) a m .answer) (wholeRebuild (sheetLayout z) narrow (whole B) a m .array)
     go true j =
-        let (answer, left) = follow-given z B a m s 0 (follow-order z B a m s ok ∙ (rw (chain, clear, alike .0, j))) in
+        let (answer, left) = follow-given z B a m s 0 (follow-listed z B a m s ok clean ∙ (rw (clear, alike .0, j))) in
         let count-is = clears-length (sheetLayout z) (erasures m) (chainEntries narrow s) clear ∙ sym (repairs-count (sheetLayout z) (erasures m) fine) in
         rw (fine, j) (answer ∙ ap Repairs count-is, left ∙ alike .1 j)
-    go false j = rw (fine, j) (follow-given z B a m s 7 (follow-order z B a m s ok ∙ (rw (chain, clear, alike .0, j))))
+    go false j = rw (fine, j) (follow-given z B a m s 7 (follow-listed z B a m s ok clean ∙ (rw (clear, alike .0, j))))
 
 -- So follow on s and rebuild on t, with a limit that is no less than the number of erased disks, give the same answer and the same
 -- array. Where the other arguments are refused, they are refused alike.
@@ -230,9 +248,9 @@ module _ (z : Size) (B : ℕ) (a m s₁ t : List ℕ) (planOk : refusal (planTes
   follow-plan fine small =
       let w : List Entry = repairs (sheetLayout z) (erasures m) in
       let size = passed 1 (sizeFits z) _ (omega arith) planOk .0 in
-      let (chain, lists) = written-chain narrow w (omega arith) (peels-fitting z size (erasures m) w (repairs-peels (sheetLayout z) (erasures m))) in
+      let (clean, lists) = written-chain narrow w (omega arith) (peels-fitting z size (erasures m) w (repairs-peels (sheetLayout z) (erasures m))) in
       let clear = rw (← lists) at (repairs-clear (sheetLayout z) (erasures m) fine) in
-      rw (planOk, fine) (follow-any z B a m (sheetOf narrow 1 w) t (sheet-length narrow 1 w ∙ sym long) small (chain, clear))
+      rw (planOk, fine) (follow-any z B a m (sheetOf narrow 1 w) t (sheet-length narrow 1 w ∙ sym long) small (clean, clear))
 
   -- unless it shows a loop: then neither changes the array, and follow refuses by 10 where rebuild calls the loss fatal.
   pub follow-loop : fatal (sheetLayout z) (erasures m) ≡ true
@@ -243,33 +261,29 @@ module _ (z : Size) (B : ℕ) (a m s₁ t : List ℕ) (planOk : refusal (planTes
       let w : List Entry = shownCycle (sheetLayout z) (erasures m) in (
         follow-fatal z B a m (planSheet z m s₁) lossy .0,
         λ k. rebuild-kept z B a m t k lossy,
-        λ ok. rw (planOk, lossy) (follow-ten z B a m (sheetOf narrow 2 w) (rw (sheet-length narrow 2 w, ← long) ok) (loop-sheet-unfit narrow w (λ q. omega arith)) .0),
+        λ ok.
+            let ten = clean-loop narrow w (λ q. omega arith) in
+            rw (planOk, lossy)
+            (rw ten at (follow-unclean z B a m (sheetOf narrow 2 w) (rw (sheet-length narrow 2 w, ← long) ok) (λ q. omega arith) .0)),
       )
 
--- Bytes off the chain are ignored: two sheets of one length that agree on the kind, on the first number and on the records that the
--- chain visits give the same.
-pub follow-off-chain : (z : Size) (B : ℕ) (a m s t : List ℕ) → length s ≡ length t → getD s 0 0 ≡ getD t 0 0 → getD s 1 0 ≡ getD t 1 0
-    → ((k : ℕ) → among k (chainNumbers narrow s) ≡ true → (entryAt narrow s k ≡ entryAt narrow t k) × (nextNumber narrow s k ≡ nextNumber narrow t k))
-    → Gives z B a m s (followOutcome z B a m t) (followArray z B a m t)
-unfolding followOutcome followArray followStatus followTests followedArray
-follow-off-chain z B a m s t long kind first same = let (fit, lists) = off-chain narrow s t kind first same in rw (long, fit, lists) (refl, refl)
-
 -- Its chain may visit records in any order: every chain of records up to 32 that lists allowed repairs and leaves nothing erased
--- gives what rebuild gives.
+-- gives what rebuild gives, if nothing is left over.
 pub follow-any-order : (z : Size) (B : ℕ) (a m s t : List ℕ) → length s ≡ length t → Bytes a
     → (w : List Entry) → clears (sheetLayout z) (erasures m) w ≡ true
-    → getD s 0 0 ≡ 1 → (ks : List ℕ) → within 32 ks ≡ true → Linked narrow s (getD s 1 0) ks w → AsRebuild z B a m s t
-follow-any-order z B a m s t long small w clear kind ks inside linked =
+    → getD s 0 0 ≡ 1 → (ks : List ℕ) → within 32 ks ≡ true → Linked narrow s (getD s 1 0) ks w → noLeftovers narrow s ≡ true
+    → AsRebuild z B a m s t
+follow-any-order z B a m s t long small w clear kind ks inside linked clean =
     let (chain, lists, numbers) = linked-fits narrow s ks w kind linked inside in
-    follow-any z B a m s t long small (chain, rw lists clear)
+    follow-any z B a m s t long small (clean-exact narrow s .1 (chain, clean), rw lists clear)
 
 -- So does every such list that the library writes into a sheet, and each has room there.
 pub follow-list : (z : Size) → sizeFits z ≡ true → (B : ℕ) (a m t : List ℕ) → length t ≡ sheetBytes narrow → Bytes a
     → (w : List Entry) → clears (sheetLayout z) (erasures m) w ≡ true → AsRebuild z B a m (sheetOf narrow 1 w) t
 follow-list z size B a m t long small w clear =
     let fits = peels-fitting z size (erasures m) w (clears-peels (sheetLayout z) (erasures m) w clear) in
-    let (chain, lists) = written-chain narrow w (omega arith) fits in
-    follow-any z B a m (sheetOf narrow 1 w) t (sheet-length narrow 1 w ∙ sym long) small (chain, rw lists clear)
+    let (clean, lists) = written-chain narrow w (omega arith) fits in
+    follow-any z B a m (sheetOf narrow 1 w) t (sheet-length narrow 1 w ∙ sym long) small (clean, rw lists clear)
 
 -- The contents of an erased block count for nothing: two arrays with the same survivors get the same answer and, from a usable
 -- sheet, the same array.
@@ -278,27 +292,30 @@ pub follow-contents-free : (z : Size) (B : ℕ) (a b m s : List ℕ) → bufferR
     → (followOutcome z B b m s ≡ followOutcome z B a m s) × (Usable z m s → followArray z B b m s ≡ followArray z B a m s)
 unfolding bufferRefusal
 follow-contents-free z B a b m s ok small small₂ long same =
-    go (chainFits narrow s) refl (clears (sheetLayout z) (erasures m) (chainEntries narrow s)) refl
+    go (eqb (cleanRefusal narrow s) 0) refl (clears (sheetLayout z) (erasures m) (chainEntries narrow s)) refl
   where
     ok₂ : bufferRefusal z B b m s ≡ 0
     ok₂ = (rw long) ∙ ok
 
-    go : (p : Bool) → chainFits narrow s ≡ p → (q : Bool) → clears (sheetLayout z) (erasures m) (chainEntries narrow s) ≡ q
+    go : (p : Bool) → eqb (cleanRefusal narrow s) 0 ≡ p → (q : Bool) → clears (sheetLayout z) (erasures m) (chainEntries narrow s) ≡ q
         → (followOutcome z B b m s ≡ followOutcome z B a m s) × (Usable z m s → followArray z B b m s ≡ followArray z B a m s)
-    go false unfit q clear = (
-      follow-ten z B b m s ok₂ unfit .0 ∙ sym (follow-ten z B a m s ok unfit .0),
-      λ usable. absurd (true≢false (sym (usable .0) ∙ unfit)),
-    )
-    go true chain false unclear = (
-      follow-eleven z B b m s ok₂ chain unclear .0 ∙ sym (follow-eleven z B a m s ok chain unclear .0),
-      λ usable. absurd (true≢false (sym (usable .1) ∙ unclear)),
-    )
-    go true chain true clear =
+    go false unclean q clear =
+        let refused = eqb-false (cleanRefusal narrow s) 0 unclean in (
+          follow-unclean z B b m s ok₂ refused .0 ∙ sym (follow-unclean z B a m s ok refused .0),
+          λ usable. absurd (refused (usable .0)),
+        )
+    go true e false unclear =
+        let clean = eqb-true (cleanRefusal narrow s) 0 e in (
+          follow-eleven z B b m s ok₂ clean unclear .0 ∙ sym (follow-eleven z B a m s ok clean unclear .0),
+          λ usable. absurd (true≢false (sym (usable .1) ∙ unclear)),
+        )
+    go true e true clear =
+        let clean = eqb-true (cleanRefusal narrow s) 0 e in
         let array = buffers-fit z B a m s ok .0 in
         let fine = clears-fine (sheetLayout z) (erasures m) (chainEntries narrow s) clear in
         let equal = same-whole (sheetLayout z) narrow B (block-fits B (array .block) .low) a b m (layout-sized z (narrow .base) B a (array .long)) long same fine in
-        let (answer, left) = follow-whole z B a m s ok small (chain, clear) in
-        let (answer₂, left₂) = follow-whole z B b m s ok₂ small₂ (chain, clear) in (
+        let (answer, left) = follow-whole z B a m s ok small (clean, clear) in
+        let (answer₂, left₂) = follow-whole z B b m s ok₂ small₂ (clean, clear) in (
           answer₂ ∙ ap (λ (t : Turn). t .answer) equal ∙ sym answer,
           λ usable. left₂ ∙ ap (λ (t : Turn). t .array) equal ∙ sym left,
         )

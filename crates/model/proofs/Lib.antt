@@ -16,6 +16,7 @@ pub mod Losses
 pub mod Demand3
 pub mod Save
 pub mod Follow
+pub mod Tidy
 pub mod Look
 pub mod Listings
 pub mod Cases

@@ -45,6 +45,20 @@ refused-first [] us h = absurd (h refl)
 refused-first (k unless true ∷ ts) us h = refused-first ts us h
 refused-first (k unless false ∷ ts) us h = refl
 
+-- Tests that come to the same come to the same behind others.
+pub refusal-rest : (ts us vs : List Test) → refusal us ≡ refusal vs → refusal (ts ++ us) ≡ refusal (ts ++ vs)
+unfolding refusal
+refusal-rest [] us vs same = same
+refusal-rest (k unless true ∷ ts) us vs same = refusal-rest ts us vs same
+refusal-rest (k unless false ∷ ts) us vs same = refl
+
+-- Where nothing is refused, the first tests refuse nothing.
+pub first-accepted : (ts us : List Test) → refusal (ts ++ us) ≡ 0 → refusal ts ≡ 0
+unfolding refusal
+first-accepted [] us e = refl
+first-accepted (k unless true ∷ ts) us e = first-accepted ts us e
+first-accepted (k unless false ∷ ts) us e = e
+
 -- A test with a number that is not 0 has passed where nothing is refused, and so have those that follow it.
 pub passed : (k : ℕ) (t : Bool) (ts : List Test) → (k ≡ 0 → ⊥) → refusal (k unless t ∷ ts) ≡ 0 → (t ≡ true) × (refusal ts ≡ 0)
 unfolding refusal

@@ -44,8 +44,14 @@ unfolding numberBytes
 small-number zero v p = p
 small-number (suc n) v p = small-cons (omega arith) (small-number n (v / 256) p)
 
-small : (s : List ℕ) → Bytes s → Small s
+pub small : (s : List ℕ) → Bytes s → Small s
 small s p = record { at = λ i. ⊎-elim (p i) (λ h. let e = List·getD-eq-default s 0 h in omega arith) (lt-or-le i (length s)) }
+
+-- A number that n bytes hold.
+pub number-small : (n : ℕ) {s : List ℕ} → Small s → (i : ℕ) → numberAt n s i < 256 ^ n
+unfolding numberAt
+number-small zero p i = omega arith
+number-small (suc n) p i = let low = p .at i in let high = number-small n p (suc i) in omega arith
 
 -- Equal numbers have equal bytes.
 number-bytes : (n : ℕ) {s t : List ℕ} (i : ℕ) → Small s → Small t → numberAt n s i ≡ numberAt n t i

@@ -1,14 +1,17 @@
--- What a sheet holds, record by record, and its chain, from elsewhere too: which records it visits, in which order, and what they
--- list.
+-- What a sheet holds, record by record, and its chain, from elsewhere too: which records it visits, in which order, what they list,
+-- and what stands off it.
 -- Assumes nothing.
-use mathlib.Core.Bool.{Bool, true, cond, not, _&&_}
-use mathlib.Core.List.{List, [], _∷_}
-use Prim.Native.Nat.{ℕ, zero, suc, _+_}
-use lib.Dec.{eqb, leb}
+use mathlib.Core.Path.{_≡_}
+use mathlib.Core.Bool.{Bool, true, cond, not, _&&_, _||_}
+use mathlib.Core.List.{List, [], _∷_, _++_}
+use Prim.Native.Nat.{ℕ, zero, suc, _+_, _-_, _/_, _≤_, _<_}
+use lib.Dec.{eqb, leb, ltb}
 use lib.ListN.{getD}
+use Rattle.stripes.specs.Fold.{every}
 use Rattle.stripes.specs.System.{among}
 use Rattle.stripes.specs.Repair.{Entry}
-use Rattle.model.specs.Sheet.{Format, recordAt, numberAt}
+use Rattle.model.specs.Refusal.{Test, _unless_, refusal}
+use Rattle.model.specs.Sheet.{Format, recordBytes, recordAt, sheetBytes, numberAt}
 
 -- The kind of a sheet and the number of its first record.
 abbrev pub kindOf : List ℕ → ℕ
@@ -48,9 +51,42 @@ unfoldable pub different : List ℕ → Bool
 different [] = true
 different (j ∷ js) = not (among j js) && different js
 
--- What refusal 10 tests: the kind is that of repairs, no number exceeds that of the last record, no record is reached twice.
-unfoldable pub chainFits : Format → List ℕ → Bool
-chainFits f s = eqb (kindOf s) (f .repairKind) && (within (f .records) (chainNumbers f s) && different (chainNumbers f s))
+-- What refusal 10 tests: the kind is that of repairs, and no number exceeds that of the last record.
+unfoldable pub numbersFit : Format → List ℕ → Bool
+numbersFit f s = eqb (kindOf s) (f .repairKind) && within (f .records) (chainNumbers f s)
+
+-- The tests of a chain that is to list repairs: 10, and 13 where a record is reached twice. Both are of the whole chain.
+unfoldable pub chainTests : Format → List ℕ → List Test
+chainTests f s = 10 unless numbersFit f s ∷ 13 unless different (chainNumbers f s) ∷ []
+
+unfoldable pub chainRefusal : Format → List ℕ → ℕ
+chainRefusal f s = refusal (chainTests f s)
+
+-- The number of the record that byte i belongs to. The kind and the number of the first record, bytes 0 and 1, belong to none.
+abbrev pub recordNumber : Format → ℕ → ℕ
+recordNumber f i = suc ((i - 2) / recordBytes f)
+
+-- Byte i is on the chain: it is one of the first two, or one of a record that the chain visits.
+unfoldable pub onChain : Format → List ℕ → ℕ → Bool
+onChain f s i = ltb i 2 || among (recordNumber f i) (chainNumbers f s)
+
+-- What refusal 14 tests: bytes off the chain are zero, none is left over (paper 02: leftovers).
+unfoldable pub noLeftovers : Format → List ℕ → Bool
+noLeftovers f s = every (sheetBytes f) (λ i. onChain f s i || eqb (getD s i 0) 0)
+
+-- The same in words: byte i is left over if it lies behind the first two, in no record that the chain visits, and is not zero.
+pub record Leftover (f : Format) (s : List ℕ) (i : ℕ) : Type 0 where
+  pub behind : 2 ≤ i
+  pub inside : i < sheetBytes f
+  pub off : (k : ℕ) → among k (chainNumbers f s) ≡ true → recordAt f k ≤ i → i < recordAt f k + recordBytes f → ⊥
+  pub some : getD s i 0 ≡ 0 → ⊥
+
+-- The tests of a sheet that follow is to take: those of its chain, and 14.
+unfoldable pub cleanTests : Format → List ℕ → List Test
+cleanTests f s = chainTests f s ++ (14 unless noLeftovers f s ∷ [])
+
+unfoldable pub cleanRefusal : Format → List ℕ → ℕ
+cleanRefusal f s = refusal (cleanTests f s)
 
 -- What the records of a list of numbers say, and what those of the chain say.
 unfoldable pub entriesAt : Format → List ℕ → List ℕ → List Entry

@@ -8,42 +8,56 @@ use lib.Dec.{eqb}
 use lib.ListN.{length}
 use Rattle.stripes.specs.System.{whole, consistent}
 use Rattle.stripes.specs.Erased.{erasures}
-use Rattle.stripes.specs.Repair.{rebuilt, zeroed, clears}
+use Rattle.stripes.specs.Repair.{Entry, rebuilt, zeroed, clears}
 use Rattle.model.specs.Refusal.{Test, _unless_, refusal}
 use Rattle.model.specs.Sheet.{narrow}
-use Rattle.model.specs.Chain.{chainFits, chainEntries}
+use Rattle.model.specs.Chain.{chainTests, cleanTests, cleanRefusal, chainEntries}
 use Rattle.model.specs.Plan.{sheetLayout}
 use Rattle.model.specs.Rebuild.{bufferTests}
 use Rattle.model.specs.declared.Size.{Size}
 use Rattle.model.specs.declared.Outcome.{Outcome}
 use Rattle.model.specs.declared.Outcome.the-variants.{Repairs, Refused}
 
--- The chain of the sheet fits, and it lists allowed repairs that leave no disk erased.
+-- A sheet that follow takes: 10, 13 and 14 let it through, and it lists allowed repairs that leave no disk erased.
 abbrev pub Usable : Size → (m sheet : List ℕ) → Type 0
-Usable z m sheet = (chainFits narrow sheet ≡ true) × (clears (sheetLayout z) (erasures m) (chainEntries narrow sheet) ≡ true)
+Usable z m sheet = (cleanRefusal narrow sheet ≡ 0) × (clears (sheetLayout z) (erasures m) (chainEntries narrow sheet) ≡ true)
 
--- The array after the repairs that the sheet lists.
-unfoldable pub followedArray : Size → ℕ → (a sheet : List ℕ) → List ℕ
-followedArray z B a sheet = rebuilt (sheetLayout z) (whole B) a (chainEntries narrow sheet)
+-- The array after a list of repairs.
+abbrev pub followedArray : Size → ℕ → List ℕ → List Entry → List ℕ
+followedArray z B a w = rebuilt (sheetLayout z) (whole B) a w
 
--- The tests of follow: the last is of the array after the repairs, the others come before any block is changed.
+-- The tests of a list of repairs: the last is of the array after them.
+unfoldable pub listTests : Size → ℕ → (a m : List ℕ) → List Entry → List Test
+listTests z B a m w =
+    11 unless clears (sheetLayout z) (erasures m) w
+    ∷ 7 unless consistent (sheetLayout z) (whole B) (followedArray z B a w)
+    ∷ []
+
+-- The tests of follow. All but 7 come before any block is changed.
 unfoldable pub followTests : Size → ℕ → (a m sheet : List ℕ) → List Test
 followTests z B a m sheet =
     bufferTests z B (length a) m (length sheet)
-    ++ (10 unless chainFits narrow sheet
-    ∷ 11 unless clears (sheetLayout z) (erasures m) (chainEntries narrow sheet)
-    ∷ 7 unless consistent (sheetLayout z) (whole B) (followedArray z B a sheet)
-    ∷ [])
+    ++ (cleanTests narrow sheet ++ listTests z B a m (chainEntries narrow sheet))
 
 unfoldable pub followStatus : Size → ℕ → (a m sheet : List ℕ) → ℕ
 followStatus z B a m sheet = refusal (followTests z B a m sheet)
 
--- What follow answers, and the array after it: repaired, for 7 with zeros on the erased disks, else as it was.
+-- What comes of a list of repairs by the number of the first test that fails, or 0: the answer, and the array, repaired, for 7 with
+-- zeros on the erased disks, else as it was.
+abbrev pub listOutcome : ℕ → List Entry → Outcome
+listOutcome k w = cond (eqb k 0) (Repairs (length w)) (Refused k)
+
+abbrev pub listArray : Size → ℕ → (a m : List ℕ) → ℕ → List Entry → List ℕ
+listArray z B a m k w = cond (eqb k 0) (followedArray z B a w) (cond (eqb k 7) (zeroed (whole B) a (erasures m)) a)
+
+-- What follow answers, and the array after it.
 unfoldable pub followOutcome : Size → ℕ → (a m sheet : List ℕ) → Outcome
-followOutcome z B a m sheet =
-    cond (eqb (followStatus z B a m sheet) 0) (Repairs (length (chainEntries narrow sheet))) (Refused (followStatus z B a m sheet))
+followOutcome z B a m sheet = listOutcome (followStatus z B a m sheet) (chainEntries narrow sheet)
 
 unfoldable pub followArray : Size → ℕ → (a m sheet : List ℕ) → List ℕ
-followArray z B a m sheet =
-    cond (eqb (followStatus z B a m sheet) 0) (followedArray z B a sheet)
-    (cond (eqb (followStatus z B a m sheet) 7) (zeroed (whole B) a (erasures m)) a)
+followArray z B a m sheet = listArray z B a m (followStatus z B a m sheet) (chainEntries narrow sheet)
+
+-- The number without 14: what follow gives where leftovers are ignored.
+unfoldable pub looseStatus : Size → ℕ → (a m sheet : List ℕ) → ℕ
+looseStatus z B a m sheet =
+    refusal (bufferTests z B (length a) m (length sheet) ++ (chainTests narrow sheet ++ listTests z B a m (chainEntries narrow sheet)))

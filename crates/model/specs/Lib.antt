@@ -5,6 +5,7 @@ pub mod Array
 pub mod Loop
 pub mod Sheet
 pub mod Chain
+pub mod Tidy
 pub mod Plan
 pub mod Turn
 pub mod Rebuild

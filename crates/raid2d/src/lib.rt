@@ -9,6 +9,7 @@ ghost use Rattle.model.specs.Array.{sealStatus, sealArray, checked, checkStatus
 ghost use Rattle.model.specs.Plan.{planOutcome, planSheet, outcomeStatus, outcomeCount};
 ghost use Rattle.model.specs.Rebuild.{rebuildTurn};
 ghost use Rattle.model.specs.Follow.{followOutcome, followArray};
+ghost use Rattle.model.specs.Tidy.{tidyStatus, tidySheet};
 ghost use Rattle.model.specs.Save.{saveAnswer, saveArray, savingStatus, savingCount};
 use model::Checked;
 use model::Outcome;
@@ -18,9 +19,9 @@ use model::Size;
 // The version of the library: 10000 times the major number, 100 times the minor number, and the patch.
 #[no_mangle]
 pub extern "C" fn raid2d_version_number() -> u32
-    ensures { λ r. ⌜ r ≡ 700 ⌝ }
+    ensures { λ r. ⌜ r ≡ 800 ⌝ }
 {
-    700
+    800
 }
 
 // The lengths of a map and of an array.
@@ -248,6 +249,14 @@ pub extern "C" fn raid2d_follow(
 {
     let answer = follow::follow(Size { rows, columns }, block, array, map, sheet);
     report(answer, count)
+}
+
+#[no_mangle]
+pub extern "C" fn raid2d_tidy(sheet: &mut [u8]) -> u32
+    ensures status { λ r. ⌜ r ≡ tidyStatus narrow (now (sheet .entry)) ⌝ }
+    ensures sheet { λ r. ⌜ now (sheet .exit) ≡ tidySheet narrow (now (sheet .entry)) ⌝ }
+{
+    tidy::tidy(sheet)
 }
 
 // The number of what save answers; its count goes to `count`, if it has one.

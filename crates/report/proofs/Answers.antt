@@ -19,7 +19,8 @@ use Rattle.model.specs.declared.Size.{Size}
 use Rattle.model.proofs.Refusal.{given-accepted, given-refused, fails, passes}
 use Rattle.entries.specs.Listed.{listed}
 use Rattle.solve.specs.Solved.{Repairable, Lossy}
-use Rattle.solve.proofs.Fitting.{repairs-fit, cycle-fits, listed-fits}
+use Rattle.solve.proofs.Fitting.{repairs-fit, cycle-fits}
+use Rattle.sheet.proofs.Fitting.{listed-fits}
 use Rattle.text.specs.Lines.{wordLine}
 use Rattle.report.specs.Report.{reported, Printable}
 use Rattle.report.proofs.Entries.{printable}

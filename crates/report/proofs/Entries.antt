@@ -10,7 +10,7 @@ use Rattle.stripes.specs.Repair.{Entry}
 use Rattle.model.specs.Listing.{decimal, entryLines, listed as Listing·listed}
 use Rattle.entries.specs.Listed.{entryDisk, entryStripe, listed}
 use Rattle.entries.proofs.Words.{listed-length}
-use Rattle.solve.proofs.Fitting.{Small}
+use Rattle.sheet.proofs.Fitting.{Small}
 use Rattle.text.specs.Lines.{wordLine, pairLine}
 use Rattle.text.specs.Written.{Written}
 use Rattle.text.proofs.Joined.{both-written, written-as}

@@ -2,14 +2,18 @@
 -- Assumes nothing.
 use mathlib.Core.Path.{_≡_, refl, _∙_, sym, subst}
 use mathlib.Core.Logic.{_↔_}
+use Prim.Native.Nat.{ℕ}
 use native.Mathlib.Omega.{arith}
 use borrow.Author.Needs.{needs}
 use Rattle.stripes.specs.System.{whole, Bytes}
 use Rattle.stripes.specs.Erased.{erasures, Belongs}
 use Rattle.model.specs.Plan.{sheetLayout, outcomeStatus}
+use Rattle.model.specs.Sheet.{narrow}
+use Rattle.model.specs.Chain.{Leftover}
 use Rattle.model.specs.Follow.{Usable}
 use Rattle.model.specs.declared.Outcome.{Outcome}
 use Rattle.model.proofs.Follow.{follow-any, follow-contradicted, follow-fatal}
+use Rattle.model.proofs.Tidy.{follow-fourteen}
 use Rattle.demands.proofs.follow_sheet.Statement.{statement}
 use Rattle.demands.proofs.follow_sheet.Tie as tie
 
@@ -40,7 +44,12 @@ returns c =
                 ↔ (Usable (a .size) (a .map .now) (a .sheet .now)
                 × (Belongs (sheetLayout (a .size)) (whole (a .block)) (erasures (a .map .now)) (a .array .now) → ⊥)))
                 (sym outcome) (follow-contradicted (a .size) (a .block) (a .array .now) (a .map .now) (a .sheet .now) ok small),
-            λ lossy. array ∙ follow-fatal (a .size) (a .block) (a .array .now) (a .map .now) (a .sheet .now) lossy .0,
+            (
+              λ ok taken.
+                  subst (λ (o : Outcome). (outcomeStatus o ≡ 14) ↔ ((i : ℕ) × Leftover narrow (a .sheet .now) i)) (sym outcome)
+                  (follow-fourteen (a .size) (a .block) (a .array .now) (a .map .now) (a .sheet .now) ok taken),
+              λ lossy. array ∙ follow-fatal (a .size) (a .block) (a .array .now) (a .map .now) (a .sheet .now) lossy .0,
+            ),
           ),
         ),
       ),

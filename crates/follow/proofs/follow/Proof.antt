@@ -19,7 +19,7 @@ use Rattle.entries.specs.Listed.{listed}
 use native.Mathlib.Omega.{arith}
 use Rattle.layout.proofs.Numbers.{numbered}
 use Rattle.sums.proofs.Whole.{held}
-use Rattle.follow.proofs.Answers.{Read, array-refused, sheet-refused, tests-left, broken, records-listed, count-few, steps-refused, peels, agreed, contradicted}
+use Rattle.follow.proofs.Answers.{Read, array-refused, sheet-refused, tests-left, unclean, records-listed, count-few, steps-refused, peels, agreed, contradicted}
 use Rattle.follow.proofs.follow.Statement.{statement}
 use Rattle.follow.proofs.follow.Tie as tie
 
@@ -43,14 +43,14 @@ passed c =
     tests-left (a .size) (a .block) (a .array .now) (a .map .now) (a .sheet .now) (sized (c .before .before)) ∙ tested c
 
 -- The chain fits, and its records are listed in their order.
-is-read : (c : tie.After-chain) → Read (c .before .before .before .before .before .before .before .before .before .before .before .before .args .sheet .now) (c .before .before .before .read .last .1 .0) (c .chain .given .0 .0)
+is-read : (c : tie.After-chain) → Read (c .before .before .before .before .before .before .before .before .before .before .before .before .args .sheet .now) (c .before .before .before .read-clean .last .1 .0) (c .chain .given .0 .0)
 is-read c =
-    let read = c .before .before .before .read in
+    let read = c .before .before .before .read-clean in
     records-listed _ _ _ (read .ensures .0) (read .ensures .1) _ (c .chain .given .1)
 
 -- Every step is allowed, and nothing is left erased.
 cleared : (c : tie.Else3) → let chain = c .before .before .before .before in let a = chain .before .before .before .before .before .before .before .before .before .before .before .before .args in
-    clears (sheetLayout (a .size)) (erasures (a .map .now)) (listed (chain .before .before .before .read .last .1 .0) (chain .chain .given .0 .0)) ≡ true
+    clears (sheetLayout (a .size)) (erasures (a .map .now)) (listed (chain .before .before .before .read-clean .last .1 .0) (chain .chain .given .0 .0)) ≡ true
 cleared c = sym (c .before .clears .ensures) ∙ not-false _ (c .if3 .left)
 
 array-refusal-requires : tie.Need-array-refusal-requires
@@ -72,23 +72,23 @@ returns-2 c =
     sheet-refused (a .size) (a .block) (a .array .now) (a .map .now) (a .sheet .now) (sized (c .before .before)) _ (c .before .sheet-refusal .ensures)
     (c .if2 .taken)
 
-slice-aggregate-read : tie.Need-slice-aggregate-read
-slice-aggregate-read c = search needs
+slice-aggregate-read-clean : tie.Need-slice-aggregate-read-clean
+slice-aggregate-read-clean c = search needs
 
-read-requires : tie.Need-read-requires
-read-requires c κs = (mapped (c .before) .1, omega arith)
+read-clean-requires : tie.Need-read-clean-requires
+read-clean-requires c κs = (mapped (c .before) .1, omega arith)
 
 enum-known-chain : tie.Need-enum-known-chain
 enum-known-chain c = search needs
 
-enum-told : tie.Need-enum-told
-enum-told c = search needs
+enum-known-chain-2 : tie.Need-enum-known-chain-2
+enum-known-chain-2 c = search needs
 
 returns-3 : tie.Need-returns-3
 returns-3 c =
-    let a = c .before .before .before .before .before .before .before .before .before .before .before .before .args in
-    broken (a .size) (a .block) (a .array .now) (a .map .now) (a .sheet .now) (passed (c .before .before .before .before .before))
-    _ (c .before .before .before .read .ensures .0) (c .enum-told .given .1)
+    let a = c .before .before .before .before .before .before .before .before .before .before .before .before .before .args in
+    unclean (a .size) (a .block) (a .array .now) (a .map .now) (a .sheet .now) (passed (c .before .before .before .before .before .before))
+    _ _ (c .before .before .before .before .read-clean .ensures .0) (c .before .chain2 .given .1)
 
 slice-aggregate-clears : tie.Need-slice-aggregate-clears
 slice-aggregate-clears c = search needs
@@ -159,10 +159,10 @@ follow-spec =
     returns
     sheet-refusal-requires
     returns-2
-    slice-aggregate-read
-    read-requires
+    slice-aggregate-read-clean
+    read-clean-requires
     enum-known-chain
-    enum-told
+    enum-known-chain-2
     returns-3
     slice-aggregate-clears
     clears-requires

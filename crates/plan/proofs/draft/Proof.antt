@@ -12,7 +12,8 @@ use Rattle.layout.proofs.Numbers.{numbered}
 use Rattle.solve.specs.Solved.{Solves}
 use Rattle.solve.specs.declared.Solved.{Solved}
 use Rattle.solve.specs.declared.Solved.the-variants.{Repairs, Cycle}
-use Rattle.solve.proofs.Fitting.{repairs-fit, cycle-fits, listed-fits}
+use Rattle.solve.proofs.Fitting.{repairs-fit, cycle-fits}
+use Rattle.sheet.proofs.Fitting.{listed-fits}
 use Rattle.plan.proofs.Answers.{drafts-repairs, drafts-fatal}
 use Rattle.plan.proofs.draft.Statement.{statement}
 use Rattle.plan.proofs.draft.Tie as tie
