@@ -149,12 +149,15 @@ pub fn limit(random: &mut Random) -> usize {
     number(random, good, &[0, 1 << 8, 1 << 16, 1 << 32, 1 << 63])
 }
 
-/// A list of repairs for the map, now and then with something wrong or of a wrong length.
+/// A list of repairs for the map, now and then with something wrong, with leftovers or of a wrong length.
 pub fn repairs(random: &mut Random, grid: Grid, map: &[u8]) -> Vec<u8> {
     let steps = sheets::any_order(random, grid, map);
     let mut sheet = sheets::scattered(random, &steps);
     if random.one_in(BAD) {
         sheet = sheets::damaged(random, grid, &sheet);
+    }
+    if random.one_in(BAD) {
+        sheets::litter(random, &mut sheet);
     }
     sheet.resize(length(random, SHEET), 0);
     sheet

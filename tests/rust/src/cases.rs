@@ -3,7 +3,7 @@
 
 use crate::inputs::{grids_up_to, BLOCK_MAX, LARGEST};
 use crate::losses::{map_of, map_of_bits, rectangles, sets_up_to};
-use crate::model::{BROKEN, FATAL, NO_REPAIRS};
+use crate::model::{FATAL, NO_REPAIRS, OUT_OF_RANGE};
 use crate::outcome::Outcome;
 use crate::rebuild::AT_ONCE;
 use crate::sheet::SHEET;
@@ -119,6 +119,11 @@ fn follow(run: &mut Run, case: &str, size: Size, array: &[u8], map: &[u8], begin
     stated(run, &format!("{case}, follow"), expected, || ffi::follow(size, &lost, map, &sheet), model);
 }
 
+/// The same of tidy, on a sheet from elsewhere.
+fn tidy(run: &mut Run, case: &str, sheet: &[u8], expected: Outcome) {
+    stated(run, &format!("{case}, tidy"), expected, || ffi::tidy(sheet), model::tidy(sheet));
+}
+
 /// The same of save.
 fn save(run: &mut Run, case: &str, size: Size, array: &[u8], map: &[u8], expected: Outcome) {
     let lost = lost(size, array, map);
@@ -141,6 +146,7 @@ fn restored(run: &mut Run, case: &str, known: Known, marked: &[usize], begins: &
     turn(run, case, known, marked, AT_ONCE, &[], begins);
     follow(run, case, size, array, &map, begins, Outcome { answer: 0, out, written: vec![array.to_vec()] });
     saved(run, case, known, marked, &[]);
+    tidy(run, case, &sheet(begins), Outcome::writing(0, sheet(begins)));
 }
 
 fn fatal(run: &mut Run, case: &str, known: Known, marked: &[usize], begins: &[u8]) {
@@ -153,8 +159,9 @@ fn fatal(run: &mut Run, case: &str, known: Known, marked: &[usize], begins: &[u8
         rebuild(run, case, size, array, &map, limit, rebuilt.clone());
     }
     no_repairs(run, case, known, marked);
-    follow(run, case, size, array, &map, begins, Outcome::writing(BROKEN, kept));
+    follow(run, case, size, array, &map, begins, Outcome::writing(OUT_OF_RANGE, kept));
     saved(run, case, known, marked, marked);
+    tidy(run, case, &sheet(begins), Outcome::writing(OUT_OF_RANGE, sheet(begins)));
 }
 
 /// Cases 2 to 8. The paper gives no sheets for 5 and 7: there is one loop in 5, and 7 follows plan's order by hand.
@@ -171,6 +178,54 @@ fn losses(run: &mut Run) {
     rebuild(run, "8", A.size, &contradictory, &map, AT_ONCE, Outcome { answer: 7, out: None, written });
     follow(run, "8", A.size, &contradictory, &map, &[1, 1, 0, 0, 0], Outcome::writing(7, zeroed.clone()));
     save(run, "8", A.size, &contradictory, &map, Outcome::writing(7, zeroed));
+}
+
+/// Case 3's list in records 32, 5 and 1.
+const ELSEWHERE: [(usize, [u8; 3]); 3] = [(95, [2, 18, 5]), (14, [0, 0, 1]), (2, [6, 2, 0])];
+
+/// Case 3's list in other records, with some bytes changed. Follow gives this status and tidy that. Where tidy refuses
+/// nothing it makes the sheet of case 3, with the stripe that the first record has now.
+fn from_elsewhere(run: &mut Run, changes: &[(usize, u8)], follows: usize, tidies: usize) {
+    let mut from = sheet(&[1, 32]);
+    ELSEWHERE.iter().for_each(|&(at, record)| from[at..at + 3].copy_from_slice(&record));
+    changes.iter().for_each(|&(at, byte)| from[at] = byte);
+    let (case, map) = (format!("3 from elsewhere, changes {changes:?}"), map_of(A.size.grid, &[0, 2, 6]));
+    let followed = match follows {
+        0 => Outcome { answer: 0, out: Some(3), written: vec![A.array.to_vec()] },
+        refusal => Outcome::writing(refusal, lost(A.size, A.array, &map)),
+    };
+    follow(run, &case, A.size, A.array, &map, &from, followed);
+    let tidied = if tidies == 0 { sheet(&[1, 1, 2, from[96], 2, 0, 0, 3, 6, 2, 0]) } else { from.clone() };
+    tidy(run, &case, &from, Outcome::writing(tidies, tidied));
+}
+
+/// Tidy sheets. Bytes 0 and 1 and records 1, 5 and 32 are on the chain: 5, 13, 17 and 94 are bytes beside them.
+fn tidy_sheets(run: &mut Run) {
+    from_elsewhere(run, &[], 0, 0);
+    for leftover in [(5, 1), (13, 255), (17, 128), (94, 1)] {
+        from_elsewhere(run, &[leftover], 14, 0);
+        from_elsewhere(run, &[leftover, (96, 17)], 14, 0);
+        from_elsewhere(run, &[leftover, (4, 32)], 13, 13);
+        from_elsewhere(run, &[leftover, (0, 2)], 10, 10);
+    }
+    // A step that is not allowed: the column does not go through the card.
+    from_elsewhere(run, &[(96, 17)], 11, 0);
+    // The last record leads to the first, to itself, or nowhere; or the kind is another, ring or not.
+    for (changes, refusal) in [
+        (&[(4, 32)][..], 13),
+        (&[(4, 1)], 13),
+        (&[(4, 33)], 10),
+        (&[(1, 33)], 10),
+        (&[(0, 0)], 10),
+        (&[(0, 2)], 10),
+        (&[(0, 2), (4, 32)], 10),
+    ] {
+        from_elsewhere(run, changes, refusal, refusal);
+    }
+    // Nothing is listed, with leftovers and without.
+    for from in [sheet(&[1]), sheet(&[1, 0, 2, 18]), [[1, 0].to_vec(), vec![7; 96]].concat()] {
+        tidy(run, "2 from elsewhere", &from, Outcome::writing(0, sheet(&[1])));
+    }
 }
 
 /// Cards that are not lost after all. Of the nine dead cards plan counts eight as lost, and save brings back card 6. Without
@@ -416,6 +471,7 @@ pub fn run(run: &mut Run) {
     seals(run, "1", A, &[1, 2, 99, 4, 8, 7, 6, 5, 4]);
     losses(run);
     turns(run);
+    tidy_sheets(run);
     nine_cards(run);
     write(run, "9", A, 0, 0, &[9, 2, 11, 4, 8, 12, 13, 10, 7]);
     wider_than_high(run);

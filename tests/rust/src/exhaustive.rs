@@ -54,7 +54,7 @@ fn all_maps(run: &mut Run, grid: Grid, rebuilt: usize) {
     cores::share(run, &name, sets.div_ceil(MAPS), |run, part| {
         some_maps(run, grid, rebuilt, part * MAPS..sets.min((part + 1) * MAPS));
     });
-    run.tally.report(&name, &[0, 6, 7, 10, 11]);
+    run.tally.report(&name, &[0, 6, 7, 10, 11, 13, 14]);
 }
 
 /// All losses of three disks of a grid: none is fatal. Those with the same highest disk are a part.
@@ -89,7 +89,7 @@ fn random_losses(run: &mut Run, name: &str, rounds: usize, grid: DrawGrid, map: 
             loss(run, size, &sealed, &map);
         }
     });
-    run.tally.report(name, &[0, 6, 7, 10, 11]);
+    run.tally.report(name, &[0, 6, 7, 10, 11, 13, 14]);
 }
 
 /// Four disks, half of the time the corners of a rectangle, which is fatal.

@@ -1,17 +1,17 @@
-//! Every refusal of plan, rebuild, follow and save alone, every pair of them, and every larger set: of those that apply, the
-//! first in the paper's list is due.
+//! Every refusal of plan, rebuild, follow, save and tidy alone, every pair of them, and every larger set: of those that
+//! apply, the first in the paper's list is due.
 
 use crate::inputs::{random_grid, sealed_array};
 use crate::random::Random;
 use crate::rebuild::{self, AT_ONCE};
 use crate::sheet::place_of;
 use crate::size::Size;
-use crate::{arguments, follow, losses, plan, save, sheets, Run};
+use crate::{arguments, cores, follow, losses, plan, save, sheets, tidy, Run};
 
 /// How often each set of faults is tried, each time with other values.
-const TURNS: usize = 10;
+const TURNS: usize = 5;
 
-/// The arguments of rebuild and follow; those of plan and save are among them.
+/// The arguments of rebuild and follow; those of plan, save and tidy are among them.
 struct Arguments {
     size: Size,
     array: Vec<u8>,
@@ -44,8 +44,16 @@ fn wrong_side(random: &mut Random, good: usize) -> usize {
     random.pick(&[0, 1, 16, good + 256, good + (1 << 32), usize::MAX - 1, usize::MAX])
 }
 
-/// What can be wrong, those of the contents first: they need the lengths to be right.
-const FAULTS: [fn(&mut Random, &mut Arguments); 11] = [
+/// Where the first record begins. A chain that was empty has record 1 then.
+fn first_record(sheet: &mut [u8]) -> usize {
+    sheet[1] = sheet[1].max(1);
+    place_of(sheet[1] as usize)
+}
+
+/// What can be wrong, those of the contents first: they need the lengths to be right. Of these the leftovers come last, so
+/// that they are off the chain as it is then; without them all is zero there. A ring stays one where the kind is another,
+/// not where a number is out of range.
+const FAULTS: [fn(&mut Random, &mut Arguments); 13] = [
     // 7: a data disk is changed. Its column then contradicts it.
     |random, a| {
         let Size { grid, block } = a.size;
@@ -56,19 +64,31 @@ const FAULTS: [fn(&mut Random, &mut Arguments); 11] = [
     |random, a| losses::ring(random, a.size.grid, 2, 0).iter().for_each(|&disk| a.map[disk] = 1),
     // 11: another disk, a stripe that does not go through the disk, or no repair at all.
     |random, a| {
-        let at = place_of(a.sheet[1] as usize);
+        let at = first_record(&mut a.sheet);
         match random.below(3) {
             0 => a.sheet[at] ^= 1,
             1 => a.sheet[at + 1] += 1,
             _ => a.sheet[1] = 0,
         }
+        sheets::clean(&mut a.sheet);
     },
-    // 10: another kind, a number that no record has, or a record that leads to itself.
-    |random, a| match random.below(3) {
-        0 => a.sheet[0] = random.pick(&[0, 2, 3, 255]),
-        1 => a.sheet[1] = random.between(33, 255) as u8,
-        _ => (a.sheet[1], a.sheet[place_of(1) + 2]) = (1, 1),
+    // 13: the first record leads to itself.
+    |_, a| {
+        let at = first_record(&mut a.sheet);
+        a.sheet[at + 2] = a.sheet[1];
     },
+    // 10: another kind, or a first or next number that no record has.
+    |random, a| {
+        let (at, number) = (first_record(&mut a.sheet), random.between(33, 255) as u8);
+        match random.below(3) {
+            0 => a.sheet[0] = sheets::other_kind(random),
+            1 => a.sheet[1] = number,
+            _ => a.sheet[at + 2] = number,
+        }
+        sheets::clean(&mut a.sheet);
+    },
+    // 14: leftovers.
+    |random, a| sheets::litter(random, &mut a.sheet),
     // 4, by a byte and by the length.
     |random, a| arguments::spoil(random, &mut a.map, 0),
     |random, a| resize(random, &mut a.map),
@@ -86,23 +106,28 @@ const FAULTS: [fn(&mut Random, &mut Arguments); 11] = [
     |random, a| a.size.grid.columns = wrong_side(random, a.size.grid.columns),
 ];
 
-pub fn run(run: &mut Run) {
-    for set in 0..1_usize << FAULTS.len() {
-        for _ in 0..TURNS {
-            let mut a = faultless(&mut run.random);
-            for (i, fault) in FAULTS.iter().enumerate() {
-                if set >> i & 1 == 1 {
-                    fault(&mut run.random, &mut a);
-                }
+/// The calls with one set of faults, given by its bits.
+fn one_set(run: &mut Run, set: usize) {
+    for _ in 0..TURNS {
+        let mut a = faultless(&mut run.random);
+        for (i, fault) in FAULTS.iter().enumerate() {
+            if set >> i & 1 == 1 {
+                fault(&mut run.random, &mut a);
             }
-            plan::compare(&mut run.tally, a.size.grid, &a.map, &a.sheet);
-            // 12, by the limit, which is rebuild's alone.
-            for limit in [AT_ONCE, 0] {
-                rebuild::compare(&mut run.tally, a.size, &a.array, &a.map, &a.sheet, limit);
-            }
-            follow::compare(&mut run.tally, a.size, &a.array, &a.map, &a.sheet);
-            save::compare(&mut run.tally, a.size, &a.array, &a.map);
         }
+        plan::compare(&mut run.tally, a.size.grid, &a.map, &a.sheet);
+        // 12, by the limit, which is rebuild's alone.
+        for limit in [AT_ONCE, 0] {
+            rebuild::compare(&mut run.tally, a.size, &a.array, &a.map, &a.sheet, limit);
+        }
+        follow::compare(&mut run.tally, a.size, &a.array, &a.map, &a.sheet);
+        save::compare(&mut run.tally, a.size, &a.array, &a.map);
+        tidy::compare(&mut run.tally, &a.sheet);
     }
-    run.tally.report("every set of refusals", &[0, 1, 2, 3, 4, 5, 6, 7, 10, 11, 12]);
+}
+
+pub fn run(run: &mut Run) {
+    let name = "every set of refusals";
+    cores::share(run, name, 1 << FAULTS.len(), one_set);
+    run.tally.report(name, &[0, 1, 2, 3, 4, 5, 6, 7, 10, 11, 12, 13, 14]);
 }

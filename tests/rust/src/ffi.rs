@@ -49,6 +49,7 @@ extern "C" {
                        array: *mut u8, array_len: usize,
                        map: *const u8, map_len: usize,
                        count: *mut usize) -> u32;
+    pub fn raid2d_tidy(sheet: *mut u8, sheet_len: usize) -> u32;
 }
 
 /// The lengths of a map and of an array.
@@ -169,4 +170,10 @@ pub fn save(size: Size, array: &[u8], map: &[u8]) -> Result<Outcome, String> {
     let status = unsafe { raid2d_save(rows, columns, block, array_at, array_len, map_at, map_len, count.pointer()) };
     map.only_read()?;
     Ok(Outcome { answer: status as usize, out: count.value()?, written: vec![array.written()?] })
+}
+
+pub fn tidy(sheet: &[u8]) -> Result<Outcome, String> {
+    let mut sheet = Lent::new("sheet", sheet);
+    let status = unsafe { raid2d_tidy(sheet.pointer(), sheet.len()) };
+    Ok(Outcome::writing(status as usize, sheet.written()?))
 }

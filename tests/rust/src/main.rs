@@ -35,6 +35,7 @@ mod sheets;
 mod size;
 mod steps;
 mod tally;
+mod tidy;
 mod turns;
 mod write;
 
@@ -63,7 +64,7 @@ struct Call {
     answers: &'static [usize],
 }
 
-const CALLS: [Call; 8] = [
+const CALLS: [Call; 9] = [
     Call { name: "seal", contents: seal::contents, refusals: seal::refusals, draws: 30_000, answers: &[0, 1, 2, 3] },
     Call {
         name: "check",
@@ -99,8 +100,8 @@ const CALLS: [Call; 8] = [
         name: "follow",
         contents: follow::contents,
         refusals: follow::refusals,
-        draws: 60_000,
-        answers: &[0, 1, 2, 3, 4, 5, 7, 10, 11],
+        draws: 72_000,
+        answers: &[0, 1, 2, 3, 4, 5, 7, 10, 11, 13, 14],
     },
     Call {
         name: "save",
@@ -109,6 +110,7 @@ const CALLS: [Call; 8] = [
         draws: 60_000,
         answers: &[0, 1, 2, 3, 4, 7],
     },
+    Call { name: "tidy", contents: tidy::contents, refusals: tidy::refusals, draws: 30_000, answers: &[0, 5, 10, 13] },
 ];
 
 impl Call {
@@ -145,7 +147,7 @@ fn is_set(variable: &str) -> bool {
 
 fn gate(run: &mut Run, rounds: usize) {
     cases::run(run);
-    run.tally.report("paper's cases", &[0, 1, 2, 4, 6, 7, 8, 10, 12]);
+    run.tally.report("paper's cases", &[0, 1, 2, 4, 6, 7, 8, 10, 11, 12, 13, 14]);
     fields::run(run);
     run.tally.report("lengths and fields", &[0]);
     huge::run(run);
@@ -154,6 +156,7 @@ fn gate(run: &mut Run, rounds: usize) {
     }
     faults::run(run);
     steps::run(run);
+    tidy::run(run, rounds);
     turns::run(run, rounds);
     save::run(run, rounds);
     exhaustive::run(run, rounds);

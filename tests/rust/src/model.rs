@@ -14,12 +14,16 @@ pub const SUCCESS: usize = 0;
 pub const FATAL: usize = 6;
 /// The status of survivors that belong to no sealed array.
 pub const CONTRADICTORY: usize = 7;
-/// The status of a sheet that is not a chain of repairs.
-pub const BROKEN: usize = 10;
+/// The status of a sheet whose kind, or a number on its chain, is out of range.
+pub const OUT_OF_RANGE: usize = 10;
 /// The status of repairs that are not allowed or leave a disk erased.
 pub const NOT_ALLOWED: usize = 11;
 /// The status of a limit of no repairs.
 pub const NO_REPAIRS: usize = 12;
+/// The status of a chain that reaches a record twice.
+const TWICE: usize = 13;
+/// The status of bytes off the chain that are not zero.
+pub const LEFTOVERS: usize = 14;
 /// What check answers for an array that is not sealed. Paper 01 gives no number; the C interface does.
 const NOT_SEALED: usize = 64;
 /// Column c is stripe 16 + c.
@@ -322,18 +326,34 @@ pub fn rebuild(size: Size, array: &[u8], map: &[u8], sheet: &[u8], limit: usize)
     clearing_turn(size, array, map, &loss)
 }
 
-/// The repairs of a sheet made one after another. With 7 the erased blocks are zero.
-pub fn follow(size: Size, array: &[u8], map: &[u8], sheet: &[u8]) -> Outcome {
-    let refused = |status: usize| Outcome::writing(status, array.to_vec());
-    let refusal = restore_refusal(size, array, map, sheet);
-    if refusal != SUCCESS {
-        return refused(refusal);
+/// Refusals 10 and 13, which come after those of the lengths. Each is judged over the whole chain.
+pub fn chain_refusal(sheet: &[u8]) -> usize {
+    let (_, after) = sheet::chain(sheet);
+    if sheet[0] != sheet::REPAIRS || after > sheet::RECORDS {
+        return OUT_OF_RANGE;
     }
-    let Some(steps) = sheet::chain(sheet) else {
-        return refused(BROKEN);
-    };
-    if !sheet::clears(size.grid, &erased_disks(map), &steps) {
-        return refused(NOT_ALLOWED);
+    if after != 0 {
+        return TWICE;
+    }
+    SUCCESS
+}
+
+/// Refusals 1 to 5, 10, 13 and 14 of follow.
+fn follow_refusal(size: Size, array: &[u8], map: &[u8], sheet: &[u8]) -> usize {
+    let mut refusal = restore_refusal(size, array, map, sheet);
+    if refusal == SUCCESS {
+        refusal = chain_refusal(sheet);
+    }
+    if refusal == SUCCESS && sheet::off_chain(sheet).iter().any(|&place| sheet[place] != 0) {
+        refusal = LEFTOVERS;
+    }
+    refusal
+}
+
+/// The repairs of a list made one after another. With 7 the erased blocks are zero.
+pub fn follow_list(size: Size, array: &[u8], map: &[u8], steps: &[Record]) -> Outcome {
+    if !sheet::clears(size.grid, &erased_disks(map), steps) {
+        return Outcome::writing(NOT_ALLOWED, array.to_vec());
     }
     let mut restored = array.to_vec();
     steps.iter().for_each(|&(disk, stripe)| repair(size, &mut restored, disk, stripe));
@@ -341,6 +361,23 @@ pub fn follow(size: Size, array: &[u8], map: &[u8], sheet: &[u8]) -> Outcome {
         return Outcome::writing(CONTRADICTORY, with_erased(size.block, array, map, &vec![0; array.len()]));
     }
     Outcome { answer: SUCCESS, out: Some(steps.len()), written: vec![restored] }
+}
+
+/// What the list of a sheet says, if nothing is wrong with the sheet itself.
+pub fn follow(size: Size, array: &[u8], map: &[u8], sheet: &[u8]) -> Outcome {
+    match follow_refusal(size, array, map, sheet) {
+        SUCCESS => follow_list(size, array, map, &sheet::list(sheet)),
+        refusal => Outcome::writing(refusal, array.to_vec()),
+    }
+}
+
+/// The list of a sheet as records 1, 2, 3, and zeros elsewhere.
+pub fn tidy(sheet: &[u8]) -> Outcome {
+    let refusal = if sheet.len() == sheet::SHEET { chain_refusal(sheet) } else { 5 };
+    match refusal {
+        SUCCESS => Outcome::writing(SUCCESS, sheet::of_repairs(&sheet::list(sheet))),
+        refusal => Outcome::writing(refusal, sheet.to_vec()),
+    }
 }
 
 /// Every marked card that is not lost gets its block, and lost blocks keep their bytes. With 7 all marked blocks are zero.

@@ -1,11 +1,11 @@
-//! Plan: the repairs in its order, or a loop by the paper's rule.
+//! Plan: the repairs in its order, on a sheet that is tidy, or a loop by the paper's rule.
 
 use crate::model::FATAL;
 use crate::outcome::Outcome;
 use crate::sheet::{is_loop, ANY_LOOP, SHEET};
 use crate::size::{Grid, Size};
 use crate::tally::{show, Tally};
-use crate::{arguments, ffi, losses, model, Run};
+use crate::{arguments, ffi, losses, model, tidy, Run};
 
 /// The outcome of plan or rebuild, whose last buffer is the sheet. Where a fatal loss is expected and found, the loop
 /// is judged, and the sheet then stands for any loop.
@@ -22,6 +22,7 @@ pub fn compare(tally: &mut Tally, grid: Grid, map: &[u8], sheet: &[u8]) {
     let input = || format!("plan, {grid}, map {}, sheet {}", show(map), show(sheet));
     let expected = model::plan(grid, map, sheet);
     tally.compare(input, &expected, || judged(grid, map, &expected, ffi::plan(grid, map, sheet)?));
+    tidy::own_sheet(tally, &expected);
 }
 
 /// Plan does not see the blocks, so that each size is one more occasion for its grid.

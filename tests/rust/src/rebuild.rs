@@ -7,7 +7,7 @@ use crate::plan::judged;
 use crate::sheet::SHEET;
 use crate::size::{Grid, Size};
 use crate::tally::{show, Tally};
-use crate::{arguments, ffi, losses, model, turns, Run};
+use crate::{arguments, ffi, losses, model, tidy, turns, Run};
 
 /// A limit that leaves nothing for a second turn.
 pub const AT_ONCE: usize = usize::MAX;
@@ -35,14 +35,15 @@ pub fn compare(tally: &mut Tally, size: Size, array: &[u8], map: &[u8], sheet: &
     left
 }
 
-/// A sealed array that has lost the disks of the map, then the same with damages.
+/// A sealed array that has lost the disks of the map, then the same with damages. Sheets with repairs are tidy.
 pub fn sealed_and_damaged(run: &mut Run, size: Size, sealed: &[u8], map: &[u8]) {
     let mut array = sealed.to_vec();
     losses::forget(&mut run.random, size, &mut array, map);
     let sheet = run.random.bytes(SHEET);
-    compare(&mut run.tally, size, &array, map, &sheet, AT_ONCE);
+    let intact = compare(&mut run.tally, size, &array, map, &sheet, AT_ONCE);
     losses::damage(&mut run.random, size, &mut array);
-    compare(&mut run.tally, size, &array, map, &sheet, AT_ONCE);
+    let damaged = compare(&mut run.tally, size, &array, map, &sheet, AT_ONCE);
+    intact.iter().chain(&damaged).for_each(|rebuilt| tidy::own_sheet(&mut run.tally, rebuilt));
 }
 
 /// At once with a loss of each kind, and in turns with one of many disks that can be restored.

@@ -172,7 +172,7 @@ fn all_losses(run: &mut Run, grid: Grid, count: usize, fatal: u64, answers: &[us
 pub fn run(run: &mut Run) {
     for (rows, columns) in [(2, 15), (15, 2), (15, 15), (9, 15), (15, 9)] {
         let grid = Grid::new(rows, columns);
-        all_losses(run, grid, 3, 0, &[0, 7, 10, 11]);
-        all_losses(run, grid, 4, rectangles(grid), &[0, 6, 7, 10, 11]);
+        all_losses(run, grid, 3, 0, &[0, 7, 10, 11, 14]);
+        all_losses(run, grid, 4, rectangles(grid), &[0, 6, 7, 10, 11, 13, 14]);
     }
 }

@@ -3,7 +3,6 @@
 
 use crate::equations::{stripes_through, STRIPES};
 use crate::size::Grid;
-use std::collections::HashSet;
 
 pub const SHEET: usize = 98;
 /// Records are numbered from 1 to this.
@@ -68,24 +67,30 @@ pub fn place_of(record: usize) -> usize {
     2 + 3 * (record - 1)
 }
 
-/// The records that the chain of a repair sheet visits, in its order. None where the kind is not 1, a first or next
-/// number exceeds 32, or a record is reached twice.
-pub fn chain(sheet: &[u8]) -> Option<Vec<Record>> {
-    if sheet[0] != REPAIRS {
-        return None;
-    }
-    let mut reached = HashSet::new();
-    let mut records = Vec::new();
+/// The chain of a sheet: the numbers of the records that it visits, in its order, and the number that stands after them.
+/// That is the 0 at its end, a number that no record has, or that of a record visited before.
+pub fn chain(sheet: &[u8]) -> (Vec<usize>, usize) {
+    let mut visited = Vec::new();
     let mut number = sheet[1] as usize;
-    while number != 0 {
-        if number > RECORDS || !reached.insert(number) {
-            return None;
-        }
-        let at = place_of(number);
-        records.push((sheet[at] as usize, sheet[at + 1] as usize));
-        number = sheet[at + 2] as usize;
+    while (1..=RECORDS).contains(&number) && !visited.contains(&number) {
+        visited.push(number);
+        number = sheet[place_of(number) + 2] as usize;
     }
-    Some(records)
+    (visited, number)
+}
+
+/// What a sheet lists: the disks and stripes of the records that its chain visits, in its order.
+pub fn list(sheet: &[u8]) -> Vec<Record> {
+    let fields = |number: usize| (sheet[place_of(number)] as usize, sheet[place_of(number) + 1] as usize);
+    chain(sheet).0.into_iter().map(fields).collect()
+}
+
+/// The places of the bytes off the chain: all three of each record that it does not visit. The kind and the first number
+/// are never off it.
+pub fn off_chain(sheet: &[u8]) -> Vec<usize> {
+    let (visited, _) = chain(sheet);
+    let others = (1..=RECORDS).filter(|number| !visited.contains(number));
+    others.flat_map(|number| place_of(number)..place_of(number) + 3).collect()
 }
 
 /// Whether every step is an allowed repair at its turn, and no disk remains erased at the end. A repair is allowed if its

@@ -1,10 +1,11 @@
-//! Sheets to try follow on: repairs in any allowed order, with records anywhere, and sheets with something wrong.
+//! Sheets to try follow and tidy on: repairs in any allowed order, with records anywhere, with leftovers off the chain, and
+//! sheets with something wrong.
 
 use crate::equations::{stripes_through, STRIPES};
 use crate::losses::shuffled;
 use crate::model::erased_disks;
 use crate::random::Random;
-use crate::sheet::{allowed, place_of, Record, RECORDS, REPAIRS, SHEET};
+use crate::sheet::{allowed, chain, off_chain, place_of, Record, RECORDS, REPAIRS, SHEET};
 use crate::size::Grid;
 
 /// Repairs that are allowed one after another, each chosen at random, until none is.
@@ -23,30 +24,60 @@ pub fn any_order(random: &mut Random, grid: Grid, map: &[u8]) -> Vec<Record> {
     }
 }
 
-/// A repair sheet with its records at random places, and random bytes off the chain.
-pub fn scattered(random: &mut Random, steps: &[Record]) -> Vec<u8> {
-    let mut sheet = random.bytes(SHEET);
+/// A repair sheet with these steps in the records of these numbers, one after another, and zeros off the chain.
+pub fn placed(steps: &[Record], numbers: &[usize]) -> Vec<u8> {
+    let mut sheet = vec![0; SHEET];
     sheet[0] = REPAIRS;
     let mut link = 1;
-    for (&(disk, stripe), number) in steps.iter().zip(shuffled(random, RECORDS)) {
-        let at = place_of(number + 1);
-        sheet[link] = number as u8 + 1;
+    for (&(disk, stripe), &number) in steps.iter().zip(numbers) {
+        let at = place_of(number);
+        sheet[link] = number as u8;
         (sheet[at], sheet[at + 1]) = (disk as u8, stripe as u8);
         link = at + 2;
     }
-    sheet[link] = 0;
     sheet
 }
 
-/// The places of the numbers of a chain: that of the first record, and that of each next one, the 0 at the end too.
-fn links(sheet: &[u8]) -> Vec<usize> {
-    let mut links = vec![1];
-    let mut number = sheet[1] as usize;
-    while number != 0 {
-        links.push(place_of(number) + 2);
-        number = sheet[place_of(number) + 2] as usize;
+/// The numbers of all records in random order.
+pub fn any_numbers(random: &mut Random) -> Vec<usize> {
+    shuffled(random, RECORDS).into_iter().map(|number| number + 1).collect()
+}
+
+/// A repair sheet with its records at random places, and zeros off the chain.
+pub fn scattered(random: &mut Random, steps: &[Record]) -> Vec<u8> {
+    placed(steps, &any_numbers(random))
+}
+
+/// Zeros off the chain.
+pub fn clean(sheet: &mut [u8]) {
+    off_chain(sheet).into_iter().for_each(|place| sheet[place] = 0);
+}
+
+/// Puts leftovers on a sheet, at some of these places.
+type Leave = fn(&mut Random, &mut [u8], &[usize]);
+
+/// What can be left off the chain.
+const LEFTOVERS: [Leave; 3] = [
+    // One byte.
+    |random, sheet, places| sheet[random.pick(places)] = random.between(1, 255) as u8,
+    // Two that cancel each other, in a sum and in an exclusive or.
+    |random, sheet, places| (0..2).for_each(|_| sheet[random.pick(places)] = 128),
+    // Bytes at most places.
+    |random, sheet, places| places.iter().for_each(|_| sheet[random.pick(places)] = random.between(1, 255) as u8),
+];
+
+/// Puts leftovers off the chain. There are none where it visits every record.
+pub fn litter(random: &mut Random, sheet: &mut [u8]) {
+    let places = off_chain(sheet);
+    if !places.is_empty() {
+        LEFTOVERS[random.below(LEFTOVERS.len())](random, sheet, &places);
     }
-    links
+}
+
+/// The places of the numbers of a chain: that of the first record, and that of each next one, the 0 at the end too.
+pub fn links(sheet: &[u8]) -> Vec<usize> {
+    let (visited, _) = chain(sheet);
+    [1].into_iter().chain(visited.into_iter().map(|number| place_of(number) + 2)).collect()
 }
 
 /// Where some record of the chain begins; the first record's place where the chain has none.
@@ -60,10 +91,16 @@ fn relink(random: &mut Random, sheet: &mut [u8], number: usize) {
     sheet[random.pick(&links(sheet))] = number as u8;
 }
 
+/// Any kind but that of repairs.
+pub fn other_kind(random: &mut Random) -> u8 {
+    let any = random.between(2, 255) as u8;
+    random.pick(&[0, 2, 3, 255, any])
+}
+
 /// What can be wrong with a sheet, each damage on a chain that ends.
 const DAMAGES: [fn(&mut Random, Grid, &mut [u8]); 10] = [
     // Another kind.
-    |random, _, sheet| sheet[0] = random.pick(&[0, 2, 3, 255]),
+    |random, _, sheet| sheet[0] = other_kind(random),
     // A number that no record has.
     |random, _, sheet| {
         let number = random.between(RECORDS + 1, 255);
@@ -122,9 +159,13 @@ const DAMAGES: [fn(&mut Random, Grid, &mut [u8]); 10] = [
     },
 ];
 
-/// A sheet whose chain ends, with one thing wrong. It may be none: a record may change places with itself.
+/// A sheet whose chain ends, with one thing wrong. It may be none: a record may change places with itself. Records that
+/// are on the chain no longer are leftovers half of the time, and else cleared.
 pub fn damaged(random: &mut Random, grid: Grid, sheet: &[u8]) -> Vec<u8> {
     let mut damaged = sheet.to_vec();
     DAMAGES[random.below(DAMAGES.len())](random, grid, &mut damaged);
+    if random.one_in(2) {
+        clean(&mut damaged);
+    }
     damaged
 }

@@ -1,14 +1,20 @@
-//! Sheets for follow in bulk: each byte of a sheet set to each value, and each first step of each loss of a small grid.
+//! Sheets in bulk: each byte of a sheet set to each value, for follow and tidy, and each first step of each loss of a small
+//! grid, for follow.
 
 use crate::equations::STRIPES;
 use crate::inputs::sealed_array;
 use crate::losses::{self, map_of_bits};
 use crate::sheet::{of_repairs, plans_order, SHEET};
 use crate::size::{Grid, Size};
-use crate::{cores, follow, model, sheets, Run};
+use crate::{cores, follow, model, sheets, tidy, Run};
 
+/// Where each byte of a sheet is set to each value.
+const SIZES: [Size; 5] =
+    [Size::new(2, 2, 1), Size::new(3, 3, 2), Size::new(2, 15, 1), Size::new(15, 2, 1), Size::new(15, 15, 1)];
 /// Maps of a small grid that make a part.
 const MAPS: usize = 64;
+/// One sheet in so many is followed with leftovers too.
+const LITTERED: usize = 4;
 
 /// Every byte of a sheet, on the chain or off it, set to every value.
 fn every_byte(run: &mut Run, size: Size, sheet: &[u8], array: &[u8], map: &[u8]) {
@@ -17,11 +23,13 @@ fn every_byte(run: &mut Run, size: Size, sheet: &[u8], array: &[u8], map: &[u8])
         for value in 0..=255 {
             changed[place] = value;
             follow::compare(&mut run.tally, size, array, map, &changed);
+            tidy::compare(&mut run.tally, &changed);
         }
     }
 }
 
-/// On plan's own sheet and on one with its records anywhere, for a loss of many disks that can be restored.
+/// On plan's own sheet and on one with its records anywhere, without leftovers and with them, for a loss of many disks that
+/// can be restored.
 fn every_byte_at(run: &mut Run, size: Size) {
     let map = losses::map(&mut run.random, size.grid, 2);
     let mut array = sealed_array(&mut run.random, size);
@@ -29,7 +37,9 @@ fn every_byte_at(run: &mut Run, size: Size) {
     let (planned, _) = plans_order(size.grid, &model::erased_disks(&map));
     let steps = sheets::any_order(&mut run.random, size.grid, &map);
     let scattered = sheets::scattered(&mut run.random, &steps);
-    for sheet in [of_repairs(&planned), scattered] {
+    let mut littered = scattered.clone();
+    sheets::litter(&mut run.random, &mut littered);
+    for sheet in [of_repairs(&planned), scattered, littered] {
         every_byte(run, size, &sheet, &array, &map);
     }
 }
@@ -48,8 +58,12 @@ fn every_first_step(run: &mut Run, size: Size, array: &[u8], map: &[u8]) {
         for stripe in numbers(STRIPES) {
             let mut steps = vec![(disk, stripe)];
             steps.extend(sheets::any_order(&mut run.random, size.grid, &left));
-            let sheet = sheets::scattered(&mut run.random, &steps);
+            let mut sheet = sheets::scattered(&mut run.random, &steps);
             follow::compare(&mut run.tally, size, array, map, &sheet);
+            if run.random.one_in(LITTERED) {
+                sheets::litter(&mut run.random, &mut sheet);
+                follow::compare(&mut run.tally, size, array, map, &sheet);
+            }
         }
     }
 }
@@ -68,14 +82,12 @@ fn first_steps(run: &mut Run, grid: Grid, chances: usize) {
             }
         }
     });
-    run.tally.report(&name, &[0, 11]);
+    run.tally.report(&name, &[0, 11, 14]);
 }
 
 pub fn run(run: &mut Run) {
-    for (rows, columns, block) in [(2, 2, 1), (3, 3, 2), (2, 15, 1), (15, 2, 1), (15, 15, 1)] {
-        every_byte_at(run, Size::new(rows, columns, block));
-    }
-    run.tally.report("each byte of a sheet", &[0, 10, 11]);
+    cores::share(run, "each byte of a sheet", SIZES.len(), |run, part| every_byte_at(run, SIZES[part]));
+    run.tally.report("each byte of a sheet", &[0, 10, 11, 13, 14]);
     first_steps(run, Grid::new(2, 2), 1);
     first_steps(run, Grid::new(2, 3), 8);
     first_steps(run, Grid::new(3, 2), 8);

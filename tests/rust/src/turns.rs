@@ -1,14 +1,14 @@
 //! Rebuild in turns: each turn is compared with the model, and then all of them are held to what is promised of turns one
-//! after another, without the model.
+//! after another, without the model. The list of each turn is tidy.
 
 use crate::losses;
 use crate::model::{erased_disks, CONTRADICTORY, FATAL, NO_REPAIRS, SUCCESS};
 use crate::outcome::Outcome;
 use crate::rebuild::{self, AT_ONCE};
-use crate::sheet::{chain, Record, RECORDS, SHEET};
+use crate::sheet::{self, Record, RECORDS, SHEET};
 use crate::size::{Grid, Size};
 use crate::tally::{must, show};
-use crate::{ffi, model, Run};
+use crate::{ffi, model, tidy, Run};
 
 /// Random sizes, each with a loss of each kind, in parts.
 const PARTS: usize = 10;
@@ -17,7 +17,10 @@ const GREAT: [usize; 6] = [1 << 8, 1 << 16, 1 << 32, (1 << 32) + 1, 1 << 63, AT_
 
 /// The repairs that a sheet lists.
 fn repairs_of(sheet: &[u8]) -> Result<Vec<Record>, String> {
-    chain(sheet).ok_or_else(|| format!("no list of repairs: {}", show(sheet)))
+    match model::chain_refusal(sheet) {
+        SUCCESS => Ok(sheet::list(sheet)),
+        _ => Err(format!("no list of repairs: {}", show(sheet))),
+    }
 }
 
 /// The lists of these turns, one after another, are these repairs, and each turn counts its own.
@@ -130,6 +133,7 @@ impl<'a> Start<'a> {
         let turns = self.turns(run, limit);
         let due = if limit == 0 { NO_REPAIRS } else { self.due };
         run.tally.judge(input, due, || self.judge(limit, &turns));
+        turns.iter().for_each(|turn| tidy::own_sheet(&mut run.tally, turn));
     }
 }
 
