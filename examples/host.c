@@ -6,9 +6,9 @@
  * back, follows a list of repairs that came from elsewhere, repairs two disks
  * at a time between the machine's cuts, meets a survivor that was changed
  * behind its back, saves what can be saved of a cabinet with nine dead cards,
- * and meets in the end a loss that nothing brings back.
- * `make example` builds and runs it, and examples/host.expected has what it
- * prints.
+ * tidies a sheet that came by mail, and meets in the end a loss that nothing
+ * brings back. `make example` builds and runs it, and examples/host.expected
+ * has what it prints.
  *
  * It is C99 and C++. Whatever it gets back is compared with what was stored:
  * the exit status is 0 only if all went as it should.
@@ -319,28 +319,28 @@ static void lose_disk_with_parities(void)
 }
 
 /* A list of repairs that is not plan's. Its chain visits records 4, 1 and 3;
-   record 2 is off the chain and may hold anything. */
+   record 2 is off the chain and holds zeros, like those behind record 4. */
 static const uint8_t notes[RAID2D_SHEET_BYTES] = {
     RAID2D_SHEET_REPAIRS, 4,
     2, 18, 3,
-    99, 99, 99,
+    0, 0, 0,
     4, 0, 0,
     17, 3, 1
 };
 
-/* Follow judges the whole list before it changes a block. The records are
+/* Follow judges the whole sheet before it changes a block. The records are
    printed after a success only: a wrong chain may never end. */
-static void follow(uint32_t expected)
+static void follow(const uint8_t *list, uint32_t expected)
 {
     size_t count = 0;
     uint32_t status = raid2d_follow(ROWS, COLUMNS, BLOCK, array, sizeof array,
-                                    map, sizeof map, notes, sizeof notes,
-                                    &count);
+                                    map, sizeof map,
+                                    list, RAID2D_SHEET_BYTES, &count);
 
     printf("follow: %s\n", raid2d_strerror(status));
     expect(status == expected, "follow");
     if (status == RAID2D_OK)
-        print_repairs(notes);
+        print_repairs(list);
 }
 
 /* For a while disk 6 is out as well, of which the list knows nothing. Follow
@@ -352,10 +352,10 @@ static void follow_notes(void)
     lose(disk_with_parities, 3);
     printf("Disk 6 is pulled out by mistake.\n");
     map[6] = 1;
-    follow(RAID2D_ERR_REPAIRS);
+    follow(notes, RAID2D_ERR_REPAIRS);
     printf("Disk 6 is back, as it was.\n");
     map[6] = 0;
-    follow(RAID2D_OK);
+    follow(notes, RAID2D_OK);
     expect(all_is_there(), "what follow has restored");
     memset(map, 0, sizeof map);
 }
@@ -518,6 +518,39 @@ static void save_a_card(void)
            "what save has restored");
 }
 
+/* ---- A sheet that holds more than its list. */
+
+/* Its chain is that of the notes. Record 2 is left over from another list:
+   whoever takes every record for a repair sums row 1 into disk 6 as well, which
+   is present. */
+static uint8_t mail[RAID2D_SHEET_BYTES] = {
+    RAID2D_SHEET_REPAIRS, 4,
+    2, 18, 3,
+    6, 1, 0,
+    4, 0, 0,
+    17, 3, 1
+};
+
+/* Follow cannot know what the sender meant. Once the host does, tidy leaves the
+   list of the chain on the sheet and nothing else. */
+static void follow_mail(void)
+{
+    uint32_t status;
+
+    printf("\n9. Disks 2, 4 and 17 fail again. A sheet comes by mail, with"
+           " leftovers.\n");
+    lose(disk_with_parities, 3);
+    follow(mail, RAID2D_ERR_LEFTOVERS);
+    printf("The sender says that the chain is what counts.\n");
+    status = raid2d_tidy(mail, sizeof mail);
+    printf("tidy: %s\n", raid2d_strerror(status));
+    expect(status == RAID2D_OK, "tidy");
+    follow(mail, RAID2D_OK);
+    expect(check() == RAID2D_OK, "check after the mail");
+    expect(all_is_there(), "what the mail has restored");
+    memset(map, 0, sizeof map);
+}
+
 /* ---- A fatal loss, with a picture of its loop. */
 
 /* The disks that are on the loop, in the form of a map. */
@@ -625,7 +658,7 @@ static void meet_a_fatal_loss(void)
     static const size_t failed[] = { 0, 3, 6, 8, 10, 11, 19 };
     static uint8_t before[sizeof array];
 
-    printf("\n9. Disks 0, 3, 6, 8, 10, 11 and 19 fail.\n");
+    printf("\n10. Disks 0, 3, 6, 8, 10, 11 and 19 fail.\n");
     memcpy(before, array, sizeof array);
     lose(failed, 7);
     fail_to_rebuild();
@@ -652,6 +685,7 @@ int main(void)
     repair_between_cuts();
     meet_a_changed_survivor();
     save_a_card();
+    follow_mail();
     meet_a_fatal_loss();
     return failures == 0 ? 0 : 1;
 }

@@ -198,6 +198,8 @@ static size_t run(struct example *e, size_t *out)
     if (strcmp(e->call, "follow") == 0)
         return raid2d_follow(rows, columns, block, array, array_len,
                              map, map_len, sheet, sheet_len, out);
+    if (strcmp(e->call, "tidy") == 0)
+        return raid2d_tidy(sheet, sheet_len);
     if (strcmp(e->call, "save") == 0)
         return raid2d_save(rows, columns, block, array, array_len,
                            map, map_len, out);
