@@ -95,6 +95,11 @@ static void save(void)
                          &out);
 }
 
+static void tidy(void)
+{
+    result = raid2d_tidy(sheet, sizeof sheet);
+}
+
 /* What a run starts from: arbitrary data, sealed, and no disk erased. */
 static void prepare(void)
 {
@@ -165,6 +170,20 @@ static void ring(void)
         sheet[4 + 3 * k] = (uint8_t)((k + 1) % RAID2D_SHEET_RECORDS + 1);
 }
 
+/* The same records, the last of which leads nowhere. */
+static void full_chain(void)
+{
+    ring();
+    sheet[sizeof sheet - 1] = 0;
+}
+
+/* The last byte of record 32, which no list of repairs gets to. */
+static void leftover(void)
+{
+    cross_and_sheet();
+    sheet[sizeof sheet - 1] = 1;
+}
+
 /* The longest cycle: two disks in each row and column of the largest square
    that fits, 32 at the largest size. */
 static void stairs(void)
@@ -233,7 +252,11 @@ static const struct run runs[] = {
     { "rebuild", rebuild, "survivors that disagree", contradicted,
       RAID2D_ERR_SURVIVORS },
     { "follow", follow, "the longest list", cross_and_sheet, RAID2D_OK },
-    { "follow", follow, "a ring of 32 records", ring, RAID2D_ERR_CHAIN },
+    { "follow", follow, "a ring of 32 records", ring, RAID2D_ERR_RING },
+    { "follow", follow, "a byte off the chain", leftover,
+      RAID2D_ERR_LEFTOVERS },
+    { "follow", follow, "a chain of 32 records", full_chain,
+      RAID2D_ERR_REPAIRS },
     { "follow", follow, "survivors that disagree", contradicted,
       RAID2D_ERR_SURVIVORS },
     { "save", save, "no disk erased", sealed, RAID2D_OK },
@@ -242,7 +265,10 @@ static const struct run runs[] = {
     { "save", save, "rectangles joined", rectangles, RAID2D_OK },
     { "save", save, "all disks erased", all_lost, RAID2D_OK },
     { "save", save, "survivors that disagree", contradicted_rectangle,
-      RAID2D_ERR_SURVIVORS }
+      RAID2D_ERR_SURVIVORS },
+    { "tidy", tidy, "a byte off the chain", leftover, RAID2D_OK },
+    { "tidy", tidy, "a chain of 32 records", full_chain, RAID2D_OK },
+    { "tidy", tidy, "a ring of 32 records", ring, RAID2D_ERR_RING }
 };
 
 /* How deep a function goes on a stack filled with the byte. */

@@ -4,14 +4,16 @@
  * kind that guard bytes, sums, samples, squares and rebuilds of all disks do not
  * show: a byte that is only read, or written as it was, single losses among
  * millions, rows that are taken for columns, and turns that do not end as they
- * should. wrong_save.c has save. tests/wrong renames the archive's functions and
- * sees that the tests fail.
+ * should. wrong_save.c has save, wrong_tidy.c tidy and what follow makes of a
+ * sheet. tests/wrong renames the archive's functions and sees that the tests
+ * fail.
  */
 #include <stdlib.h>
 #include <string.h>
 
 #include "raid2d.h"
 #include "wrong.h"
+#include "wrong_tidy.h"
 
 size_t right_sheet_next(const uint8_t *sheet, size_t record);
 uint32_t right_seal(size_t rows, size_t columns, size_t block,
@@ -30,10 +32,6 @@ uint32_t right_rebuild(size_t rows, size_t columns, size_t block,
                        uint8_t *map, size_t map_len,
                        uint8_t *sheet, size_t sheet_len, size_t limit,
                        size_t *count);
-uint32_t right_follow(size_t rows, size_t columns, size_t block,
-                      uint8_t *array, size_t array_len,
-                      const uint8_t *map, size_t map_len,
-                      const uint8_t *sheet, size_t sheet_len, size_t *count);
 
 /* Asked so often that the environment is looked at only once. */
 const char *wanted(void)
@@ -515,17 +513,34 @@ uint32_t raid2d_follow(size_t rows, size_t columns, size_t block,
                        const uint8_t *sheet, size_t sheet_len, size_t *count)
 {
     struct size size = passed_on("follow", rows, columns);
-    uint32_t status = right_follow(size.rows, size.columns, block, array,
-                                   array_len, map, map_len, sheet, sheet_len,
-                                   count);
+    uint32_t status = follow_wrongly(size.rows, size.columns, block, array,
+                                     array_len, map, map_len, sheet, sheet_len,
+                                     count);
 
     if (wrong("reads a byte behind the array") && status == 0)
         read_at(array + array_len);
     if (wrong("reads a byte before the array") && status == 0)
         read_at(array - 1);
+    if (wrong("follow reads a byte behind the sheet") && status == 0)
+        read_at(sheet + sheet_len);
+    if (wrong("follow reads a byte before the sheet") && status == 0)
+        read_at(sheet - 1);
     if (wrong("writes the sheet, the same bytes") && status == 11)
         write_at(sheet);
     if (status == 0 && too_many("follow", rows, columns, *count))
         return 11;
+    return status;
+}
+
+uint32_t raid2d_tidy(uint8_t *sheet, size_t sheet_len)
+{
+    uint32_t status = tidy_wrongly(sheet, sheet_len);
+
+    if (wrong("tidy reads a byte behind the sheet") && status == 0)
+        read_at(sheet + sheet_len);
+    if (wrong("tidy reads a byte before the sheet") && status == 0)
+        read_at(sheet - 1);
+    if (wrong("tidy clears a byte behind the sheet") && status == 0)
+        set_bytes(sheet + sheet_len, 0, 1);
     return status;
 }

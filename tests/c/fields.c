@@ -9,8 +9,6 @@
 #include "raid2d.h"
 #include "suite.h"
 
-#define COUNT(list) (sizeof list / sizeof list[0])
-
 static const size_t sides[] = {
     0, 1, 2, 3, 4, 5, 6, 7, 8, 9, 10, 11, 12, 13, 14, 15, 16, 17, 255, 256,
     258, 65538, (size_t)UINT32_MAX + 3, SIZE_MAX - 1, SIZE_MAX

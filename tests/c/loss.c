@@ -16,6 +16,11 @@ void lose(struct call *c, size_t r, size_t k)
     fill(c->array.bytes + disk * block, block);
 }
 
+void lose_nothing(struct call *c)
+{
+    (void)c;
+}
+
 void lose_cross(struct call *c)
 {
     size_t columns = c->size.columns, i;

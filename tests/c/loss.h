@@ -16,6 +16,8 @@
    bytes expected after the call stay. */
 void lose(struct call *c, size_t r, size_t k);
 
+void lose_nothing(struct call *c);
+
 /* Row 0 and column 0: as many disks as can be restored. */
 void lose_cross(struct call *c);
 

@@ -5,13 +5,15 @@
  */
 #include <string.h>
 
+#include "chain.h"
 #include "loss.h"
 #include "raid2d.h"
 #include "suite.h"
 
 /* ---- What is expected ---- */
 
-/* Plan on the call's map answers this, with the sheet expected of the call. */
+/* Plan on the call's map answers this, with the sheet expected of the call. To
+   tidy that changes nothing: a list is tidy, and a cycle is refused. */
 static void expect_plan(const struct call *c, size_t status, size_t count,
                         const char *what)
 {
@@ -22,6 +24,7 @@ static void expect_plan(const struct call *c, size_t status, size_t count,
     expect_as_now(&plan);
     memcpy(plan.sheet.expected, c->sheet.expected, plan.sheet.len);
     expect_run(&plan, status, count, what);
+    expect_tidy(plan.sheet.bytes, status == 6 ? 10 : 0, plan.sheet.bytes, what);
     end_call(&plan);
 }
 

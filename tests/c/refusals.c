@@ -24,9 +24,11 @@ enum argument {
     PARITY_DISK, DATA_LENGTH,              /* write only */
     MAP_LENGTH, MAP_BYTE,                  /* from look on */
     NO_DISK, ERASED,                       /* look only */
-    SHEET_LENGTH, LOSS,                    /* plan, rebuild and follow */
+    SHEET_LENGTH,                          /* plan, rebuild, follow, tidy */
+    LOSS,                                  /* plan, rebuild and follow */
     LIMIT,                                 /* rebuild only */
-    CHAIN, STEP,                           /* follow only */
+    CHAIN, RING,                           /* follow and tidy */
+    LEFTOVER, STEP,                        /* follow only */
     DAMAGE,                                /* rebuild, follow and save */
     ARGUMENTS
 };
@@ -54,7 +56,7 @@ struct tests {
     struct {
         enum argument argument;
         size_t status;
-    } test[11];
+    } test[13];
 };
 
 /* Tests that several calls make. */
@@ -62,6 +64,7 @@ struct tests {
 #define ARRAY_TESTS SIZE_TESTS, { BLOCK, 2 }, { ARRAY_LENGTH, 3 }
 #define MAP_TESTS { MAP_LENGTH, 4 }, { MAP_BYTE, 4 }
 #define SHEET_TESTS MAP_TESTS, { SHEET_LENGTH, 5 }
+#define CHAIN_TESTS { CHAIN, 10 }, { RING, 13 }
 
 static const struct tests tests[] = {
     { SEAL, 0, 4, { ARRAY_TESTS } },
@@ -73,14 +76,16 @@ static const struct tests tests[] = {
     { PLAN, 0, 6, { SIZE_TESTS, SHEET_TESTS, { LOSS, 6 } } },
     { REBUILD, 0, 10, { ARRAY_TESTS, SHEET_TESTS, { LIMIT, 12 }, { LOSS, 6 },
                         { DAMAGE, 7 } } },
-    { FOLLOW, 0, 11, { ARRAY_TESTS, SHEET_TESTS, { CHAIN, 10 }, { STEP, 11 },
-                       { LOSS, 11 }, { DAMAGE, 7 } } },
-    { SAVE, 0, 7, { ARRAY_TESTS, MAP_TESTS, { DAMAGE, 7 } } }
+    { FOLLOW, 0, 13, { ARRAY_TESTS, SHEET_TESTS, CHAIN_TESTS,
+                       { LEFTOVER, 14 }, { STEP, 11 }, { LOSS, 11 },
+                       { DAMAGE, 7 } } },
+    { SAVE, 0, 7, { ARRAY_TESTS, MAP_TESTS, { DAMAGE, 7 } } },
+    { TIDY, 0, 3, { { SHEET_LENGTH, 5 }, CHAIN_TESTS } }
 };
 
-/* Follow's sheet has one record, number 32: disk 1 by row 0. These are bytes
-   that make it wrong. In its chain: another kind, a number that no record
-   has, a record that leads to itself. */
+/* The sheet of follow and tidy has one record, number 32: disk 1 by row 0.
+   These are bytes that make it wrong. In its chain: another kind, a number that
+   no record has. */
 struct sheet_byte {
     size_t place;
     uint8_t byte;
@@ -88,7 +93,19 @@ struct sheet_byte {
 
 static const struct sheet_byte wrong_chain[] = {
     { 0, 0 }, { 0, 2 }, { 0, 3 }, { 0, 255 }, { 1, 33 }, { 1, 255 },
-    { 97, 32 }, { 97, 33 }, { 97, 255 }
+    { 97, 33 }, { 97, 255 }
+};
+
+/* Where records 32 and 1 lead to: back to record 32, from it or from record 1,
+   or from record 1 to itself. */
+static const struct sheet_byte ring[][2] = {
+    { { 97, 32 }, { 4, 0 } }, { { 97, 1 }, { 4, 32 } }, { { 97, 1 }, { 4, 1 } }
+};
+
+/* Off its chain, also where that goes on to record 1: each byte of a record,
+   before record 32 and farther off. */
+static const struct sheet_byte leftover[] = {
+    { 5, 1 }, { 6, 255 }, { 7, 128 }, { 50, 2 }, { 92, 64 }, { 94, 1 }
 };
 
 /* In its step: a present disk, one outside of the grid but for the largest, and
@@ -98,6 +115,8 @@ static const struct sheet_byte wrong_step[] = {
 };
 
 #define WRONG_CHAINS (sizeof wrong_chain / sizeof wrong_chain[0])
+#define RINGS (sizeof ring / sizeof ring[0])
+#define LEFTOVERS (sizeof leftover / sizeof leftover[0])
 #define WRONG_STEPS (sizeof wrong_step / sizeof wrong_step[0])
 
 static void add(struct values *v, size_t value)
@@ -258,6 +277,10 @@ static struct values values_of(enum argument argument,
         return limits();
     case CHAIN:
         return numbered(WRONG_CHAINS);
+    case RING:
+        return numbered(RINGS);
+    case LEFTOVER:
+        return numbered(LEFTOVERS);
     case STEP:
         return numbered(WRONG_STEPS);
     case DAMAGE:
@@ -320,7 +343,8 @@ static void put(struct call *c, struct sheet_byte b)
         c->sheet.bytes[b.place] = b.byte;
 }
 
-/* Follow's sheet, which says arbitrary things off its chain. */
+/* Off its chain follow's sheet is zero, and tidy's says arbitrary things. A
+   number that no record has comes in the place of one that leads back. */
 static void prepare_sheet(struct call *c, const struct arguments *a)
 {
     static const struct sheet_byte right[] = {
@@ -328,10 +352,16 @@ static void prepare_sheet(struct call *c, const struct arguments *a)
     };
     size_t i;
 
+    if (c->function == FOLLOW && c->sheet.len > 0)
+        memset(c->sheet.bytes, 0, c->sheet.len);
     for (i = 0; i < sizeof right / sizeof right[0]; i++)
         put(c, right[i]);
     if (a->of[STEP])
         put(c, wrong_step[a->of[STEP] - 1]);
+    if (a->of[LEFTOVER])
+        put(c, leftover[a->of[LEFTOVER] - 1]);
+    for (i = 0; i < 2 && a->of[RING]; i++)
+        put(c, ring[a->of[RING] - 1][i]);
     if (a->of[CHAIN])
         put(c, wrong_chain[a->of[CHAIN] - 1]);
 }
@@ -372,7 +402,7 @@ static struct call call_with(enum function function, const struct arguments *a)
         c.map.bytes[c.disk] = 1;
     if (function >= PLAN)
         prepare_loss(&c, a);
-    if (function == FOLLOW)
+    if (function == FOLLOW || function == TIDY)
         prepare_sheet(&c, a);
     if (a->of[MAP_BYTE])
         c.map.bytes[a->of[MAP_BYTE] / 256] = (uint8_t)(a->of[MAP_BYTE] % 256);
@@ -523,7 +553,7 @@ static void empty_buffers(struct size size)
         size_t result;
     } calls[] = {
         { SEAL, 3 }, { CHECK, 3 }, { WRITE, 3 }, { LOOK, 0 }, { PLAN, 4 },
-        { REBUILD, 3 }, { FOLLOW, 3 }, { SAVE, 3 }
+        { REBUILD, 3 }, { FOLLOW, 3 }, { SAVE, 3 }, { TIDY, 5 }
     };
     size_t i, null;
 

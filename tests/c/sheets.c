@@ -1,17 +1,21 @@
 /*
  * What follow makes of sheets from elsewhere, with their exact bytes, on sealed
  * arrays with one byte in a block: the array A of paper 01, one that is wider
- * than high and one that is higher than wide.
+ * than high and one that is higher than wide. Each sheet is followed with zeros
+ * off its chain, with leftovers there, and with these after tidy.
  */
 #include <string.h>
 
+#include "chain.h"
 #include "raid2d.h"
 #include "suite.h"
 
-/* What off the chain and on the erased disks counts for nothing. */
-#define NOTHING 201
+/* What stands on the erased disks, where it counts for nothing, and off the
+   chain, where follow turns it down. */
+#define LEFTOVER 201
 
-/* A sheet for a map: its first records, and the last one, number 32. */
+/* A sheet for a map: its first records, and the last one, number 32; and what
+   follow makes of it where it is zero off the chain. */
 struct example {
     const char *what;
     size_t status, count;
@@ -34,29 +38,41 @@ static const struct example examples[] = {
     { "in another order, the last by column or row", 0, 3, CASE_3,
       { 1, 1, 6, 2, 2, 0, 16, 3, 2, 18, 0 }, { 0, 0, 0 } },
     { "records in other places", 0, 3, CASE_3,
-      { 1, 3, 6, 2, 0, 9, 9, 9, 2, 18, 4, 0, 0, 1 }, { 77, 77, 77 } },
+      { 1, 3, 6, 2, 0, 0, 0, 0, 2, 18, 4, 0, 0, 1 }, { 0, 0, 0 } },
     { "number 32 in use", 0, 3, CASE_3,
       { 1, 32, 6, 2, 0, 0, 0, 1 }, { 2, 18, 2 } },
-    { "no repair for no disk", 0, 0, NO_DISK,
-      { 1, 0, 9, 9, 9 }, { 9, 9, 9 } },
+    { "records backwards", 0, 3, CASE_3,
+      { 1, 3, 6, 2, 0, 0, 0, 1, 2, 18, 2 }, { 0, 0, 0 } },
+    { "number 32 between others", 0, 3, CASE_3,
+      { 1, 1, 2, 18, 32, 6, 2, 0 }, { 0, 0, 2 } },
+    { "no repair for no disk", 0, 0, NO_DISK, { 1, 0 }, { 0, 0, 0 } },
     { "kind 0", 10, 0, CASE_3,
       { 0, 1, 2, 18, 2, 0, 0, 3, 6, 2, 0 }, { 0, 0, 0 } },
     { "kind 2", 10, 0, CASE_3,
       { 2, 1, 2, 18, 2, 0, 0, 3, 6, 2, 0 }, { 0, 0, 0 } },
+    { "kind 3", 10, 0, CASE_3,
+      { 3, 1, 2, 18, 2, 0, 0, 3, 6, 2, 0 }, { 0, 0, 0 } },
+    { "kind 255", 10, 0, CASE_3,
+      { 255, 1, 2, 18, 2, 0, 0, 3, 6, 2, 0 }, { 0, 0, 0 } },
     { "kind 2 for no disk", 10, 0, NO_DISK, { 2, 0 }, { 0, 0, 0 } },
+    { "kind 2 and a ring", 10, 0, CASE_3,
+      { 2, 1, 2, 18, 2, 0, 0, 3, 6, 2, 1 }, { 0, 0, 0 } },
+    { "kind 0 and number 33", 10, 0, CASE_3,
+      { 0, 1, 2, 18, 2, 0, 0, 3, 6, 2, 33 }, { 0, 0, 0 } },
     { "first number 33", 10, 0, CASE_3,
       { 1, 33, 2, 18, 2, 0, 0, 3, 6, 2, 0 }, { 0, 0, 0 } },
     { "last number 33", 10, 0, CASE_3,
       { 1, 1, 2, 18, 2, 0, 0, 3, 6, 2, 33 }, { 0, 0, 0 } },
     { "number 255", 10, 0, CASE_3,
       { 1, 1, 2, 18, 255, 0, 0, 3, 6, 2, 0 }, { 0, 0, 0 } },
-    { "a ring of three", 10, 0, CASE_3,
+    { "a ring of three", 13, 0, CASE_3,
       { 1, 1, 2, 18, 2, 0, 0, 3, 6, 2, 1 }, { 0, 0, 0 } },
-    { "a ring behind the first", 10, 0, CASE_3,
+    { "a ring behind the first", 13, 0, CASE_3,
       { 1, 1, 2, 18, 2, 0, 0, 3, 6, 2, 2 }, { 0, 0, 0 } },
-    { "a ring of one", 10, 0, CASE_3,
-      { 1, 32, 2, 18, 2, 0, 0, 3, 6, 2, 0 }, { 2, 18, 32 } },
-    { "a ring behind a step that is not allowed", 10, 0, CASE_3,
+    { "a ring of one", 13, 0, CASE_3, { 1, 32 }, { 2, 18, 32 } },
+    { "a ring for no disk", 13, 0, NO_DISK,
+      { 1, 1, 0, 0, 2, 0, 0, 1 }, { 0, 0, 0 } },
+    { "a ring behind a step that is not allowed", 13, 0, CASE_3,
       { 1, 1, 4, 1, 2, 0, 0, 1 }, { 0, 0, 0 } },
     { "another erased disk on the stripe", 11, 0, CASE_3,
       { 1, 1, 0, 0, 2, 2, 18, 3, 6, 2, 0 }, { 0, 0, 0 } },
@@ -127,7 +143,8 @@ static const struct example examples[] = {
       { 0, 0, 0 } }
 };
 
-static struct call call_of(const struct example *e)
+/* With this byte all over off the chain. */
+static struct call call_of(const struct example *e, uint8_t off_chain)
 {
     struct call c = fitting_call(FOLLOW, e->known->size);
     size_t disk;
@@ -135,18 +152,32 @@ static struct call call_of(const struct example *e)
     memcpy(c.map.bytes, e->erased, c.map.len);
     for (disk = 0; disk < c.map.len; disk++)
         c.array.bytes[disk] =
-            e->erased[disk] ? NOTHING : e->known->sealed[disk];
-    memset(c.sheet.bytes, NOTHING, c.sheet.len);
+            e->erased[disk] ? LEFTOVER : e->known->sealed[disk];
+    memset(c.sheet.bytes, 0, c.sheet.len);
     memcpy(c.sheet.bytes, e->begins, sizeof e->begins);
     memcpy(c.sheet.bytes + 95, e->record_32, sizeof e->record_32);
+    set_off_chain(c.sheet.bytes, off_chain);
     expect_as_now(&c);
     return c;
 }
 
-static void run_example(const struct example *e)
+/* Leftovers are refused, unless the chain is, which tidy refuses too. The call
+   then has the sheet after tidy. */
+static void run_leftovers(struct call *c, const struct example *e)
 {
-    struct call c = call_of(e);
+    int refused = e->status == 10 || e->status == 13;
+    struct repairs list = listed_on(c->sheet.bytes);
 
+    expect_run(c, refused ? e->status : 14, OUT_BEFORE, e->what);
+    expect_tidied(c, refused ? e->status : 0, &list, e->what);
+}
+
+static void run_example(const struct example *e, uint8_t off_chain)
+{
+    struct call c = call_of(e, off_chain);
+
+    if (off_chain != 0)
+        run_leftovers(&c, e);
     if (e->status == 0)
         memcpy(c.array.expected, e->known->sealed, c.array.len);
     expect_run(&c, e->status, e->status == 0 ? e->count : OUT_BEFORE, e->what);
@@ -161,12 +192,14 @@ static int can_contradict(const struct example *e)
 }
 
 /* A sheet that can be followed, on survivors that contradict each other. */
-static void run_contradiction(const struct example *e)
+static void run_contradiction(const struct example *e, uint8_t off_chain)
 {
-    struct call c = call_of(e);
+    struct call c = call_of(e, off_chain);
     size_t disk;
 
     c.array.bytes[4] = c.array.expected[4] = 9;
+    if (off_chain != 0)
+        run_leftovers(&c, e);
     for (disk = 0; disk < c.map.len; disk++)
         if (e->erased[disk])
             c.array.expected[disk] = 0;
@@ -176,11 +209,13 @@ static void run_contradiction(const struct example *e)
 
 void test_sheets(void)
 {
-    size_t i;
+    static const uint8_t off_chain[] = { 0, LEFTOVER };
+    size_t i, k;
 
-    for (i = 0; i < sizeof examples / sizeof examples[0]; i++) {
-        run_example(&examples[i]);
-        if (can_contradict(&examples[i]))
-            run_contradiction(&examples[i]);
-    }
+    for (i = 0; i < sizeof examples / sizeof examples[0]; i++)
+        for (k = 0; k < 2; k++) {
+            run_example(&examples[i], off_chain[k]);
+            if (can_contradict(&examples[i]))
+                run_contradiction(&examples[i], off_chain[k]);
+        }
 }

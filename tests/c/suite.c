@@ -322,9 +322,11 @@ static size_t call_library(struct call *c, size_t *out)
         return raid2d_follow(rows, columns, block, c->array.bytes,
                              c->array.len, c->map.bytes, c->map.len,
                              c->sheet.bytes, c->sheet.len, out);
-    default:
+    case SAVE:
         return raid2d_save(rows, columns, block, c->array.bytes, c->array.len,
                            c->map.bytes, c->map.len, out);
+    default:
+        return raid2d_tidy(c->sheet.bytes, c->sheet.len);
     }
 }
 
@@ -336,12 +338,12 @@ static void set_access(const struct call *c,
 
     if (!has_fence())
         return;
-    if (f == CHECK || f == LOOK || f == PLAN)
+    if (f == CHECK || f == LOOK || f == PLAN || f == TIDY)
         set(&c->array.fenced);
     if (f != REBUILD)
         set(&c->map.fenced);
     set(&c->data.fenced);
-    if (f != PLAN && f != REBUILD)
+    if (f != PLAN && f != REBUILD && f != TIDY)
         set(&c->sheet.fenced);
 }
 
@@ -359,7 +361,8 @@ size_t run(struct call *c)
 void expect_run(struct call *c, size_t result, size_t out, const char *what)
 {
     static const char *const names[] = {
-        "seal", "check", "write", "look", "plan", "rebuild", "follow", "save"
+        "seal", "check", "write", "look", "plan", "rebuild", "follow", "save",
+        "tidy"
     };
     size_t actual = run(c), actual_out;
     int bytes = lent_is_as_expected(&c->array) && lent_is_as_expected(&c->map)
@@ -449,6 +452,7 @@ int main(int argc, char **argv)
     test_turns();
     test_saves();
     test_sheets();
+    test_tidies();
     printf("%lu passed, %lu failed\n", passed, failed);
     return failed == 0 ? 0 : 1;
 }

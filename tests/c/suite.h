@@ -7,6 +7,9 @@
 
 #include "../fence.h"
 
+/* How many entries an array has. */
+#define COUNT(list) (sizeof list / sizeof list[0])
+
 /* Counts one check. Where it does not hold, the rest says what was checked. */
 void expect(int holds, const char *format, ...);
 
@@ -41,7 +44,7 @@ struct known {
    rows for columns, so that it is higher than wide. */
 extern const struct known array_a, array_wide, array_high;
 
-enum function { SEAL, CHECK, WRITE, LOOK, PLAN, REBUILD, FOLLOW, SAVE };
+enum function { SEAL, CHECK, WRITE, LOOK, PLAN, REBUILD, FOLLOW, SAVE, TIDY };
 
 /* A call: its numbers, what it is lent, and its out-parameter, a size_t that
    is lent too. Calls pass over what they have no parameter for. */
@@ -115,5 +118,6 @@ void test_losses(void);
 void test_turns(void);
 void test_saves(void);
 void test_sheets(void);
+void test_tidies(void);
 
 #endif

@@ -5,6 +5,7 @@
  */
 #include <string.h>
 
+#include "chain.h"
 #include "loss.h"
 #include "raid2d.h"
 #include "suite.h"
@@ -30,8 +31,9 @@ static void expect_repair(struct call *c, size_t disk, size_t stripe)
 
 /* One turn, which begins with this number of the list. If it makes the last
    repair and the survivors do not agree, it refuses by 7: the blocks of its
-   disks and the sheet are zero, and the map keeps its bytes. Returns the
-   number that the next turn begins with. */
+   disks and the sheet are zero, and the map keeps its bytes. To tidy changes
+   nothing: a turn's list is tidy, and zeros are none. Returns the number that
+   the next turn begins with. */
 static size_t expect_turn(struct call *c, const struct repairs *list,
                           size_t from, int agree, const char *what)
 {
@@ -44,12 +46,14 @@ static size_t expect_turn(struct call *c, const struct repairs *list,
         expect_zero_blocks(c);
         expect_kind(c, 0);
         expect_run(c, 7, OUT_BEFORE, what);
+        expect_tidy(c->sheet.bytes, 10, c->sheet.bytes, what);
         return to;
     }
     for (k = from; k < to; k++)
         expect_repair(c, list->number[k].disk, list->number[k].stripe);
     expect_list(c, list, from, to);
     expect_run(c, 0, to - from, what);
+    expect_tidy(c->sheet.bytes, 0, c->sheet.bytes, what);
     return to;
 }
 
@@ -67,11 +71,6 @@ static void expect_turns(struct call *c, size_t limit, int agree,
 }
 
 /* ---- Losses in turns ---- */
-
-static void lose_nothing(struct call *c)
-{
-    (void)c;
-}
 
 /* The array is then what it was before the loss, and one more turn finds
    nothing to do. */

@@ -79,6 +79,8 @@ static size_t limit_of(uint8_t code)
 
 static enum call call_of(uint8_t flags)
 {
+    if (flags & FLAG_TIDY)
+        return TIDY;
     if (flags & FLAG_SAVE)
         return SAVE;
     if (flags & FLAG_REBUILD)

@@ -1,11 +1,12 @@
 /*
- * An input of the fuzzer: a call of raid2d_plan, raid2d_follow or raid2d_save,
- * or turns of raid2d_rebuild, in a few hundred bytes.
+ * An input of the fuzzer: a call of raid2d_plan, raid2d_follow, raid2d_save or
+ * raid2d_tidy, or turns of raid2d_rebuild, in a few hundred bytes.
  *
  *   byte 0       bit 0: follow, else plan. Bit 1: what is lent begins right
  *                behind a page without access, else it ends right before one.
  *                Bit 2: NULL is passed for what is empty. Bit 3: rebuild,
- *                whatever bit 0 is. Bit 5: save, whatever these are.
+ *                whatever bit 0 is. Bit 5: save, whatever these are. Bit 6:
+ *                tidy, whatever all these are.
  *   bytes 1..3   rows, columns and block: small numbers as they are, others
  *                by a table
  *   bytes 4..6   how much longer the array, the map and the sheet are than
@@ -13,9 +14,9 @@
  *   byte 7       what the array holds: one of enum contents
  *   byte 8       the disk that is damaged
  *   bytes 9..12  the seed of all arbitrary bytes
- *   98 bytes     the sheet that follow reads. Rebuild reads none: the first of
- *                them is its limit, small numbers as they are, others by a
- *                table
+ *   98 bytes     the sheet that follow reads or tidy rewrites. Rebuild reads
+ *                none: the first of them is its limit, small numbers as they
+ *                are, others by a table
  *   the rest     the map
  *
  * Bytes that are missing are zero, so every byte string is an input.
@@ -50,10 +51,11 @@ enum {
     FLAG_BEHIND = 2,
     FLAG_NULL = 4,
     FLAG_REBUILD = 8,
-    FLAG_SAVE = 32
+    FLAG_SAVE = 32,
+    FLAG_TIDY = 64
 };
 
-enum call { PLAN, FOLLOW, REBUILD, SAVE };
+enum call { PLAN, FOLLOW, REBUILD, SAVE, TIDY };
 
 /* The array is sealed; or one byte of one disk is changed; or two disks of a
    row, of a column, or four in the corners of a rectangle are changed by the

@@ -1,6 +1,6 @@
 /*
- * The model: what plan, follow, rebuild and save must answer. Written from the
- * order's words, and from nothing of the library.
+ * The model: what plan, follow, rebuild, save and tidy must answer. Written
+ * from the order's words, and from nothing of the library.
  */
 #include <string.h>
 
@@ -18,7 +18,9 @@ enum {
     CONTRADICTION = 7,
     BROKEN_CHAIN = 10,
     NOT_ALLOWED = 11,
-    WRONG_LIMIT = 12
+    WRONG_LIMIT = 12,
+    REACHED_TWICE = 13,
+    LEFTOVERS = 14
 };
 
 /* ---- the grid */
@@ -266,21 +268,32 @@ static int next_repair(struct grid g, const uint8_t *work,
     return 0;
 }
 
+/* A list of repairs without records. */
+static void begin_list(uint8_t *sheet)
+{
+    memset(sheet, 0, SHEET_BYTES);
+    sheet[0] = 1;
+}
+
+/* Its record k, behind those before it. */
+static void add_record(uint8_t *sheet, size_t k, size_t disk, size_t stripe)
+{
+    if (k == 1)
+        sheet[1] = 1;
+    else
+        sheet[record_at(k - 1) + 2] = (uint8_t)k;
+    sheet[record_at(k)] = (uint8_t)disk;
+    sheet[record_at(k) + 1] = (uint8_t)stripe;
+}
+
 size_t plan_repairs(struct grid g, uint8_t *work, uint8_t *sheet)
 {
     size_t disk, stripe, count = 0;
 
-    memset(sheet, 0, SHEET_BYTES);
-    sheet[0] = 1;
+    begin_list(sheet);
     while (next_repair(g, work, &disk, &stripe)) {
         work[disk] = 0;
-        count++;
-        if (count == 1)
-            sheet[1] = 1;
-        else
-            sheet[record_at(count - 1) + 2] = (uint8_t)count;
-        sheet[record_at(count)] = (uint8_t)disk;
-        sheet[record_at(count) + 1] = (uint8_t)stripe;
+        add_record(sheet, ++count, disk, stripe);
     }
     return count;
 }
@@ -405,7 +418,7 @@ const char *judge_plan(const struct planned *p)
     return judge_outcome(p);
 }
 
-/* ---- follow, rebuild and save */
+/* ---- follow, rebuild, save and tidy */
 
 /* The refusals with which all begin. */
 static uint32_t refusal(struct grid g, size_t block, size_t array_len,
@@ -441,15 +454,33 @@ int read_chain(const uint8_t *sheet, uint8_t order[RECORDS])
     int count = 0;
 
     if (sheet[0] != 1)
-        return -1;
+        return -BROKEN_CHAIN;
     while (number != 0) {
-        if (number > RECORDS || visited[number])
-            return -1;
+        if (number > RECORDS)
+            return -BROKEN_CHAIN;
+        if (visited[number])
+            return -REACHED_TWICE;
         visited[number] = 1;
         order[count++] = (uint8_t)number;
         number = sheet[record_at(number) + 2];
     }
     return count;
+}
+
+/* A byte is not zero in a record that is not one of these. */
+static int has_leftovers(const uint8_t *sheet, const uint8_t *order, int count)
+{
+    uint8_t rest[SHEET_BYTES];
+    size_t at;
+    int i;
+
+    memcpy(rest, sheet, SHEET_BYTES);
+    for (i = 0; i < count; i++)
+        memset(rest + record_at(order[i]), 0, 3);
+    for (at = record_at(1); at < SHEET_BYTES; at++)
+        if (rest[at] != 0)
+            return 1;
+    return 0;
 }
 
 /* Each step is an allowed repair at its turn, and no disk remains erased. */
@@ -543,7 +574,9 @@ uint32_t model_follow(struct grid g, size_t block,
         return status;
     steps = read_chain(sheet, order);
     if (steps < 0)
-        return BROKEN_CHAIN;
+        return (uint32_t)-steps;
+    if (has_leftovers(sheet, order, steps))
+        return LEFTOVERS;
     if (!steps_allowed(g, map, sheet, order, steps))
         return NOT_ALLOWED;
     for (i = 0; i < steps; i++)
@@ -553,6 +586,26 @@ uint32_t model_follow(struct grid g, size_t block,
         return CONTRADICTION;
     }
     *count = (size_t)steps;
+    return DONE;
+}
+
+uint32_t model_tidy(uint8_t *sheet, size_t sheet_len)
+{
+    uint8_t order[RECORDS], old[SHEET_BYTES];
+    int records, i;
+
+    if (sheet_len != SHEET_BYTES)
+        return WRONG_SHEET;
+    records = read_chain(sheet, order);
+    if (records < 0)
+        return (uint32_t)-records;
+    memcpy(old, sheet, SHEET_BYTES);
+    begin_list(sheet);
+    for (i = 0; i < records; i++) {
+        const uint8_t *record = old + record_at(order[i]);
+
+        add_record(sheet, (size_t)i + 1, record[0], record[1]);
+    }
     return DONE;
 }
 

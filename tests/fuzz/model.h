@@ -1,7 +1,7 @@
 /*
- * What plan, follow, rebuild and save must answer, in plain C, written from the
- * order alone: its rules, its numbers and its formats. Only the words are those of
- * include/raid2d.h. It goes disk by disk and byte by byte.
+ * What plan, follow, rebuild, save and tidy must answer, in plain C, written
+ * from the order alone: its rules, its numbers and its formats. Only the words
+ * are those of include/raid2d.h. It goes disk by disk and byte by byte.
  */
 #ifndef MODEL_H
 #define MODEL_H
@@ -63,8 +63,8 @@ size_t find_lost(struct grid g, const uint8_t *map, uint8_t *is_lost);
 
 /*
  * The chain of a sheet from elsewhere: its record numbers in order, and how
- * many. -1 if the kind is not 1, a number exceeds 32 or a record is reached
- * twice.
+ * many. A chain that is refused gives the refusal's number below 0: -10 if the
+ * kind is not 1 or a number exceeds 32, -13 if a record is reached twice.
  */
 int read_chain(const uint8_t *sheet, uint8_t order[RECORDS]);
 
@@ -94,6 +94,9 @@ uint32_t model_rebuild(struct grid g, size_t block,
                        uint8_t *map, size_t map_len,
                        uint8_t *sheet, size_t sheet_len,
                        size_t limit, size_t *count);
+
+/* What raid2d_tidy must do, with its parameters. */
+uint32_t model_tidy(uint8_t *sheet, size_t sheet_len);
 
 /* What raid2d_save must do, with its parameters. */
 uint32_t model_save(struct grid g, size_t block,

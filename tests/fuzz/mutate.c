@@ -221,28 +221,54 @@ static int draw_repair(struct draft *d, const uint8_t *work, uint8_t record[2])
     return 0;
 }
 
+/* Puts a record at this place, and its number where the link is. Returns the
+   link to the record behind it. */
+static uint8_t *put_record(struct draft *d, uint8_t *link, uint8_t place,
+                           const uint8_t repair[2])
+{
+    uint8_t *record = d->sheet + record_at(place);
+
+    memcpy(record, repair, 2);
+    *link = place;
+    return record + 2;
+}
+
+static void clear_sheet(struct draft *d)
+{
+    memset(d->sheet, 0, SHEET_BYTES);
+    d->sheet[0] = 1;
+}
+
 /* A sheet of repairs in an arbitrary allowed order and at arbitrary places. */
 static void draw_sheet(struct draft *d)
 {
-    uint8_t work[DISKS_MAX], place[RECORDS];
+    uint8_t work[DISKS_MAX], place[RECORDS], repair[2];
     uint8_t *link = d->sheet + 1;
     size_t k;
 
     memcpy(work, d->map, d->disks);
-    memset(d->sheet, 0, SHEET_BYTES);
-    d->sheet[0] = 1;
+    clear_sheet(d);
     draw_places(d, place);
-    for (k = 0; k < RECORDS; k++) {
-        uint8_t *record = d->sheet + record_at(place[k]);
+    for (k = 0; k < RECORDS && draw_repair(d, work, repair); k++) {
+        work[repair[0]] = 0;
+        link = put_record(d, link, place[k], repair);
+    }
+}
 
-        if (!draw_repair(d, work, record)) {
-            record[0] = 0;
-            record[1] = 0;
-            break;
-        }
-        work[record[0]] = 0;
-        *link = place[k];
-        link = record + 2;
+/* A sheet of any disks and stripes at arbitrary places, some or as many as
+   there are. */
+static void draw_list(struct draft *d)
+{
+    size_t count = one_in(d, 4) ? RECORDS : draw(&d->random, RECORDS), k;
+    uint8_t place[RECORDS], repair[2];
+    uint8_t *link = d->sheet + 1;
+
+    clear_sheet(d);
+    draw_places(d, place);
+    for (k = 0; k < count; k++) {
+        repair[0] = (uint8_t)draw(&d->random, 256);
+        repair[1] = (uint8_t)draw(&d->random, 256);
+        link = put_record(d, link, place[k], repair);
     }
 }
 
@@ -279,7 +305,8 @@ static uint8_t *some_record(struct draft *d)
     return d->sheet + record_at(k);
 }
 
-/* The same chain at other places. */
+/* The same chain at other places. What stood off the chain or was moved stays
+   there, or all that is zero. */
 static void move_records(struct draft *d)
 {
     uint8_t order[RECORDS], place[RECORDS], old[SHEET_BYTES];
@@ -287,14 +314,11 @@ static void move_records(struct draft *d)
     size_t count = walk(d, order), i;
 
     memcpy(old, d->sheet, SHEET_BYTES);
+    if (one_in(d, 2))
+        memset(d->sheet + record_at(1), 0, SHEET_BYTES - record_at(1));
     draw_places(d, place);
-    for (i = 0; i < count; i++) {
-        uint8_t *record = d->sheet + record_at(place[i]);
-
-        memcpy(record, old + record_at(order[i]), 2);
-        *link = place[i];
-        link = record + 2;
-    }
+    for (i = 0; i < count; i++)
+        link = put_record(d, link, place[i], old + record_at(order[i]));
     *link = 0;
 }
 
@@ -335,8 +359,9 @@ static void swap_records(struct draft *d)
     memcpy(two, kept, 2);
 }
 
-/* Arbitrary bytes in all records that the chain does not visit. */
-static void fill_off_chain(struct draft *d)
+/* Bytes below this bound, which are zeros for 1, in all records that the chain
+   does not visit. */
+static void fill_off_chain(struct draft *d, uint32_t bound)
 {
     uint8_t order[RECORDS], visited[RECORDS + 1] = {0};
     size_t count = walk(d, order), i, k;
@@ -345,7 +370,20 @@ static void fill_off_chain(struct draft *d)
         visited[order[i]] = 1;
     for (k = 1; k <= RECORDS; k++)
         for (i = 0; i < 3 && !visited[k]; i++)
-            d->sheet[record_at(k) + i] = (uint8_t)draw(&d->random, 256);
+            d->sheet[record_at(k) + i] = (uint8_t)draw(&d->random, bound);
+}
+
+/* One byte in a record that the chain does not visit, and zeros in the others;
+   or zeros only, where the record is visited. */
+static void leave_one(struct draft *d)
+{
+    size_t k = one_in(d, 4) ? RECORDS : 1 + draw(&d->random, RECORDS);
+    size_t at = record_at(k) + draw(&d->random, 3);
+    uint8_t order[RECORDS];
+
+    fill_off_chain(d, 1);
+    if (memchr(order, (int)k, walk(d, order)) == NULL)
+        d->sheet[at] = (uint8_t)(1 + draw(&d->random, 255));
 }
 
 /* One more record at the chain's end: any disk of the grid. */
@@ -364,7 +402,18 @@ static void lengthen(struct draft *d)
     d->sheet[record_at(next) + 2] = 0;
 }
 
-static void change_sheet(struct draft *d)
+/* The last record leads back to one of the chain. */
+static void close_ring(struct draft *d)
+{
+    uint8_t order[RECORDS];
+    size_t count = walk(d, order);
+
+    if (count > 0)
+        d->sheet[record_at(order[count - 1]) + 2] =
+            order[draw(&d->random, (uint32_t)count)];
+}
+
+static void change_chain(struct draft *d)
 {
     switch (draw(&d->random, 12)) {
     case 0:
@@ -392,14 +441,33 @@ static void change_sheet(struct draft *d)
         some_record(d)[2] = 0;
         break;
     case 8:
-        fill_off_chain(d);
+        lengthen(d);
         break;
     case 9:
-        lengthen(d);
+        close_ring(d);
         break;
     default:
         move_records(d);
     }
+}
+
+static void change_off_chain(struct draft *d)
+{
+    if (one_in(d, 3))
+        fill_off_chain(d, 256);
+    else
+        leave_one(d);
+}
+
+/* Mostly another chain. Off the chain zeros, or what is there, or leftovers. */
+static void change_sheet(struct draft *d)
+{
+    if (!one_in(d, 4))
+        change_chain(d);
+    if (one_in(d, 2))
+        fill_off_chain(d, 1);
+    else if (one_in(d, 2))
+        change_off_chain(d);
 }
 
 /* ---- turns */
@@ -422,14 +490,20 @@ static uint8_t draw_limit(struct draft *d)
     }
 }
 
+static int is_tidy(const struct draft *d)
+{
+    return (d->bytes[AT_FLAGS] & FLAG_TIDY) != 0;
+}
+
 static int is_save(const struct draft *d)
 {
-    return (d->bytes[AT_FLAGS] & FLAG_SAVE) != 0;
+    return !is_tidy(d) && (d->bytes[AT_FLAGS] & FLAG_SAVE) != 0;
 }
 
 static int is_rebuild(const struct draft *d)
 {
-    return !is_save(d) && (d->bytes[AT_FLAGS] & FLAG_REBUILD) != 0;
+    return !is_tidy(d) && !is_save(d) &&
+           (d->bytes[AT_FLAGS] & FLAG_REBUILD) != 0;
 }
 
 /* What a call needs beside the loss: rebuild a limit, others plan's sheet. Save
@@ -440,6 +514,15 @@ static void fit_to_loss(struct draft *d)
         d->bytes[AT_LIMIT] = draw_limit(d);
     else
         plan_sheet(d);
+}
+
+/* To tidy any list is as good as one of allowed repairs. */
+static void draw_any_sheet(struct draft *d)
+{
+    if (one_in(d, is_tidy(d) ? 2 : 8))
+        draw_list(d);
+    else
+        draw_sheet(d);
 }
 
 static void change_survivors(struct draft *d)
@@ -481,12 +564,25 @@ static uint8_t draw_length(struct draft *d)
                                   : draw(&d->random, 256));
 }
 
+/* Follow mostly, or another call; what is lent on either side of a page. */
+static uint8_t draw_flags(struct draft *d)
+{
+    static const uint8_t others[] = {FLAG_REBUILD, FLAG_SAVE, FLAG_TIDY};
+    uint8_t flags = (uint8_t)draw(&d->random, 4) | !one_in(d, 4);
+
+    if (one_in(d, 2))
+        flags |= others[draw(&d->random, sizeof others)];
+    return flags;
+}
+
 static void change_head(struct draft *d)
 {
     size_t at = draw(&d->random, AT_SHEET);
 
     if (at >= AT_ARRAY_LEN && at <= AT_SHEET_LEN)
         d->bytes[at] = draw_length(d);
+    else if (at == AT_FLAGS && !one_in(d, 4))
+        d->bytes[at] = draw_flags(d);
     else if ((at == AT_ROWS || at == AT_COLUMNS) && !one_in(d, 4))
         d->bytes[at] = (uint8_t)draw(&d->random, SIDE_CODES + 1);
     else if (at == AT_BLOCK && !one_in(d, 4))
@@ -520,9 +616,7 @@ static void draw_input(struct draft *d)
     size_t i;
 
     memset(d->bytes, 0, AT_MAP);
-    d->bytes[AT_FLAGS] = (uint8_t)draw(&d->random, 4) | !one_in(d, 4);
-    if (one_in(d, 2))
-        d->bytes[AT_FLAGS] |= one_in(d, 2) ? FLAG_REBUILD : FLAG_SAVE;
+    d->bytes[AT_FLAGS] = draw_flags(d);
     d->bytes[AT_ROWS] = draw_side(d);
     d->bytes[AT_COLUMNS] = draw_side(d);
     d->bytes[AT_BLOCK] = (uint8_t)(1 + draw(&d->random, one_in(d, 2) ? 4 : 40));
@@ -532,7 +626,7 @@ static void draw_input(struct draft *d)
     read_grid(d);
     draw_loss(d);
     if (!is_rebuild(d) && one_in(d, 2))
-        draw_sheet(d);
+        draw_any_sheet(d);
     else
         fit_to_loss(d);
 }
@@ -562,7 +656,7 @@ static void change(struct draft *d)
         fit_to_loss(d);
         break;
     case 3:
-        draw_sheet(d);
+        draw_any_sheet(d);
         break;
     case 4:
     case 5:

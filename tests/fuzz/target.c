@@ -145,6 +145,22 @@ static const char *try_save(const struct input *in)
     return judge_array(in, call_save(in), status, expected);
 }
 
+/* What is wrong with tidy. */
+static const char *try_tidy(const struct input *in)
+{
+    uint32_t status;
+
+    lend_all(in);
+    lend(&array, 0, in->behind);
+    memcpy(model_sheet, in->sheet, in->sheet_len);
+    status = model_tidy(model_sheet, in->sheet_len);
+    if (raid2d_tidy(passed(in, &sheet), in->sheet_len) != status)
+        return "tidy's status is another one";
+    if (memcmp(sheet.bytes, model_sheet, in->sheet_len) != 0)
+        return "tidy leaves another sheet";
+    return NULL;
+}
+
 static uint32_t call_plan(const struct input *in)
 {
     uint32_t status;
@@ -259,6 +275,8 @@ static const char *try_rebuild(const struct input *in)
 static const char *try_call(const struct input *in)
 {
     switch (in->call) {
+    case TIDY:
+        return try_tidy(in);
     case SAVE:
         return try_save(in);
     case REBUILD:

@@ -1,21 +1,28 @@
 /*
  * A stand-in for the archive that is wrong on purpose: the model's plan, follow
  * and rebuild, with the one fault that the environment variable WRONG names, or
- * none. tests/fuzz/wrong sees that the fuzzer finds each. It takes the faults'
- * names from the calls of `wrong` below and in wrong_save.c.
+ * none. wrong_save.c has save, ../wrong_tidy.c tidy and what follow makes of a
+ * sheet. tests/fuzz/wrong sees that the fuzzer finds each fault. It takes their
+ * names from the calls of `wrong` below and in these two files.
  */
 #include <stdlib.h>
 #include <string.h>
 
+#include "../wrong_tidy.h"
 #include "model.h"
 #include "raid2d.h"
 #include "wrong.h"
 
+/* Asked so often that the environment is looked at only once. */
 int wrong(const char *name)
 {
-    const char *wanted = getenv("WRONG");
+    static const char *wanted;
 
-    return wanted != NULL && strcmp(wanted, name) == 0;
+    if (wanted == NULL)
+        wanted = getenv("WRONG");
+    if (wanted == NULL)
+        wanted = "";
+    return strcmp(wanted, name) == 0;
 }
 
 /* ---- sizes */
@@ -74,20 +81,9 @@ static struct grid grid_to_plan_in(struct grid g)
 
 /* ---- follow: faults in what the model is given, and in what it left */
 
-/* Every link with this number becomes 0, the end of a chain. */
-static void end_chain_at(uint8_t *sheet, size_t number)
-{
-    size_t k;
-
-    if (sheet[1] == number)
-        sheet[1] = 0;
-    for (k = 1; k <= RECORDS; k++)
-        if (sheet[record_at(k) + 2] == number)
-            sheet[record_at(k) + 2] = 0;
-}
-
-/* A chain that comes back to a record ends there. */
-static void cut_ring(uint8_t *sheet)
+/* The last number of a chain: 0, one that no record has, or that of a record
+   which it comes back to. */
+static uint8_t *last_link(uint8_t *sheet)
 {
     uint8_t visited[RECORDS + 1] = {0};
     uint8_t *link = sheet + 1;
@@ -96,8 +92,33 @@ static void cut_ring(uint8_t *sheet)
         visited[*link] = 1;
         link = sheet + record_at(*link) + 2;
     }
+    return link;
+}
+
+/* A chain that ends with this number ends as it should. */
+static void end_chain_at(uint8_t *sheet, size_t number)
+{
+    uint8_t *link = last_link(sheet);
+
+    if (*link == number)
+        *link = 0;
+}
+
+/* A chain that comes back to a record ends there. */
+static void cut_ring(uint8_t *sheet)
+{
+    uint8_t *link = last_link(sheet);
+
     if (*link <= RECORDS)
         *link = 0;
+}
+
+static int visits_record_32(const uint8_t *sheet)
+{
+    uint8_t order[RECORDS];
+    int count = read_chain(sheet, order);
+
+    return count > 0 && memchr(order, 32, (size_t)count) != NULL;
 }
 
 /* Takes the disks off the map that no record of the chain has. */
@@ -156,7 +177,7 @@ static void spoil_given(struct grid g, uint8_t *map, uint8_t *sheet)
         sheet[0] = 1;
     if (wrong("judges records off the chain") && off_chain_too_high(sheet))
         sheet[0] = 0;
-    if (wrong("cannot use record 32"))
+    if (wrong("cannot use record 32") && visits_record_32(sheet))
         sheet[record_at(32) + 2] = 33;
 }
 
@@ -264,6 +285,23 @@ static uint32_t spoil_left(uint32_t status, struct grid g, size_t block,
     return status;
 }
 
+/* What ../wrong_tidy.c stands before. */
+uint32_t right_follow(size_t rows, size_t columns, size_t block,
+                      uint8_t *array, size_t array_len,
+                      const uint8_t *map, size_t map_len,
+                      const uint8_t *sheet, size_t sheet_len, size_t *count)
+{
+    struct grid g = {rows, columns};
+
+    return model_follow(g, block, array, array_len, map, map_len, sheet,
+                        sheet_len, count);
+}
+
+uint32_t right_tidy(uint8_t *sheet, size_t sheet_len)
+{
+    return model_tidy(sheet, sheet_len);
+}
+
 /* The model on copies that it may be given with faults. */
 static uint32_t follow_with_fault(struct grid g, size_t block,
                                   uint8_t *array, size_t array_len,
@@ -282,12 +320,14 @@ static uint32_t follow_with_fault(struct grid g, size_t block,
         !may_repair(g, map, sheet[record_at(sheet[1])],
                     sheet[record_at(sheet[1]) + 1]))
         return 11;
-    status = model_follow(g, block, array, array_len, own_map, map_len,
-                          own_sheet, SHEET_BYTES, count);
+    status = follow_wrongly(g.rows, g.columns, block, array, array_len,
+                            own_map, map_len, own_sheet, SHEET_BYTES, count);
     if (wrong("sums a column's first columns + 1 disks") && status == 0)
         sum_short_columns(g, block, array, sheet);
     if (status == 11 && steps_allowed_unseen(g, own_map, own_sheet))
         return 0;
+    if (wrong("reads a byte behind follow's sheet"))
+        (void)*(const volatile uint8_t *)(sheet + SHEET_BYTES);
     if (wrong("leaves the first block with 7") && status == 7)
         array[0] = first;
     if (wrong("zeroes an erased block with 11") && status == 11 && map[0] == 1)
@@ -317,6 +357,21 @@ uint32_t raid2d_follow(size_t rows, size_t columns, size_t block,
                             sheet, sheet_len, count);
     return follow_with_fault(g, block, array, array_len, map, map_len, sheet,
                              count);
+}
+
+/* ---- tidy */
+
+uint32_t raid2d_tidy(uint8_t *sheet, size_t sheet_len)
+{
+    uint32_t status = tidy_wrongly(sheet, sheet_len);
+
+    if (wrong("tidy reads a byte behind the sheet") && status == 0)
+        (void)*(volatile uint8_t *)(sheet + sheet_len);
+    if (wrong("tidy reads a byte before the sheet") && status == 0)
+        (void)*(volatile uint8_t *)(sheet - 1);
+    if (wrong("tidy writes a byte behind the sheet") && status == 0)
+        sheet[sheet_len] ^= 1;
+    return status;
 }
 
 /* ---- plan */
