@@ -50,20 +50,30 @@ int warn(ratio_table ratios)
     return warnings;
 }
 
+static void print_titled(const char *title, const char *what, double ratio)
+{
+    printf("%-28s %-28s %6.2f\n", title, what, ratio);
+}
+
 void print_ratio(struct size size, const char *what, double ratio)
 {
     char title[TITLE_MAX];
     put_title(title, &calls[REBUILD], size);
-    printf("%-28s %-28s %6.2f\n", title, what, ratio);
+    print_titled(title, what, ratio);
+}
+
+int judge_titled(const char *title, const char *what, double ratio, double most)
+{
+    print_titled(title, what, ratio);
+    if (ratio <= most)
+        return 0;
+    printf("WARNING: %s: %s is %.3f; the limit is %.2f\n", title, what, ratio, most);
+    return 1;
 }
 
 int judge(struct size size, const char *what, double ratio, double most)
 {
     char title[TITLE_MAX];
-    print_ratio(size, what, ratio);
-    if (ratio <= most)
-        return 0;
     put_title(title, &calls[REBUILD], size);
-    printf("WARNING: %s: %s is %.3f; the limit is %.2f\n", title, what, ratio, most);
-    return 1;
+    return judge_titled(title, what, ratio, most);
 }

@@ -16,4 +16,7 @@ void print_ratio(struct size size, const char *what, double ratio);
 /* The same, and warns where it is above a limit: 1 then, else 0. */
 int judge(struct size size, const char *what, double ratio, double most);
 
+/* The same of other work, with the words that the line begins with. */
+int judge_titled(const char *title, const char *what, double ratio, double most);
+
 #endif

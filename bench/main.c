@@ -6,6 +6,7 @@
 #include "repairs.h"
 #include "saved.h"
 #include "speed.h"
+#include "tidied.h"
 #include "timing.h"
 #include "turns.h"
 
@@ -57,7 +58,7 @@ int main(void)
     static ratio_table ratios;
     struct input input;
     int warnings;
-    if (!peers_agree() || !follow_agrees() || !turns_agree() || !save_agrees()) {
+    if (!peers_agree() || !follow_agrees() || !tidy_agrees() || !turns_agree() || !save_agrees()) {
         puts("Nothing is timed.");
         return 1;
     }
@@ -69,6 +70,8 @@ int main(void)
     warnings = compare_places(&input);
     puts("");
     warnings += compare_follow(&input);
+    puts("");
+    warnings += compare_tidy(&input);
     puts("");
     warnings += compare_turns(&input);
     puts("");

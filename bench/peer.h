@@ -18,6 +18,7 @@ typedef uint32_t plan_call(size_t rows, size_t columns, const uint8_t *map, size
                            size_t sheet_len, size_t *count);
 typedef uint32_t rebuild_call(size_t rows, size_t columns, size_t block, uint8_t *array, size_t array_len, uint8_t *map,
                               size_t map_len, uint8_t *sheet, size_t sheet_len, size_t limit, size_t *count);
+typedef uint32_t tidy_call(uint8_t *sheet, size_t sheet_len);
 
 struct peer {
     const char *name;
@@ -40,6 +41,9 @@ extern const struct peer peers[PEERS];
 
 /* The tuned peer also plans for those that only differ in how they sum. */
 plan_call tuned_plan;
+
+/* Of tidy there are plain loops only. */
+tidy_call plain_tidy;
 
 /* What the calls return besides 0, and the stripe of column 0, in the numbers of the C interface. */
 enum { SEALED = 0, FATAL = 6, CONTRADICTORY = 7, NOT_SEALED = 64, FIRST_COLUMN = 16 };

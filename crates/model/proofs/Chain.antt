@@ -161,7 +161,7 @@ module _ (f : Format) (s : List ℕ) where
 
   first-on-chain : (i : ℕ) → i < 2 → onChain f s i ≡ true
   unfolding onChain
-  first-on-chain i l = rw (lt-ltb i 2 l)
+  first-on-chain i l = ap (λ (b : Bool). b || among (recordNumber f i) (chainNumbers f s)) (lt-ltb i 2 l)
 
   -- ---- the tests
 

@@ -85,13 +85,13 @@ module _ (f : Format) (kind : f .repairKind < 256) (numbers : f .records < 256) 
         stripe = λ i l. entries-small s (small s bytes) (chainNumbers f s) i l .1;
       }
 
-  -- A list of repairs that the library writes is tidy.
-  pub written-tidy : (w : List Entry) → Fitting f w → Tidy f (sheetOf f (f .repairKind) w)
+  -- A list of repairs that the library writes is tidy, and 10, 13 and 14 let it through.
+  pub written-tidy : (w : List Entry) → Fitting f w → Tidy f (sheetOf f (f .repairKind) w) × (cleanRefusal f (sheetOf f (f .repairKind) w) ≡ 0)
   unfolding tidyForm
   written-tidy w fits =
       let s : List ℕ = sheetOf f (f .repairKind) w in
       let (clean, lists) = written-chain f w kind fits in
-      (tidy-takes f s .1 (sheet-length f (f .repairKind) w, clean-exact f s .0 clean .0), ap (sheetOf f (f .repairKind)) lists)
+      ((tidy-takes f s .1 (sheet-length f (f .repairKind) w, clean-exact f s .0 clean .0), ap (sheetOf f (f .repairKind)) lists), clean)
 
   -- ---- a sheet that is taken
   module _ (s : List ℕ) (bytes : Bytes s) (taken : tidyStatus f s ≡ 0) where
@@ -101,9 +101,9 @@ module _ (f : Format) (kind : f .repairKind < 256) (numbers : f .records < 256) 
     tidy-demand =
         let w : List Entry = chainEntries f s in
         let fits = chain-fitting s bytes (tidy-takes f s .0 taken .1) in
-        let (clean, lists) = written-chain f w kind fits in
+        let (tidy, clean) = written-tidy w fits in
         rw (tidy-taken f s taken)
-        (record { form = sheet-bytes f (f .repairKind) w kind fits; lists = lists; tidy = written-tidy w fits; clean = clean })
+        (record { form = sheet-bytes f (f .repairKind) w kind fits; lists = written-chain f w kind fits .1; tidy = tidy; clean = clean })
 
   -- Two sheets that are taken have the same tidy form exactly if they list the same disks and stripes in the same order.
   pub same-form : (s t : List ℕ) → Bytes s → Bytes t → tidyStatus f s ≡ 0 → tidyStatus f t ≡ 0
@@ -134,9 +134,9 @@ module _ (f : Format) (kind : f .repairKind < 256) (numbers : f .records < 256) 
 
 -- ---- the library's own sheets
 
--- Where plan does not call a loss fatal, its sheet is tidy,
+-- Where plan does not call a loss fatal, its sheet is tidy, and 10, 13 and 14 let it through,
 pub plan-tidy : (z : Size) (m s : List ℕ) → refusal (planTests z m (length s)) ≡ 0 → fatal (sheetLayout z) (erasures m) ≡ false
-    → Tidy narrow (planSheet z m s)
+    → Tidy narrow (planSheet z m s) × (cleanRefusal narrow (planSheet z m s) ≡ 0)
 unfolding planSheet lossSheet planTests
 plan-tidy z m s ok fine =
     let size = passed 1 (sizeFits z) _ (omega arith) ok .0 in
@@ -146,7 +146,7 @@ plan-tidy z m s ok fine =
 
 -- and so is that of every turn that rebuild does not refuse.
 pub turn-tidy : (z : Size) (B : ℕ) (a m s : List ℕ) (k : ℕ) → outcomeStatus (rebuildTurn z B a m s k .answer) ≡ 0
-    → Tidy narrow (rebuildTurn z B a m s k .sheet)
+    → Tidy narrow (rebuildTurn z B a m s k .sheet) × (cleanRefusal narrow (rebuildTurn z B a m s k .sheet) ≡ 0)
 unfolding rebuildTurn turnOf repairsMade turnRepairs lossTold lossOutcome contradiction outcomeStatus
 turn-tidy z B a m s k =
     go (eqb (rebuildRefusal z B a m s k) 0) refl (fatal (sheetLayout z) (erasures m)) refl
@@ -154,7 +154,8 @@ turn-tidy z B a m s k =
   where
     go : (p : Bool) → eqb (rebuildRefusal z B a m s k) 0 ≡ p → (q : Bool) → fatal (sheetLayout z) (erasures m) ≡ q
         → (r : Bool) → contradicts (sheetLayout z) (whole B) a m (turnRepairs (sheetLayout z) k m) ≡ r
-        → outcomeStatus (rebuildTurn z B a m s k .answer) ≡ 0 → Tidy narrow (rebuildTurn z B a m s k .sheet)
+        → outcomeStatus (rebuildTurn z B a m s k .answer) ≡ 0
+        → Tidy narrow (rebuildTurn z B a m s k .sheet) × (cleanRefusal narrow (rebuildTurn z B a m s k .sheet) ≡ 0)
     go false refused q e r i = rw refused (λ none. absurd (eqb-false (rebuildRefusal z B a m s k) 0 refused none))
     go true passed true lossy r i = rw (passed, lossy) (λ none. absurd (omega arith))
     go true passed false fine true contradicted = rw (passed, fine, contradicted) (λ none. absurd (omega arith))

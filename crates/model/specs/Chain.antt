@@ -62,7 +62,8 @@ chainTests f s = 10 unless numbersFit f s ∷ 13 unless different (chainNumbers 
 unfoldable pub chainRefusal : Format → List ℕ → ℕ
 chainRefusal f s = refusal (chainTests f s)
 
--- The number of the record that byte i belongs to. The kind and the number of the first record, bytes 0 and 1, belong to none.
+-- The number of the record that byte i belongs to, if it stands behind the kind and the number of the first record, which belong to
+-- none.
 abbrev pub recordNumber : Format → ℕ → ℕ
 recordNumber f i = suc ((i - 2) / recordBytes f)
 

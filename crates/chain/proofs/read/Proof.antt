@@ -59,7 +59,10 @@ put-requires c κs =
 slice-write-marks : tie.Need-slice-write-marks Inv-loop μ-loop
 slice-write-marks c =
     let a = c .before .before .before .before .before in
-    listed-place (a .before .before .before .before .loop .inv .0) _ _ _ (answered-record a)
+    let l = a .before .before .before .before .loop .inv .0 in
+    let places = l .places in
+    let place = listed-place l _ _ _ (answered-record a) in
+    omega arith
 
 add-k : tie.Need-add-k Inv-loop μ-loop
 add-k c = search needs

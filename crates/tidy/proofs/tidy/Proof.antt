@@ -35,7 +35,8 @@ write-requires c κs =
     let sheet = tests .before .before .args .sheet .now in
     let bytes : Bytes sheet = λ i l. omega (arith, tests .before .slice-known .given i) in
     let few = small sheet (tests .if1 .left) _ (read .ensures .0) _ (read .ensures .1 .0) _ (chain .chain .given .1) bytes in
-    (tests .if1 .left, (few .few, (let most = few .few in omega arith, few .stripe)))
+    let most = few .few in
+    (tests .if1 .left, (omega arith, (omega arith, λ i l. few .stripe i (omega arith))))
 
 enum-known-chain-2 : tie.Need-enum-known-chain-2
 enum-known-chain-2 c = search needs
