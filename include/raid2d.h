@@ -255,7 +255,7 @@ static inline const char *raid2d_strerror(uint32_t status)
     case RAID2D_ERR_CHAIN:
         return "the sheet's kind is not 1, or its chain leads outside";
     case RAID2D_ERR_REPAIRS:
-        return "a repair of the sheet is not allowed, or a disk is left over";
+        return "a repair of the sheet is not allowed, or a disk stays erased";
     case RAID2D_ERR_LIMIT:
         return "the limit of repairs is 0";
     case RAID2D_ERR_RING:
@@ -310,10 +310,11 @@ size_t raid2d_array_bytes(size_t rows, size_t columns, size_t block);
  * number of the next record, 0 for none. If no record has that number, the
  * last three return 0, which is also a disk and a stripe.
  *
- * A sheet from elsewhere can have any bytes: another kind, numbers above
- * RAID2D_SHEET_RECORDS, a chain that comes back to a record and never ends.
- * raid2d_follow and raid2d_tidy refuse such a sheet; the loop above is for
- * others.
+ * A sheet from elsewhere can have any bytes: another kind, on its chain a
+ * number that no record has, a chain that comes back to a record and never
+ * ends. raid2d_follow and raid2d_tidy refuse such a sheet, and every cycle; the
+ * loop above is for what they take. Any other sheet is read with it only up to
+ * a number above RAID2D_SHEET_RECORDS, and so many records at most.
  */
 size_t raid2d_sheet_kind(const uint8_t *sheet);
 size_t raid2d_sheet_first(const uint8_t *sheet);
@@ -518,8 +519,8 @@ uint32_t raid2d_plan(size_t rows, size_t columns,
  *   map        which disks are erased: every byte 0 or 1; the bytes of the
  *              disks repaired become 0
  *   sheet      receives the repairs of this turn, or the cycle; raid2d_follow
- *              takes it only with the map from before this turn, and only if
- *              this was the last turn
+ *              takes these repairs with a map in which just their disks are
+ *              erased, as in that from before this turn if it was the last
  *   limit      the most repairs for this turn, any number from 1 on
  *   count      receives the number of repairs made, or of undetermined
  *              disks, as from raid2d_plan
@@ -573,7 +574,7 @@ uint32_t raid2d_rebuild(size_t rows, size_t columns, size_t block,
  *
  * A sheet that is not zero off its chain is refused: somebody may have taken
  * what stands there for repairs. A host that has made sure that only the chain
- * counts calls raid2d_tidy first, and follow then answers by the list alone.
+ * counts calls raid2d_tidy first, and follow then judges just what it lists.
  *
  *   sheet      the repairs, each erased disk once
  *   count      receives the number of repairs, which is that of the erased
@@ -634,7 +635,7 @@ uint32_t raid2d_follow(size_t rows, size_t columns, size_t block,
  * Returns the first of these that applies:
  *
  *   RAID2D_ERR_SHEET_LENGTH
- *   RAID2D_ERR_CHAIN         as from raid2d_follow, also for a cycle
+ *   RAID2D_ERR_CHAIN         as from raid2d_follow; both give it for a cycle
  *   RAID2D_ERR_RING          as from raid2d_follow
  *   RAID2D_OK                the sheet is tidy
  */

@@ -17,8 +17,8 @@ use Rattle.stripes.specs.System.{among}
 use Rattle.stripes.specs.Repair.{Entry}
 use Rattle.stripes.proofs.Fold.{by-cases}
 use Rattle.model.specs.Sheet.{narrow, numberAt, recordAt}
-use Rattle.model.specs.Chain.{entryAt, chainNumbers, numbersFit, chainRefusal, entriesAt, chainEntries}
-use Rattle.model.proofs.Chain.{among-snoc, entries-append, entries-length, refused-ten, Walked, walked-first, walked-next, walked-end, walked-outside, walked-ring}
+use Rattle.model.specs.Chain.{entryAt, chainNumbers, chainRefusal, entriesAt, chainEntries}
+use Rattle.model.proofs.Chain.{among-snoc, entries-append, entries-length, Walked, walked-first, walked-next, walked-end, walked-outside, walked-ring}
 use Rattle.entries.specs.Listed.{wordOf, listed}
 use Rattle.entries.proofs.Words.{listed-put}
 use Rattle.reader.specs.Found.{foundAt}
@@ -138,11 +138,6 @@ module _ {s l m : List ℕ} {number k : ℕ} (p : Listed s l m number k) where
       go (Record d t m) h w = ⊎-elim (λ (e : _≡_ {A = ℕ} 0 1). omega arith) (λ (e : _≡_ {A = ℕ} 0 2). omega arith) h
       go End h w = some w
       go Outside h w = omega arith
-
--- A sheet of another kind.
-pub other-kind : (s : List ℕ) → (getD s 0 0 ≡ 1 → ⊥) → chainRefusal narrow s ≡ 10
-unfolding numbersFit
-other-kind s h = refused-ten narrow s (rw (ne-eqb (getD s 0 0) 1 h))
 
 -- A sheet that is refused by a number is answered by it.
 pub answered : (s l m : List ℕ) (k : ℕ) → chainRefusal narrow s ≡ k → (k ≡ 0 → ⊥) → Promised s (Refused k) l m

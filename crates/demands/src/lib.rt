@@ -162,7 +162,7 @@ pub struct Tidied {
     pub other: u32,
 }
 
-// Tidies two sheets. One that is taken becomes what is asked for, and where both are taken, they become the same exactly if they
+// Tidies two sheets. Each that is taken becomes what is asked for, and where both are taken, they become the same exactly if they
 // listed the same disks and stripes in the same order.
 pub fn tidy_sheets(one: &mut [u8], other: &mut [u8]) -> Tidied
     ensures statuses { λ r. ⌜
@@ -171,7 +171,10 @@ pub fn tidy_sheets(one: &mut [u8], other: &mut [u8]) -> Tidied
     ensures sheets { λ r. ⌜
         (now (one .exit) ≡ tidySheet narrow (now (one .entry))) × (now (other .exit) ≡ tidySheet narrow (now (other .entry)))
         ⌝ }
-    ensures demand { λ r. ⌜ (r .one ≡ 0 → TidyDemand narrow (now (one .entry)) (now (one .exit))) ⌝ }
+    ensures demand { λ r. ⌜
+        (r .one ≡ 0 → TidyDemand narrow (now (one .entry)) (now (one .exit)))
+        × (r .other ≡ 0 → TidyDemand narrow (now (other .entry)) (now (other .exit)))
+        ⌝ }
     ensures same { λ r. ⌜
         (r .one ≡ 0 → r .other ≡ 0
         → ((now (one .exit) ≡ now (other .exit)) ↔ (chainEntries narrow (now (one .entry)) ≡ chainEntries narrow (now (other .entry)))))
@@ -199,7 +202,7 @@ pub fn tidy_and_follow(
         (chainEntries narrow (now (sheet .entry)))
         ⌝ }
     ensures array { λ r. ⌜
-        now (array .exit) ≡ listArray size block (now (array .entry)) (now (map .entry))
+        now (array .exit) ≡ listArray (sheetLayout size) (whole block) (now (array .entry)) (now (map .entry))
         (looseStatus size block (now (array .entry)) (now (map .entry)) (now (sheet .entry)))
         (chainEntries narrow (now (sheet .entry)))
         ⌝ }

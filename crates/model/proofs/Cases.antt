@@ -18,7 +18,7 @@ use Rattle.model.specs.Equations.{cell, rowData, columnData}
 use Rattle.model.specs.Refusal.{refusal, arrayTests}
 use Rattle.model.specs.Array.{encodedByte, encoded, sealStatus, sealArray, writeTests, isParityOf, writtenByte, written, writeStatus, writeArray}
 use Rattle.model.specs.Sheet.{narrow, chainBytes, sheetOf, blankSheet, numberBytes, numberAt}
-use Rattle.model.specs.Chain.{entryAt, nextNumber, visited, chainNumbers, within, different, numbersFit, chainTests, onChain, noLeftovers, cleanTests, entriesAt, chainEntries}
+use Rattle.model.specs.Chain.{entryAt, nextNumber, visited, chainNumbers, within, different, chainTests, onChain, noLeftovers, cleanTests, entriesAt, chainEntries}
 use Rattle.model.specs.Tidy.{tidyTests, tidyStatus, tidyForm, tidySheet}
 use Rattle.model.specs.Plan.{sheetTests, planTests, planOutcome, outcomeStatus, outcomeCount, lossOutcome, lossSheet, planSheet}
 use Rattle.model.specs.Turn.{clear, lossTold, contradiction, repairsMade, turnRepairs, contradicts, turnOf}
@@ -284,7 +284,7 @@ cases =
 -- Every case holds, and the paper's nine are there.
 pub cases-hold : (map (λ (c : Case). c .computed) cases ≡ map (λ (c : Case). c .expected) cases)
     × (map (λ (c : Case). c .number) cases ≡ 1 ∷ 2 ∷ 3 ∷ 4 ∷ 5 ∷ 6 ∷ 7 ∷ 8 ∷ 9 ∷ replicate 11 0)
-unfolding cases sealStatus sealArray encoded encodedByte writeStatus writeArray writeTests written writtenByte isParityOf refusal arrayTests sideFits sizeFits blockFits arrayBytes arrayOf disks across down rows columns diskAt isData rowData columnData cell byte whole xsum _⊕_ tabulate gate every bit count lowest among on sumOver stripeSum sumsToZero grid layoutOf mapFits erasures without alone allowed firstAllowed someAllowed nextDisk repairOf peel repairs after residual residualCount lost fatal changed sumOfOthers repaired rebuilt zeroed consistent below closing core partner firstOf otherThan trace lowestOf cycleOf shownCycle numberBytes numberAt chainBytes sheetOf blankSheet sheetTests planTests lossOutcome lossSheet planOutcome planSheet outcomeStatus outcomeCount mapAfter clear lossTold contradiction repairsMade turnRepairs contradicts turnOf bufferTests rebuildTests rebuildRefusal rebuildTurn entryAt nextNumber visited chainNumbers within different numbersFit chainTests onChain noLeftovers cleanTests entriesAt chainEntries tidyTests tidyStatus tidyForm tidySheet allAllowed clears listTests followTests followStatus followOutcome followArray united partBy part joined undetermined determined survivorSum partSum partsCancel savedByte saved mapTests saveTests saveStatus saveAnswer saveArray savingStatus savingCount rectangle digit decimal repairWord fatalWord refusedWord entryLines listed listing
+unfolding cases sealStatus sealArray encoded encodedByte writeStatus writeArray writeTests written writtenByte isParityOf refusal arrayTests sideFits sizeFits blockFits arrayBytes arrayOf disks across down rows columns diskAt isData rowData columnData cell byte whole xsum _⊕_ tabulate gate every bit count lowest among on sumOver stripeSum sumsToZero grid layoutOf mapFits erasures without alone allowed firstAllowed someAllowed nextDisk repairOf peel repairs after residual residualCount lost fatal changed sumOfOthers repaired rebuilt zeroed consistent below closing core partner firstOf otherThan trace lowestOf cycleOf shownCycle numberBytes numberAt chainBytes sheetOf blankSheet sheetTests planTests lossOutcome lossSheet planOutcome planSheet outcomeStatus outcomeCount mapAfter clear lossTold contradiction repairsMade turnRepairs contradicts turnOf bufferTests rebuildTests rebuildRefusal rebuildTurn entryAt nextNumber visited chainNumbers within different chainTests onChain noLeftovers cleanTests entriesAt chainEntries tidyTests tidyStatus tidyForm tidySheet allAllowed clears listTests followTests followStatus followOutcome followArray united partBy part joined undetermined determined survivorSum partSum partsCancel savedByte saved mapTests saveTests saveStatus saveAnswer saveArray savingStatus savingCount rectangle digit decimal repairWord fatalWord refusedWord entryLines listed listing
 cases-hold = (refl, refl)
 
 -- The example of paper 02, P3, on the sealed array 1 2 4 7 / 8 16 32 56 / 64 128 3 195 / 73 146 39 252. Nine disks are erased: eight are

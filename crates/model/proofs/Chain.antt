@@ -21,9 +21,9 @@ use Rattle.stripes.proofs.Fold.{and-left, and-right, and-both, or-left, or-righ
 use Rattle.stripes.proofs.Peel.{without-other}
 use Rattle.model.specs.Refusal.{Test, _unless_, refusal}
 use Rattle.model.specs.Sheet.{Format, recordBytes, recordAt, sheetBytes, sheetOf, SheetBytes}
-use Rattle.model.specs.Chain.{entryAt, nextNumber, visited, chainNumbers, within, different, numbersFit, chainTests, chainRefusal, recordNumber, onChain, noLeftovers, Leftover, cleanTests, cleanRefusal, entriesAt, chainEntries}
+use Rattle.model.specs.Chain.{entryAt, nextNumber, visited, chainNumbers, within, different, chainTests, chainRefusal, recordNumber, onChain, noLeftovers, Leftover, cleanTests, cleanRefusal, entriesAt, chainEntries}
 use Rattle.model.proofs.Refusal.{no-tests, fails, passes, by-test, passed, refused-first, first-accepted}
-use Rattle.model.proofs.Sheets.{Fitting, sheet-kind, sheet-bytes}
+use Rattle.model.proofs.Sheets.{Fitting, number-same, sheet-kind, sheet-bytes}
 
 -- ---- lists of numbers
 among-here : (k : ℕ) (ks : List ℕ) → among k (k ∷ ks) ≡ true
@@ -165,40 +165,49 @@ module _ (f : Format) (s : List ℕ) where
 
   -- ---- the tests
 
-  pub numbers-fit : getD s 0 0 ≡ f .repairKind → within (f .records) (chainNumbers f s) ≡ true → numbersFit f s ≡ true
-  unfolding numbersFit
-  numbers-fit e inside = and-both (eq-eqb (getD s 0 0) (f .repairKind) e) inside
-
-  -- What is refused by which number,
-  pub refused-ten : numbersFit f s ≡ false → chainRefusal f s ≡ 10
+  -- What is refused by which number: another kind,
+  pub kind-refused : (getD s 0 0 ≡ f .repairKind → ⊥) → chainRefusal f s ≡ 10
   unfolding chainRefusal chainTests
-  refused-ten = fails 10 (numbersFit f s) _
+  kind-refused other = fails 10 (eqb (getD s 0 0) (f .repairKind)) _ (ne-eqb (getD s 0 0) (f .repairKind) other)
 
-  pub refused-thirteen : numbersFit f s ≡ true → different (chainNumbers f s) ≡ false → chainRefusal f s ≡ 13
+  -- a number that no record has,
+  pub outside-refused : within (f .records) (chainNumbers f s) ≡ false → chainRefusal f s ≡ 10
   unfolding chainRefusal chainTests
-  refused-thirteen fit twice = passes 10 (numbersFit f s) _ fit ∙ fails 13 (different (chainNumbers f s)) _ twice
+  outside-refused out =
+      by-test (λ k. k ≡ 10) 10 (eqb (getD s 0 0) (f .repairKind)) _ refl (fails 10 (within (f .records) (chainNumbers f s)) _ out)
 
-  chain-accepted : numbersFit f s ≡ true → different (chainNumbers f s) ≡ true → chainRefusal f s ≡ 0
+  -- a record that is reached twice,
+  pub ring-refused : getD s 0 0 ≡ f .repairKind → within (f .records) (chainNumbers f s) ≡ true → different (chainNumbers f s) ≡ false
+      → chainRefusal f s ≡ 13
   unfolding chainRefusal chainTests
-  chain-accepted fit apart = passes 10 (numbersFit f s) _ fit ∙ passes 13 (different (chainNumbers f s)) _ apart ∙ no-tests
+  ring-refused kind inside twice =
+      passes 10 (eqb (getD s 0 0) (f .repairKind)) _ (eq-eqb (getD s 0 0) (f .repairKind) kind)
+      ∙ passes 10 (within (f .records) (chainNumbers f s)) _ inside ∙ fails 13 (different (chainNumbers f s)) _ twice
 
-  -- and what is known where nothing is.
+  -- and what is known where nothing is refused.
   chain-passed : chainRefusal f s ≡ 0
       → (getD s 0 0 ≡ f .repairKind) × (within (f .records) (chainNumbers f s) ≡ true) × (different (chainNumbers f s) ≡ true)
-  unfolding chainRefusal chainTests numbersFit
-  chain-passed e =
-      let ks : List ℕ = chainNumbers f s in
-      let (fit, rest) = passed 10 (numbersFit f s) _ (omega arith) e in
-      let apart = passed 13 (different ks) _ (omega arith) rest .0 in
-      let kind : Bool = eqb (getD s 0 0) (f .repairKind) in
-      (eqb-true (getD s 0 0) (f .repairKind) (and-left kind (within (f .records) ks) fit), and-right kind (within (f .records) ks) fit, apart)
-
-  -- The tests that follow are reached,
-  pub chain-goes-on : chainRefusal f s ≡ 0 → (ts : List Test) → refusal (chainTests f s ++ ts) ≡ refusal ts
   unfolding chainRefusal chainTests
-  chain-goes-on e ts =
-      let (fit, rest) = passed 10 (numbersFit f s) _ (omega arith) e in
-      passes 10 (numbersFit f s) _ fit ∙ passes 13 (different (chainNumbers f s)) ts (passed 13 (different (chainNumbers f s)) _ (omega arith) rest .0)
+  chain-passed e =
+      let (kind, e₂) = passed 10 (eqb (getD s 0 0) (f .repairKind)) _ (omega arith) e in
+      let (inside, e₃) = passed 10 (within (f .records) (chainNumbers f s)) _ (omega arith) e₂ in
+      (eqb-true (getD s 0 0) (f .repairKind) kind, inside, passed 13 (different (chainNumbers f s)) _ (omega arith) e₃ .0)
+
+  -- Tests that follow are reached where all three hold,
+  chain-on : getD s 0 0 ≡ f .repairKind → within (f .records) (chainNumbers f s) ≡ true → different (chainNumbers f s) ≡ true
+      → (ts : List Test) → refusal (chainTests f s ++ ts) ≡ refusal ts
+  unfolding chainTests
+  chain-on kind inside apart ts =
+      passes 10 (eqb (getD s 0 0) (f .repairKind)) _ (eq-eqb (getD s 0 0) (f .repairKind) kind)
+      ∙ passes 10 (within (f .records) (chainNumbers f s)) _ inside ∙ passes 13 (different (chainNumbers f s)) ts apart
+
+  chain-accepted : getD s 0 0 ≡ f .repairKind → within (f .records) (chainNumbers f s) ≡ true → different (chainNumbers f s) ≡ true
+      → chainRefusal f s ≡ 0
+  unfolding chainRefusal
+  chain-accepted kind inside apart = ap refusal (sym (append-nil (chainTests f s))) ∙ chain-on kind inside apart [] ∙ no-tests
+
+  pub chain-goes-on : chainRefusal f s ≡ 0 → (ts : List Test) → refusal (chainTests f s ++ ts) ≡ refusal ts
+  chain-goes-on e = let (kind, inside, apart) = chain-passed e in chain-on kind inside apart
 
   -- 14 among them,
   pub chain-clean : chainRefusal f s ≡ 0 → cleanRefusal f s ≡ cond (noLeftovers f s) 0 14
@@ -229,15 +238,16 @@ module _ (f : Format) (s : List ℕ) where
   pub clean-numbers : (P : ℕ → Type 0) → P 0 → P 10 → P 13 → P 14 → P (cleanRefusal f s)
   unfolding cleanRefusal cleanTests chainTests
   clean-numbers P none ten thirteen fourteen =
-      by-test P 10 (numbersFit f s) _ ten
-      (by-test P 13 (different (chainNumbers f s)) _ thirteen (by-test P 14 (noLeftovers f s) _ fourteen (rw no-tests none)))
+      by-test P 10 (eqb (getD s 0 0) (f .repairKind)) _ ten
+      (by-test P 10 (within (f .records) (chainNumbers f s)) _ ten
+      (by-test P 13 (different (chainNumbers f s)) _ thirteen (by-test P 14 (noLeftovers f s) _ fourteen (rw no-tests none))))
 
   -- A chain that has ended within its steps fits if no number is too large.
   ended-fits : getD s 0 0 ≡ f .repairKind → length (chainNumbers f s) ≤ f .records → within (f .records) (chainNumbers f s) ≡ true
       → chainRefusal f s ≡ 0
   unfolding chainNumbers
   ended-fits e l inside =
-      chain-accepted (numbers-fit e inside) (visited-different (suc (f .records)) (getD s 1 0) (omega arith))
+      chain-accepted e inside (visited-different (suc (f .records)) (getD s 1 0) (omega arith))
 
   fits-few : chainRefusal f s ≡ 0 → length (chainNumbers f s) ≤ f .records
   unfolding chainNumbers
@@ -382,11 +392,10 @@ module _ {f : Format} {s : List ℕ} {number : ℕ} {ks : List ℕ} (p : Walked 
 
   -- The next number is too large: 10.
   pub walked-outside : f .records < number → chainRefusal f s ≡ 10
-  unfolding within numbersFit
+  unfolding within
   walked-outside h =
-      let outside : within (f .records) (chainNumbers f s) ≡ false =
-      ap (within (f .records)) (walked-on (omega arith)) ∙ within-append (f .records) ks _ ∙ (rw (p .inside, lt-leb number (f .records) h)) in
-      refused-ten f s (rw (outside, and-false))
+      outside-refused f s
+      (ap (within (f .records)) (walked-on (omega arith)) ∙ within-append (f .records) ks _ ∙ (rw (p .inside, lt-leb number (f .records) h)))
 
   -- All records are read, and another one comes next: 13.
   pub walked-ring : getD s 0 0 ≡ f .repairKind → f .records ≤ length ks → 0 < number → number ≤ f .records → chainRefusal f s ≡ 13
@@ -397,11 +406,10 @@ module _ {f : Format} {s : List ℕ} {number : ℕ} {ks : List ℕ} (p : Walked 
       walked-on some ∙ ap (λ (n : ℕ). ks ++ (number ∷ visited f s n (nextNumber f s number))) none ∙ (rw visited-none) in
       let inside : within (f .records) (chainNumbers f s) ≡ true =
       ap (within (f .records)) is ∙ within-append (f .records) ks (number ∷ []) ∙ and-both (p .inside) (and-both (le-leb number (f .records) most) refl) in
-      let fit : numbersFit f s ≡ true = numbers-fit f s kind inside in
       let long = ap length is ∙ length-append ks (number ∷ []) in
-      refused-thirteen f s fit
+      ring-refused f s kind inside
       (by-cases (λ (b : Bool). b ≡ false) (different (chainNumbers f s))
-      (λ e. let few = fits-few f s (chain-accepted f s fit e) in absurd (omega arith)) (λ e. refl))
+      (λ e. let few = fits-few f s (chain-accepted f s kind inside e) in absurd (omega arith)) (λ e. refl))
 
 -- ---- the sheets that the library writes
 
@@ -492,8 +500,10 @@ module _ (f : Format) (w : List Entry) (byte : f .repairKind < 256) (fits : Fitt
 
 -- A loop's sheet is refused.
 pub clean-loop : (f : Format) (w : List Entry) → (f .loopKind ≡ f .repairKind → ⊥) → cleanRefusal f (sheetOf f (f .loopKind) w) ≡ 10
-unfolding cleanRefusal cleanTests chainTests numbersFit
-clean-loop f w other = fails 10 _ _ (rw (sheet-kind f (f .loopKind) w, ne-eqb (f .loopKind) (f .repairKind) other))
+clean-loop f w other =
+    let s : List ℕ = sheetOf f (f .loopKind) w in
+    let ten : chainRefusal f s ≡ 10 = kind-refused f s (λ e. other (sym (sheet-kind f (f .loopKind) w) ∙ e)) in
+    clean-first f s (λ none. let clash : _≡_ {A = ℕ} 10 0 = sym ten ∙ none in omega arith) ∙ ten
 
 -- ---- chains that visit any records in any order
 
@@ -571,16 +581,25 @@ module _ (f : Format) (s t : List ℕ) where
   entries-same (k ∷ ks) h =
       ap₂ (λ (r : Entry) (rs : List Entry). r ∷ rs) (h k (among-here k ks)) (entries-same ks (λ j m. h j (among-there j k ks m)))
 
-  pub off-chain : getD s 0 0 ≡ getD t 0 0 → getD s 1 0 ≡ getD t 1 0
-      → ((k : ℕ) → among k (chainNumbers f s) ≡ true → (entryAt f s k ≡ entryAt f t k) × (nextNumber f s k ≡ nextNumber f t k))
+  -- Two sheets that agree at every byte on the chain of one of them have the same chain, which lists the same.
+  pub off-chain : ((i : ℕ) → onChain f s i ≡ true → getD s i 0 ≡ getD t i 0)
       → (chainRefusal f s ≡ chainRefusal f t) × (chainEntries f s ≡ chainEntries f t)
-  unfolding chainNumbers chainRefusal chainTests numbersFit chainEntries
-  off-chain kind first agree =
+  unfolding chainNumbers chainRefusal chainTests chainEntries entryAt nextNumber
+  off-chain agree =
       let steps : ℕ = suc (f .records) in
+      let at : (k m i : ℕ) → among k (chainNumbers f s) ≡ true → m < recordBytes f → i ≡ recordAt f k + m → getD s i 0 ≡ getD t i 0 =
+      λ k m i on h e. agree i (on-chain-exact f s i (omega arith) .1 (k, on, omega arith, omega arith)) in
+      let kind = agree 0 (first-on-chain f s 0 (omega arith)) in
+      let first = agree 1 (first-on-chain f s 1 (omega arith)) in
       let same : chainNumbers f s ≡ chainNumbers f t =
-      visited-same steps (getD s 1 0) (λ j m. agree j m .1) ∙ ap (visited f t steps) first in (
+      visited-same steps (getD s 1 0) (λ k on. at k (f .diskBytes + 1) _ on (omega arith) (omega arith)) ∙ ap (visited f t steps) first in
+      let entries : (k : ℕ) → among k (chainNumbers f s) ≡ true → entryAt f s k ≡ entryAt f t k =
+      λ k on.
+      ap₂ (λ (d t : ℕ). record { disk = d; stripe = t })
+      (number-same (f .diskBytes) s t (recordAt f k) (λ m i h e. at k m i on (omega arith) e)) (at k (f .diskBytes) _ on (omega arith) refl) in (
         ap₂
-            (λ (k : ℕ) (ks : List ℕ). refusal (10 unless (eqb k (f .repairKind) && within (f .records) ks) ∷ 13 unless different ks ∷ []))
+            (λ (k : ℕ) (ks : List ℕ).
+            refusal (10 unless eqb k (f .repairKind) ∷ 10 unless within (f .records) ks ∷ 13 unless different ks ∷ []))
             kind same,
-        entries-same (chainNumbers f s) (λ k m. agree k m .0) ∙ ap (entriesAt f t) same,
+        entries-same (chainNumbers f s) entries ∙ ap (entriesAt f t) same,
       )

@@ -22,7 +22,7 @@ use Rattle.model.specs.Chain.{within, chainTests, chainRefusal, noLeftov
 use Rattle.model.specs.Plan.{planTests, outcomeStatus, lossSheet, planSheet, sheetLayout}
 use Rattle.model.specs.Turn.{Turn, lossTold, contradiction, repairsMade, turnOf, wholeRebuild}
 use Rattle.model.specs.Rebuild.{bufferTests, bufferRefusal, rebuildRefusal, rebuildTurn}
-use Rattle.model.specs.Follow.{Usable, followedArray, listTests, followTests, followStatus, listOutcome, listArray, followOutcome, followArray}
+use Rattle.model.specs.Follow.{Usable, listTests, followTests, followStatus, listOutcome, listArray, followOutcome, followArray}
 use Rattle.model.specs.declared.Size.{Size}
 use Rattle.model.specs.declared.Outcome.{Outcome}
 use Rattle.model.specs.declared.Outcome.the-variants.{Repairs, Refused}
@@ -47,7 +47,7 @@ Gives z B a m s o b = (followOutcome z B a m s ≡ o) × (followArray z B a m s 
 module _ (z : Size) (B : ℕ) (a m s : List ℕ) where
   -- What follow gives where it refuses by k, or where k is 0.
   pub follow-given : (k : ℕ) → followStatus z B a m s ≡ k
-      → Gives z B a m s (listOutcome k (chainEntries narrow s)) (listArray z B a m k (chainEntries narrow s))
+      → Gives z B a m s (listOutcome k (chainEntries narrow s)) (listArray (sheetLayout z) (whole B) a m k (chainEntries narrow s))
   unfolding followOutcome followArray
   follow-given k e = (rw e, rw e)
 
@@ -86,7 +86,7 @@ module _ (z : Size) (B : ℕ) (a m s : List ℕ) where
       (follow-given z B a m s k (refused-first (bufferTests z B (length a) m (length s)) _ refused))
 
   -- Otherwise the sheet's tests decide, 10, 13 and 14, before those of its list.
-  follow-order : bufferRefusal z B a m s ≡ 0 → followStatus z B a m s ≡ refusal (cleanTests narrow s ++ listTests z B a m (chainEntries narrow s))
+  follow-order : bufferRefusal z B a m s ≡ 0 → followStatus z B a m s ≡ refusal (cleanTests narrow s ++ listTests (sheetLayout z) (whole B) a m (chainEntries narrow s))
   unfolding followStatus followTests
   follow-order ok = buffers-passed z B a m s ok _
 
@@ -95,7 +95,7 @@ module _ (z : Size) (B : ℕ) (a m s : List ℕ) where
   pub follow-listed : bufferRefusal z B a m s ≡ 0 → cleanRefusal narrow s ≡ 0
       → followStatus z B a m s
       ≡ cond (clears (sheetLayout z) (erasures m) (chainEntries narrow s))
-      (cond (consistent (sheetLayout z) (whole B) (followedArray z B a (chainEntries narrow s))) 0 7) 11
+      (cond (consistent (sheetLayout z) (whole B) (rebuilt (sheetLayout z) (whole B) a (chainEntries narrow s))) 0 7) 11
   unfolding listTests refusal
   follow-listed ok clean = follow-order ok ∙ clean-goes-on narrow s clean _
 
@@ -122,7 +122,7 @@ module _ (z : Size) (B : ℕ) (a m s : List ℕ) where
 
     -- The repairs of a usable sheet leave all sums zero exactly if the survivors belong to a sealed array.
     pub follow-judged : Usable z m s → Bytes a
-        → (consistent (sheetLayout z) (whole B) (followedArray z B a (chainEntries narrow s)) ≡ true) ↔ Belongs (sheetLayout z) (whole B) (erasures m) a
+        → (consistent (sheetLayout z) (whole B) (rebuilt (sheetLayout z) (whole B) a (chainEntries narrow s)) ≡ true) ↔ Belongs (sheetLayout z) (whole B) (erasures m) a
     follow-judged (clean, clear) =
         let array = buffers-fit z B a m s ok .0 in
         clears-judged (sheetLayout z) (layout-ordered z (narrow .base) (rows-below z (array .size)) .bounded) B (erasures m) a (layout-sized z (narrow .base) B a (array .long)) (chainEntries narrow s) clear
@@ -132,10 +132,10 @@ module _ (z : Size) (B : ℕ) (a m s : List ℕ) where
         → Gives z B a m s (Repairs (count (disks z) (erasures m))) b
     follow-restores (clean, clear) b word agree =
         let array = buffers-fit z B a m s ok .0 in
-        let is : followedArray z B a (chainEntries narrow s) ≡ b =
+        let is : rebuilt (sheetLayout z) (whole B) a (chainEntries narrow s) ≡ b =
         clears-restored (sheetLayout z) (layout-ordered z (narrow .base) (rows-below z (array .size)) .bounded) B (erasures m) a (layout-sized z (narrow .base) B a (array .long))
         (chainEntries narrow s) clear b word agree in
-        let sealed : consistent (sheetLayout z) (whole B) (followedArray z B a (chainEntries narrow s)) ≡ true =
+        let sealed : consistent (sheetLayout z) (whole B) (rebuilt (sheetLayout z) (whole B) a (chainEntries narrow s)) ≡ true =
         ap (consistent (sheetLayout z) (whole B)) is ∙ consistent-iff (sheetLayout z) (whole B) b .1 (word .sums) in
         let (answer, left) = follow-given z B a m s 0 (follow-listed ok clean ∙ (rw (clear, sealed))) in
         (answer ∙ (rw (clears-length (sheetLayout z) (erasures m) (chainEntries narrow s) clear, layout-disks z (narrow .base))), left ∙ is)
@@ -144,8 +144,8 @@ module _ (z : Size) (B : ℕ) (a m s : List ℕ) where
     pub follow-seven : Usable z m s → Bytes a → (Belongs (sheetLayout z) (whole B) (erasures m) a → ⊥)
         → Gives z B a m s (Refused 7) (zeroed (whole B) a (erasures m))
     follow-seven usable small none =
-        let unsealed : consistent (sheetLayout z) (whole B) (followedArray z B a (chainEntries narrow s)) ≡ false =
-        by-cases (λ (t : Bool). t ≡ false) (consistent (sheetLayout z) (whole B) (followedArray z B a (chainEntries narrow s)))
+        let unsealed : consistent (sheetLayout z) (whole B) (rebuilt (sheetLayout z) (whole B) a (chainEntries narrow s)) ≡ false =
+        by-cases (λ (t : Bool). t ≡ false) (consistent (sheetLayout z) (whole B) (rebuilt (sheetLayout z) (whole B) a (chainEntries narrow s)))
         (λ e. absurd (none (follow-judged usable small .0 e))) (λ e. refl) in
         follow-given z B a m s 7 (follow-listed ok (usable .0) ∙ (rw (usable .1, unsealed)))
 
@@ -205,8 +205,8 @@ follow-whole z B a m s ok small (clean, clear) = go (consistent (sheetLayout z) 
     fine : fatal (sheetLayout z) (erasures m) ≡ false
     fine = clears-fine (sheetLayout z) (erasures m) (chainEntries narrow s) clear
 
-    alike : (consistent (sheetLayout z) (whole B) (followedArray z B a (chainEntries narrow s)) ≡ consistent (sheetLayout z) (whole B) (rebuilt (sheetLayout z) (whole B) a w))
-        × (consistent (sheetLayout z) (whole B) (rebuilt (sheetLayout z) (whole B) a w) ≡ true → followedArray z B a (chainEntries narrow s) ≡ rebuilt (sheetLayout z) (whole B) a w)
+    alike : (consistent (sheetLayout z) (whole B) (rebuilt (sheetLayout z) (whole B) a (chainEntries narrow s)) ≡ consistent (sheetLayout z) (whole B) (rebuilt (sheetLayout z) (whole B) a w))
+        × (consistent (sheetLayout z) (whole B) (rebuilt (sheetLayout z) (whole B) a w) ≡ true → rebuilt (sheetLayout z) (whole B) a (chainEntries narrow s) ≡ rebuilt (sheetLayout z) (whole B) a w)
     alike =
         let array = buffers-fit z B a m s ok .0 in
         clears-alike (sheetLayout z) (layout-ordered z (narrow .base) (rows-below z (array .size)) .bounded) B (erasures m) a (layout-sized z (narrow .base) B a (array .long)) small
@@ -271,7 +271,7 @@ module _ (z : Size) (B : ℕ) (a m s₁ t : List ℕ) (planOk : refusal (planTes
 -- gives what rebuild gives, if nothing is left over.
 pub follow-any-order : (z : Size) (B : ℕ) (a m s t : List ℕ) → length s ≡ length t → Bytes a
     → (w : List Entry) → clears (sheetLayout z) (erasures m) w ≡ true
-    → getD s 0 0 ≡ 1 → (ks : List ℕ) → within 32 ks ≡ true → Linked narrow s (getD s 1 0) ks w → noLeftovers narrow s ≡ true
+    → getD s 0 0 ≡ narrow .repairKind → (ks : List ℕ) → within (narrow .records) ks ≡ true → Linked narrow s (getD s 1 0) ks w → noLeftovers narrow s ≡ true
     → AsRebuild z B a m s t
 follow-any-order z B a m s t long small w clear kind ks inside linked clean =
     let (chain, lists, numbers) = linked-fits narrow s ks w kind linked inside in
@@ -279,7 +279,7 @@ follow-any-order z B a m s t long small w clear kind ks inside linked clean =
 
 -- So does every such list that the library writes into a sheet, and each has room there.
 pub follow-list : (z : Size) → sizeFits z ≡ true → (B : ℕ) (a m t : List ℕ) → length t ≡ sheetBytes narrow → Bytes a
-    → (w : List Entry) → clears (sheetLayout z) (erasures m) w ≡ true → AsRebuild z B a m (sheetOf narrow 1 w) t
+    → (w : List Entry) → clears (sheetLayout z) (erasures m) w ≡ true → AsRebuild z B a m (sheetOf narrow (narrow .repairKind) w) t
 follow-list z size B a m t long small w clear =
     let fits = peels-fitting z size (erasures m) w (clears-peels (sheetLayout z) (erasures m) w clear) in
     let (clean, lists) = written-chain narrow w (omega arith) fits in

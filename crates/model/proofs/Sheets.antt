@@ -53,7 +53,15 @@ unfolding numberAt
 number-small zero p i = omega arith
 number-small (suc n) p i = let low = p .at i in let high = number-small n p (suc i) in omega arith
 
--- Equal numbers have equal bytes.
+-- Equal bytes have equal numbers,
+pub number-same : (n : ℕ) (s t : List ℕ) (i : ℕ) → ((k j : ℕ) → k < n → j ≡ i + k → getD s j 0 ≡ getD t j 0) → numberAt n s i ≡ numberAt n t i
+unfolding numberAt
+number-same zero s t i same = refl
+number-same (suc n) s t i same =
+    ap₂ (λ (low high : ℕ). low + 256 * high) (same 0 i (omega arith) (omega arith))
+    (number-same n s t (suc i) (λ k j h e. same (suc k) j (omega arith) (omega arith)))
+
+-- and equal numbers have equal bytes.
 number-bytes : (n : ℕ) {s t : List ℕ} (i : ℕ) → Small s → Small t → numberAt n s i ≡ numberAt n t i
     → (k j : ℕ) → k < n → j ≡ i + k → getD s j 0 ≡ getD t j 0
 unfolding numberAt

@@ -10,27 +10,27 @@ use native.Mathlib.Omega.{arith}
 use borrow.Author.Tests.{eq-eqb, ne-eqb, eqb-true, eqb-false}
 use lib.Dec.{eqb}
 use lib.ListN.{length, getD, take}
-use Rattle.stripes.specs.System.{Layout, among, whole, Bytes, consistent}
+use Rattle.stripes.specs.System.{Layout, whole, Bytes, consistent}
 use Rattle.stripes.specs.Erased.{erasures}
-use Rattle.stripes.specs.Repair.{Entry, diskOf, stripeOf, repairs, fatal, zeroed, clears}
+use Rattle.stripes.specs.Repair.{Entry, diskOf, stripeOf, repairs, fatal, rebuilt, clears}
 use Rattle.stripes.proofs.Fold.{by-cases}
 use Rattle.stripes.proofs.Peel.{repairs-peels}
 use Rattle.stripes.proofs.Split.{peels-take}
 use Rattle.model.specs.Grid.{sizeFits}
 use Rattle.model.specs.Refusal.{Test, refusal}
 use Rattle.model.specs.Sheet.{Format, narrow, recordAt, sheetBytes, sheetOf, SheetBytes}
-use Rattle.model.specs.Chain.{entryAt, nextNumber, chainNumbers, chainTests, chainRefusal, noLeftovers, Leftover, cleanTests, cleanRefusal, entriesAt, chainEntries}
+use Rattle.model.specs.Chain.{entryAt, chainNumbers, chainTests, chainRefusal, onChain, noLeftovers, Leftover, cleanTests, cleanRefusal, entriesAt, chainEntries}
 use Rattle.model.specs.Tidy.{tidyTests, tidyStatus, tidyForm, tidySheet, Tidy, TidyDemand}
 use Rattle.model.specs.Plan.{planTests, planOutcome, planSheet, outcomeStatus, lossOutcome, lossSheet, sheetLayout}
 use Rattle.model.specs.Turn.{lossTold, contradiction, repairsMade, turnRepairs, contradicts, turnOf}
 use Rattle.model.specs.Rebuild.{bufferTests, bufferRefusal, rebuildRefusal, rebuildTurn}
-use Rattle.model.specs.Follow.{followedArray, listTests, followStatus, followTests, listOutcome, listArray, followOutcome, looseStatus}
+use Rattle.model.specs.Follow.{listTests, followStatus, followTests, listOutcome, listArray, followOutcome, looseStatus}
 use Rattle.model.specs.declared.Size.{Size}
 use Rattle.model.specs.declared.Outcome.{Outcome}
 use Rattle.model.specs.declared.Outcome.the-variants.{Repairs, Refused}
 use Rattle.model.proofs.Refusal.{given-accepted, given-refused, fails, passes, by-test, passed, refused-first, refusal-rest, no-tests}
 use Rattle.model.proofs.Accept.{buffers-fit, buffers-passed, rebuild-fits}
-use Rattle.model.proofs.Sheets.{Fitting, Small, small, number-small, sheet-length, sheet-bytes}
+use Rattle.model.proofs.Sheets.{Fitting, Small, small, number-small, sheet-length, sheet-bytes, sheet-is}
 use Rattle.model.proofs.Limits.{peels-fitting}
 use Rattle.model.proofs.Chain.{chain-few, chain-goes-on, clean-exact, clean-goes-on, leftovers-exact, written-chain, off-chain}
 use Rattle.model.proofs.Follow.{Gives, follow-given, status-is, follow-listed, follow-unclean}
@@ -56,13 +56,12 @@ module _ (f : Format) (s : List ℕ) where
   unfolding tidySheet
   tidy-refused = given-refused (tidyStatus f s) (tidyForm f s) s
 
--- What stands off the chain does not matter: two sheets of one length that agree on the kind, on the first number and on the records
--- that the chain visits get the same answer and have the same tidy form.
-pub tidy-off-chain : (f : Format) (s t : List ℕ) → length s ≡ length t → getD s 0 0 ≡ getD t 0 0 → getD s 1 0 ≡ getD t 1 0
-    → ((k : ℕ) → among k (chainNumbers f s) ≡ true → (entryAt f s k ≡ entryAt f t k) × (nextNumber f s k ≡ nextNumber f t k))
+-- What stands off the chain does not matter: two sheets of one length that agree at every byte on the chain get the same answer and
+-- have the same tidy form.
+pub tidy-off-chain : (f : Format) (s t : List ℕ) → length s ≡ length t → ((i : ℕ) → onChain f s i ≡ true → getD s i 0 ≡ getD t i 0)
     → (tidyStatus f s ≡ tidyStatus f t) × (tidyForm f s ≡ tidyForm f t)
 unfolding tidyStatus tidyTests tidyForm chainRefusal refusal
-tidy-off-chain f s t long kind first same = let (fit, lists) = off-chain f s t kind first same in (rw (long, fit), rw lists)
+tidy-off-chain f s t long same = let (fit, lists) = off-chain f s t same in (rw (long, fit), rw lists)
 
 -- ---- formats whose kind and record numbers are bytes
 module _ (f : Format) (kind : f .repairKind < 256) (numbers : f .records < 256) where
@@ -87,11 +86,19 @@ module _ (f : Format) (kind : f .repairKind < 256) (numbers : f .records < 256) 
 
   -- A list of repairs that the library writes is tidy, and 10, 13 and 14 let it through.
   pub written-tidy : (w : List Entry) → Fitting f w → Tidy f (sheetOf f (f .repairKind) w) × (cleanRefusal f (sheetOf f (f .repairKind) w) ≡ 0)
-  unfolding tidyForm
   written-tidy w fits =
       let s : List ℕ = sheetOf f (f .repairKind) w in
-      let (clean, lists) = written-chain f w kind fits in
-      ((tidy-takes f s .1 (sheet-length f (f .repairKind) w, clean-exact f s .0 clean .0), ap (sheetOf f (f .repairKind)) lists), clean)
+      let (clean, lists) = written-chain f w kind fits in (
+        (tidy-takes f s .1 (sheet-length f (f .repairKind) w, clean-exact f s .0 clean .0), rw lists (sheet-bytes f (f .repairKind) w kind fits)),
+        clean,
+      )
+
+  -- Tidying a tidy sheet changes nothing.
+  pub tidy-stays : (s : List ℕ) → Tidy f s → tidySheet f s ≡ s
+  unfolding tidyForm
+  tidy-stays s (taken, form) =
+      let fits = chain-fitting s (form .bytes) (tidy-takes f s .0 taken .1) in
+      tidy-taken f s taken ∙ sym (sheet-is f (f .repairKind) (chainEntries f s) kind fits s .1 form)
 
   -- ---- a sheet that is taken
   module _ (s : List ℕ) (bytes : Bytes s) (taken : tidyStatus f s ≡ 0) where
@@ -103,7 +110,13 @@ module _ (f : Format) (kind : f .repairKind < 256) (numbers : f .records < 256) 
         let fits = chain-fitting s bytes (tidy-takes f s .0 taken .1) in
         let (tidy, clean) = written-tidy w fits in
         rw (tidy-taken f s taken)
-        (record { form = sheet-bytes f (f .repairKind) w kind fits; lists = written-chain f w kind fits .1; tidy = tidy; clean = clean })
+        (record {
+          form = sheet-bytes f (f .repairKind) w kind fits;
+          lists = written-chain f w kind fits .1;
+          tidy = tidy;
+          stays = tidy-stays (sheetOf f (f .repairKind) w) tidy;
+          clean = clean;
+        })
 
   -- Two sheets that are taken have the same tidy form exactly if they list the same disks and stripes in the same order.
   pub same-form : (s t : List ℕ) → Bytes s → Bytes t → tidyStatus f s ≡ 0 → tidyStatus f t ≡ 0
@@ -114,23 +127,20 @@ module _ (f : Format) (kind : f .repairKind < 256) (numbers : f .records < 256) 
     λ e. tidy-taken f s sTaken ∙ ap (sheetOf f (f .repairKind)) e ∙ sym (tidy-taken f t tTaken),
   )
 
-  -- Tidying a tidy sheet changes nothing, and neither does tidying any sheet again.
-  pub tidy-stays : (s : List ℕ) → Tidy f s → tidySheet f s ≡ s
-  tidy-stays s (taken, is) = tidy-taken f s taken ∙ is
-
+  -- Tidying any sheet again changes nothing.
   pub tidy-again : (s : List ℕ) → Bytes s → (tidyStatus f (tidySheet f s) ≡ tidyStatus f s) × (tidySheet f (tidySheet f s) ≡ tidySheet f s)
   tidy-again s bytes =
       by-cases (λ (b : Bool). (tidyStatus f (tidySheet f s) ≡ tidyStatus f s) × (tidySheet f (tidySheet f s) ≡ tidySheet f s)) (eqb (tidyStatus f s) 0)
       (λ e.
       let taken = eqb-true (tidyStatus f s) 0 e in
-      let tidy = tidy-demand s bytes taken .tidy in
-      (tidy .0 ∙ sym taken, tidy-stays (tidySheet f s) tidy))
+      let become = tidy-demand s bytes taken in
+      (become .tidy .0 ∙ sym taken, become .stays))
       (λ e. let kept = tidy-refused f s (eqb-false (tidyStatus f s) 0 e) in (ap (tidyStatus f) kept, ap (tidySheet f) kept))
 
   -- A tidy sheet has no leftovers.
-  pub tidy-clean : (s : List ℕ) → Bytes s → Tidy f s → noLeftovers f s ≡ true
-  tidy-clean s bytes tidy =
-      ap (noLeftovers f) (sym (tidy-stays s tidy)) ∙ clean-exact f (tidySheet f s) .0 (tidy-demand s bytes (tidy .0) .clean) .1
+  pub tidy-clean : (s : List ℕ) → Tidy f s → noLeftovers f s ≡ true
+  tidy-clean s tidy =
+      ap (noLeftovers f) (sym (tidy-stays s tidy)) ∙ clean-exact f (tidySheet f s) .0 (tidy-demand s (tidy .1 .bytes) (tidy .0) .clean) .1
 
 -- ---- the library's own sheets
 
@@ -187,7 +197,7 @@ follow-fourteen z B a m s ok taken =
           (by-cases (λ (b : Bool). b ≡ false) (noLeftovers narrow s)
           (λ clean.
           let status = follow-listed z B a m s ok (clean-exact narrow s .1 (fit, clean)) in
-          absurd (not-fourteen (clears (sheetLayout z) (erasures m) w) (consistent (sheetLayout z) (whole B) (followedArray z B a w)) (sym status ∙ sym (status-is z B a m s) ∙ e)))
+          absurd (not-fourteen (clears (sheetLayout z) (erasures m) w) (consistent (sheetLayout z) (whole B) (rebuilt (sheetLayout z) (whole B) a w)) (sym status ∙ sym (status-is z B a m s) ∙ e)))
           (λ q. refl)),
       λ some.
           let fourteen : cleanRefusal narrow s ≡ 14 = chain-goes-on narrow s fit _ ∙ fails 14 (noLeftovers narrow s) [] (leftovers-exact narrow s .1 some) in
@@ -216,7 +226,7 @@ module _ (z : Size) (B : ℕ) (a m s : List ℕ) (bytes : Bytes s) where
       tests = bufferTests z B (length a) m (length s)
 
       rest : List Test
-      rest = listTests z B a m (chainEntries narrow s)
+      rest = listTests (sheetLayout z) (whole B) a m (chainEntries narrow s)
 
       go : (p : Bool) → eqb (chainRefusal narrow s) 0 ≡ p → (q : Bool) → eqb (length s) 98 ≡ q → followStatus z B a m t ≡ looseStatus z B a m s
       go false unfit q e =
@@ -233,11 +243,11 @@ module _ (z : Size) (B : ℕ) (a m s : List ℕ) (bytes : Bytes s) where
           let taken = tidy-takes narrow s .1 (eqb-true (length s) 98 long, accepted) in
           let tidied = tidy-demand narrow (omega arith) (omega arith) s bytes taken in
           let same : length t ≡ length s = tidied .form .long ∙ sym (eqb-true (length s) 98 long) in
-          ap (λ (n : ℕ). refusal (bufferTests z B (length a) m n ++ (cleanTests narrow t ++ listTests z B a m (chainEntries narrow t)))) same
+          ap (λ (n : ℕ). refusal (bufferTests z B (length a) m n ++ (cleanTests narrow t ++ listTests (sheetLayout z) (whole B) a m (chainEntries narrow t)))) same
           ∙ refusal-rest tests _ _
-          (clean-goes-on narrow t (tidied .clean) _ ∙ ap (λ (w : List Entry). refusal (listTests z B a m w)) lists-kept ∙ sym (chain-goes-on narrow s accepted rest))
+          (clean-goes-on narrow t (tidied .clean) _ ∙ ap (λ (w : List Entry). refusal (listTests (sheetLayout z) (whole B) a m w)) lists-kept ∙ sym (chain-goes-on narrow s accepted rest))
 
   -- Follow after tidy gives what follow gives where leftovers are ignored.
   pub follow-tidied : let k = looseStatus z B a m s in
-      Gives z B a m (tidySheet narrow s) (listOutcome k (chainEntries narrow s)) (listArray z B a m k (chainEntries narrow s))
+      Gives z B a m (tidySheet narrow s) (listOutcome k (chainEntries narrow s)) (listArray (sheetLayout z) (whole B) a m k (chainEntries narrow s))
   follow-tidied = rw lists-kept at (follow-given z B a m (tidySheet narrow s) (looseStatus z B a m s) tidied-status)

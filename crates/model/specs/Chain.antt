@@ -20,7 +20,7 @@ kindOf s = getD s 0 0
 abbrev pub firstNumber : List ℕ → ℕ
 firstNumber s = getD s 1 0
 
--- Record k: its disk and its stripe, and the number of the next record.
+-- Record k, from 1 on: its disk and its stripe, and the number of the next record.
 unfoldable pub entryAt : Format → List ℕ → ℕ → Entry
 entryAt f s k = record { disk = numberAt (f .diskBytes) s (recordAt f k); stripe = getD s (recordAt f k + f .diskBytes) 0 }
 
@@ -51,13 +51,14 @@ unfoldable pub different : List ℕ → Bool
 different [] = true
 different (j ∷ js) = not (among j js) && different js
 
--- What refusal 10 tests: the kind is that of repairs, and no number exceeds that of the last record.
-unfoldable pub numbersFit : Format → List ℕ → Bool
-numbersFit f s = eqb (kindOf s) (f .repairKind) && within (f .records) (chainNumbers f s)
-
--- The tests of a chain that is to list repairs: 10, and 13 where a record is reached twice. Both are of the whole chain.
+-- The tests of a chain that is to list repairs: the kind is that of repairs, no number exceeds that of the last record, and no record
+-- is reached twice.
 unfoldable pub chainTests : Format → List ℕ → List Test
-chainTests f s = 10 unless numbersFit f s ∷ 13 unless different (chainNumbers f s) ∷ []
+chainTests f s =
+    10 unless eqb (kindOf s) (f .repairKind)
+    ∷ 10 unless within (f .records) (chainNumbers f s)
+    ∷ 13 unless different (chainNumbers f s)
+    ∷ []
 
 unfoldable pub chainRefusal : Format → List ℕ → ℕ
 chainRefusal f s = refusal (chainTests f s)

@@ -41,7 +41,8 @@ unfoldable pub numberAt : (n : ℕ) → List ℕ → ℕ → ℕ
 numberAt zero s i = 0
 numberAt (suc n) s i = getD s i 0 + 256 * numberAt n s (suc i)
 
--- The number of record k, its disk and its stripe, and so on: a record ends with the number of the next, and 0 ends the chain.
+-- The number of record k, which stands before it, its disk and its stripe, and so on: a record ends with the number of the next, and
+-- 0 ends the chain.
 unfoldable pub chainBytes : Format → ℕ → List Entry → List ℕ
 chainBytes f k [] = 0 ∷ []
 chainBytes f k (r ∷ rs) = k ∷ (numberBytes (f .diskBytes) (r .disk) ++ (r .stripe ∷ chainBytes f (suc k) rs))

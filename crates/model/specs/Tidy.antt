@@ -24,17 +24,19 @@ tidyForm f s = sheetOf f (f .repairKind) (chainEntries f s)
 unfoldable pub tidySheet : Format → List ℕ → List ℕ
 tidySheet f s = cond (eqb (tidyStatus f s) 0) (tidyForm f s) s
 
--- A tidy sheet: the call takes it, and it is its own tidy form.
+-- A tidy sheet: the call takes it, and it has the records of its chain as records 1, 2, 3 and zeros elsewhere.
 abbrev pub Tidy : Format → List ℕ → Type 0
-Tidy f s = (tidyStatus f s ≡ 0) × (tidyForm f s ≡ s)
+Tidy f s = (tidyStatus f s ≡ 0) × SheetBytes f (f .repairKind) (chainEntries f s) s
 
 -- What is asked of the sheet t that a sheet s becomes.
 pub record TidyDemand (f : Format) (s t : List ℕ) : Type 0 where
-  -- It has the records of the chain as records 1, 2, 3 in the chain's order, and zeros elsewhere,
+  -- It has the records of the chain of s as records 1, 2, 3 in the chain's order, and zeros elsewhere,
   pub form : SheetBytes f (f .repairKind) (chainEntries f s) t
   -- it lists the same disks and stripes in the same order,
   pub lists : chainEntries f t ≡ chainEntries f s
-  -- it is tidy, so that tidying it changes nothing,
+  -- it is tidy,
   pub tidy : Tidy f t
-  -- and it has no leftovers: 10, 13 and 14 let it through.
+  -- tidying it changes nothing,
+  pub stays : tidySheet f t ≡ t
+  -- and 10, 13 and 14 let it through.
   pub clean : cleanRefusal f t ≡ 0

@@ -7,9 +7,11 @@ use native.Mathlib.Omega.{arith}
 use mir.Facts.{fits-widen}
 use borrow.Author.Needs.{needs}
 use lib.ListN.{length, length-set}
+use Rattle.model.specs.Sheet.{narrow}
+use Rattle.model.proofs.Chain.{kind-refused}
 use Rattle.reader.specs.declared.Found.the-variants.{Record}
 use Rattle.reader.specs.Found.{foundAt}
-use Rattle.chain.proofs.Listed.{Listed, listed-none, listed-small, listed-place, listed-next, listed-all, number-outside, ring-read, none-found, other-kind, answered}
+use Rattle.chain.proofs.Listed.{Listed, listed-none, listed-small, listed-place, listed-next, listed-all, number-outside, ring-read, none-found, answered}
 use Rattle.chain.proofs.read.Statement.{statement}
 use Rattle.chain.proofs.read.Tie as tie
 
@@ -24,7 +26,7 @@ shared-slice-read-if1 : tie.Need-shared-slice-read-if1 Inv-loop μ-loop
 shared-slice-read-if1 c = search needs
 
 returns : tie.Need-returns Inv-loop μ-loop
-returns c = answered _ _ _ 10 (other-kind _ (c .if1 .taken)) (λ e. omega arith)
+returns c = answered _ _ _ 10 (kind-refused narrow _ (c .if1 .taken)) (λ e. omega arith)
 
 shared-slice-read-number : tie.Need-shared-slice-read-number Inv-loop μ-loop
 shared-slice-read-number c = search needs

@@ -34,7 +34,10 @@ returns c =
       (
         (sheet, sheet₂),
         (
-          λ taken. rw sheet (tidy-demand narrow (omega arith) (omega arith) _ one (sym status ∙ taken)),
+          (
+            λ taken. rw sheet (tidy-demand narrow (omega arith) (omega arith) _ one (sym status ∙ taken)),
+            λ taken. rw sheet₂ (tidy-demand narrow (omega arith) (omega arith) _ other (sym status₂ ∙ taken)),
+          ),
           λ taken taken₂.
               rw (sheet, sheet₂) (same-form narrow (omega arith) (omega arith) _ _ one other (sym status ∙ taken) (sym status₂ ∙ taken₂)),
         ),
