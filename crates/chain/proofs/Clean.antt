@@ -15,7 +15,7 @@ use Rattle.model.specs.Sheet.{narrow}
 use Rattle.model.specs.Chain.{chainNumbers, chainRefusal, recordNumber, onChain, noLeftovers, cleanRefusal, chainEntries}
 use Rattle.model.proofs.Chain.{clean-first, clean-exact, chain-clean}
 use Rattle.entries.specs.Listed.{listed}
-use Rattle.chain.specs.Read.{marked, chainRead}
+use Rattle.chain.specs.Read.{marked, inOrder, chainRead}
 use Rattle.chain.specs.declared.Chain.{Chain}
 use Rattle.chain.specs.declared.Chain.the-variants.{Records, Refused}
 
@@ -67,13 +67,13 @@ refused s l r v answer e =
 module _ (s l m : List ℕ) (r : Chain) (count : ℕ) (answer : r ≡ chainRead (chainRefusal narrow s) s) (e : r ≡ Records count)
     (lists : chainRefusal narrow s ≡ 0 → listed l (length (chainEntries narrow s)) ≡ chainEntries narrow s)
     (marks : chainRefusal narrow s ≡ 0 → (j : ℕ) → marked m j ≡ among j (chainNumbers narrow s))
-    (b : Bool) (rest : b ≡ every 98 (λ i. (ltb i 2 || marked m (recordNumber narrow i)) || eqb (getD s i 0) 0)) where
+    (b : Bool) (rest : b ≡ every 98 (inOrder m s)) where
   fits : chainRefusal narrow s ≡ 0
   fits = by-records (chainRefusal narrow s) s r answer count e .0
 
   -- The marks tell which bytes are on the chain.
   off-chain : b ≡ noLeftovers narrow s
-  unfolding noLeftovers onChain
+  unfolding noLeftovers onChain inOrder
   off-chain = rest ∙ every-ext 98 (λ i h. ap (λ (t : Bool). (ltb i 2 || t) || eqb (getD s i 0) 0) (marks fits (recordNumber narrow i)))
 
   -- Something is left over,

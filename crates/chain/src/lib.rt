@@ -1,15 +1,14 @@
 // The chain of a sheet from elsewhere, which may visit its records in any order, and what stands off it.
 ghost use mathlib.Core.Path.{_≡_};
-ghost use mathlib.Core.Bool.{_||_, false};
-ghost use Prim.Native.Nat.{ℕ, _≤_, _<_};
-ghost use lib.Dec.{eqb, ltb};
-ghost use lib.ListN.{length, getD};
+ghost use mathlib.Core.Bool.{false};
+ghost use Prim.Native.Nat.{ℕ, _+_, _≤_, _<_};
+ghost use lib.ListN.{length};
 ghost use Rattle.stripes.specs.Fold.{every};
 ghost use Rattle.stripes.specs.System.{among};
 ghost use Rattle.entries.specs.Listed.{listed};
 ghost use Rattle.model.specs.Sheet.{narrow, sheetBytes};
-ghost use Rattle.model.specs.Chain.{chainNumbers, chainRefusal, cleanRefusal, recordNumber, chainEntries};
-ghost use Rattle.chain.specs.Read.{marked, chainRead};
+ghost use Rattle.model.specs.Chain.{chainNumbers, chainRefusal, cleanRefusal, chainEntries};
+ghost use Rattle.chain.specs.Read.{marked, inOrder, chainRead};
 use reader::Found;
 
 // What a sheet lists.
@@ -64,23 +63,40 @@ pub fn read(sheet: &[u8], list: &mut [u32], marks: &mut [u8]) -> Chain
     Chain::Refused(13)
 }
 
-// Whether every byte is zero that is in no record marked. The first two bytes of a sheet are in no record and may hold anything.
-pub fn rest_is_zero(sheet: &[u8], marks: &[u8]) -> bool
+// Whether each of the 16 bytes from `at` on is zero or in a record that is marked.
+fn group_in_order(sheet: &[u8], marks: &[u8], at: usize) -> bool
     requires { ⌜ length (now sheet) ≡ sheetBytes narrow ⌝ }
     requires { ⌜ narrow .records < length (now marks) ⌝ }
-    ensures { λ r. ⌜
-        r ≡ every (sheetBytes narrow)
-        (λ i. (ltb i 2 || marked (now (marks .entry)) (recordNumber narrow i)) || eqb (getD (now (sheet .entry)) i 0) 0)
-        ⌝ }
+    requires { ⌜ (2 ≤ at) × (at + 16 ≤ sheetBytes narrow) ⌝ }
+    ensures { λ r. ⌜ r ≡ every 16 (λ j. inOrder (now (marks .entry)) (now (sheet .entry)) (at + j)) ⌝ }
 {
-    let mut i = 2;
-    while i < sheet::BYTES {
-        if sheet[i] != 0 {
-            if marks[(i - 2) / sheet::RECORD_BYTES + 1] != 1 {
+    let mut j = 0;
+    while j < 16 {
+        if sheet[at + j] != 0 {
+            if marks[(at + j - 2) / sheet::RECORD_BYTES + 1] != 1 {
                 return false;
             }
         }
-        i += 1;
+        j += 1;
+    }
+    true
+}
+
+// Whether every byte is zero that is in no record marked. The first two bytes of a sheet are in no record and may hold anything.
+// Most of a sheet is zero, and so it is gone over by groups of 16 bytes.
+pub fn rest_is_zero(sheet: &[u8], marks: &[u8]) -> bool
+    requires { ⌜ length (now sheet) ≡ sheetBytes narrow ⌝ }
+    requires { ⌜ narrow .records < length (now marks) ⌝ }
+    ensures { λ r. ⌜ r ≡ every (sheetBytes narrow) (inOrder (now (marks .entry)) (now (sheet .entry))) ⌝ }
+{
+    let mut at = 2;
+    while at < sheet::BYTES {
+        if !zeros::all_zero16(sheet, at) {
+            if !group_in_order(sheet, marks, at) {
+                return false;
+            }
+        }
+        at += 16;
     }
     true
 }

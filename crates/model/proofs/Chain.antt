@@ -26,15 +26,15 @@ use Rattle.model.proofs.Refusal.{no-tests, fails, passes, by-test, pass
 use Rattle.model.proofs.Sheets.{Fitting, number-same, sheet-kind, sheet-bytes}
 
 -- ---- lists of numbers
-among-here : (k : ℕ) (ks : List ℕ) → among k (k ∷ ks) ≡ true
+pub among-here : (k : ℕ) (ks : List ℕ) → among k (k ∷ ks) ≡ true
 unfolding among
 among-here k ks = ap (λ (b : Bool). b || among k ks) (eq-eqb k k refl)
 
-among-there : (k j : ℕ) (ks : List ℕ) → among k ks ≡ true → among k (j ∷ ks) ≡ true
+pub among-there : (k j : ℕ) (ks : List ℕ) → among k ks ≡ true → among k (j ∷ ks) ≡ true
 unfolding among
 among-there k j ks h = ap (λ (b : Bool). eqb k j || b) h ∙ or-true (eqb k j)
 
-among-which : (k j : ℕ) (ks : List ℕ) → among k (j ∷ ks) ≡ true → (k ≡ j) ⊎ (among k ks ≡ true)
+pub among-which : (k j : ℕ) (ks : List ℕ) → among k (j ∷ ks) ≡ true → (k ≡ j) ⊎ (among k ks ≡ true)
 unfolding among
 among-which k j ks =
     by-cases (λ (b : Bool). (b || among k ks) ≡ true → (k ≡ j) ⊎ (among k ks ≡ true)) (eqb k j) (λ e h. inl (eqb-true k j e)) (λ e h. inr h)
@@ -68,7 +68,7 @@ count-listed n t (j ∷ js) inside apart holds =
     omega arith
 
 -- So different numbers from 1 to n are at most n.
-few : (n : ℕ) (ks : List ℕ) → within n ks ≡ true → different ks ≡ true → among 0 ks ≡ false → length ks ≤ n
+pub few : (n : ℕ) (ks : List ℕ) → within n ks ≡ true → different ks ≡ true → among 0 ks ≡ false → length ks ≤ n
 unfolding without
 few n ks inside apart none =
     let less = count-listed n (without (λ i. true) 0) ks inside apart
@@ -90,14 +90,14 @@ module _ (f : Format) (s : List ℕ) where
   entries-append (j ∷ js) ks = ap (λ (w : List Entry). entryAt f s j ∷ w) (entries-append js ks)
 
   -- What is to be shown of the records visited from number k on, by cases: the chain ends there or goes on.
-  visited-cases : (P : List ℕ → Type 0) (n k : ℕ) → (k ≡ 0 → P []) → (0 < k → P (k ∷ visited f s n (nextNumber f s k)))
+  pub visited-cases : (P : List ℕ → Type 0) (n k : ℕ) → (k ≡ 0 → P []) → (0 < k → P (k ∷ visited f s n (nextNumber f s k)))
       → P (visited f s (suc n) k)
   unfolding visited
   visited-cases P n k end on =
       by-cases (λ (b : Bool). P (cond b [] (k ∷ visited f s n (nextNumber f s k)))) (eqb k 0) (λ e. end (eqb-true k 0 e))
       (λ e. on (pos-of-ne-zero (eqb-false k 0 e)))
 
-  visited-next : (n k : ℕ) → 0 < k → visited f s (suc n) k ≡ k ∷ visited f s n (nextNumber f s k)
+  pub visited-next : (n k : ℕ) → 0 < k → visited f s (suc n) k ≡ k ∷ visited f s n (nextNumber f s k)
   visited-next n k h = visited-cases (λ (ks : List ℕ). ks ≡ k ∷ visited f s n (nextNumber f s k)) n k (λ e. absurd (omega arith)) (λ h. refl)
 
   visited-end : (n : ℕ) → visited f s n 0 ≡ []
@@ -106,7 +106,7 @@ module _ (f : Format) (s : List ℕ) where
   visited-end (suc n) = refl
 
   -- Records are numbered from 1.
-  visited-zero : (n k : ℕ) → among 0 (visited f s n k) ≡ false
+  pub visited-zero : (n k : ℕ) → among 0 (visited f s n k) ≡ false
   unfolding visited among
   visited-zero zero k = refl
   visited-zero (suc n) k =
@@ -144,7 +144,7 @@ module _ (f : Format) (s : List ℕ) where
       (among-which j k (visited f s n (nextNumber f s k)) m))
 
   -- So it visits no record twice.
-  visited-different : (n k : ℕ) → length (visited f s n k) < n → different (visited f s n k) ≡ true
+  pub visited-different : (n k : ℕ) → length (visited f s n k) < n → different (visited f s n k) ≡ true
   unfolding different
   visited-different zero k = λ h. absurd (not-suc-le-zero h)
   visited-different (suc n) k =
@@ -260,7 +260,7 @@ module _ (f : Format) (s : List ℕ) where
   chain-few e = let most = fits-few e in let same = entries-length (chainNumbers f s) in omega arith
 
   -- A chain that leads outside ends there: behind the sheet all bytes count as 0.
-  outside-ends : length s ≡ sheetBytes f → (n k : ℕ) → within (f .records) (visited f s n k) ≡ false → visited f s (suc n) k ≡ visited f s n k
+  pub outside-ends : length s ≡ sheetBytes f → (n k : ℕ) → within (f .records) (visited f s n k) ≡ false → visited f s (suc n) k ≡ visited f s n k
   unfolding within visited nextNumber
   outside-ends long zero k = λ out. absurd (true≢false out)
   outside-ends long (suc n) k =
@@ -278,7 +278,7 @@ module _ (f : Format) (s : List ℕ) where
       (λ (l : k ≤ f .records). outside-ends long n (nextNumber f s k) (rw (le-leb k (f .records) l) at out))
       (lt-or-le (f .records) k)))
 
-  visited-few : (n k : ℕ) → length (visited f s n k) ≤ n
+  pub visited-few : (n k : ℕ) → length (visited f s n k) ≤ n
   unfolding visited
   visited-few zero k = zero-le
   visited-few (suc n) k =

@@ -10,6 +10,7 @@ pub mod Demand2
 pub mod Sheets
 pub mod Limits
 pub mod Chain
+pub mod Whole
 pub mod Contents
 pub mod Turns
 pub mod Losses
