@@ -116,10 +116,10 @@
  * the two were swapped, and what it writes is then wrong.
  *
  * Buffers. Each pointer to bytes is followed by its length, but for the sheet
- * of the functions that read one. The caller sees to three things, which no
+ * of raid2d_sheet_kind and its like. The caller sees to three things, which no
  * call can test:
  *
- *   - a pointer is valid for its length, the sheet of a reader for
+ *   - a pointer is valid for its length, the sheet of such a reader for
  *     RAID2D_SHEET_BYTES; it may be NULL where the length is 0;
  *   - an out-parameter points to a size_t, also where the call refuses;
  *   - nothing that is lent to one call overlaps anything else lent to it.
@@ -313,8 +313,8 @@ size_t raid2d_array_bytes(size_t rows, size_t columns, size_t block);
  * A sheet from elsewhere can have any bytes: another kind, on its chain a
  * number that no record has, a chain that comes back to a record and never
  * ends. raid2d_follow and raid2d_tidy refuse such a sheet, and every cycle; the
- * loop above is for what they take. Any other sheet is read with it only up to
- * a number above RAID2D_SHEET_RECORDS, and so many records at most.
+ * loop above is for what they take. For any other sheet it has to stop at a
+ * number above RAID2D_SHEET_RECORDS, and after RAID2D_SHEET_RECORDS records.
  */
 size_t raid2d_sheet_kind(const uint8_t *sheet);
 size_t raid2d_sheet_first(const uint8_t *sheet);
@@ -518,9 +518,9 @@ uint32_t raid2d_plan(size_t rows, size_t columns,
  *
  *   map        which disks are erased: every byte 0 or 1; the bytes of the
  *              disks repaired become 0
- *   sheet      receives the repairs of this turn, or the cycle; raid2d_follow
- *              takes these repairs with a map in which just their disks are
- *              erased, as in that from before this turn if it was the last
+ *   sheet      receives the repairs of this turn, or the cycle; with the map
+ *              from before this turn raid2d_follow makes these repairs if this
+ *              was the last turn, and else returns RAID2D_ERR_REPAIRS
  *   limit      the most repairs for this turn, any number from 1 on
  *   count      receives the number of repairs made, or of undetermined
  *              disks, as from raid2d_plan
@@ -572,9 +572,12 @@ uint32_t raid2d_rebuild(size_t rows, size_t columns, size_t block,
  * RAID2D_FATAL. The sheet is judged as a whole before any block is changed.
  * The map is not cleared.
  *
- * A sheet that is not zero off its chain is refused: somebody may have taken
- * what stands there for repairs. A host that has made sure that only the chain
- * counts calls raid2d_tidy first, and follow then judges just what it lists.
+ * A sheet that is not zero off its chain is refused: another reader may take
+ * what stands there for repairs. A host that knows from the sender that only
+ * the chain counts calls raid2d_tidy first, and follow then judges just what it
+ * lists. Every status but RAID2D_ERR_SURVIVORS follows from the numbers, the
+ * map and the sheet: follow on an array of zeros with a block of 1 tells
+ * whether a sheet will do, before it is followed on the array itself.
  *
  *   sheet      the repairs, each erased disk once
  *   count      receives the number of repairs, which is that of the erased
@@ -593,9 +596,8 @@ uint32_t raid2d_rebuild(size_t rows, size_t columns, size_t block,
  *   RAID2D_ERR_ARRAY_LENGTH
  *   RAID2D_ERR_MAP
  *   RAID2D_ERR_SHEET_LENGTH
- *   RAID2D_ERR_CHAIN         the kind is not 1, or the number of the first
- *                            record or, on the chain, of a next one is above
- *                            32
+ *   RAID2D_ERR_CHAIN         the kind is not 1, or a number on the chain, of
+ *                            the first record or of a next one, is above 32
  *   RAID2D_ERR_RING          the chain reaches a record twice, and so never
  *                            ends
  *   RAID2D_ERR_LEFTOVERS     a byte off the chain is not zero
@@ -621,11 +623,13 @@ uint32_t raid2d_follow(size_t rows, size_t columns, size_t block,
  * raid2d_tidy: rewrite a list of repairs in its tidy form.
  *
  * The records of the chain become the records 1, 2, 3 and so on, in the
- * chain's order, and all that stood off the chain becomes zero. The disks and
- * stripes that the chain lists stay, in their order, and are not judged: any
- * numbers will do. Two sheets that are taken have the same tidy form exactly
- * if they list the same disks and stripes in the same order, so that comparing
- * bytes then compares lists. A sheet that is tidy stays as it is.
+ * chain's order, and every byte behind them becomes zero: what stood off the
+ * chain is lost. The disks and stripes that the chain lists stay, in their
+ * order, and are not judged: any numbers will do. Two sheets that are taken
+ * have the same tidy form exactly if they list the same disks and stripes in
+ * the same order, so that comparing bytes then compares lists, whatever rows
+ * and columns they are for. A sheet that is tidy keeps its bytes. Tidying a
+ * copy tells, without an array, whether a sheet is a list of repairs.
  *
  *   sheet      a list of repairs, which becomes tidy
  *
@@ -635,8 +639,11 @@ uint32_t raid2d_follow(size_t rows, size_t columns, size_t block,
  * Returns the first of these that applies:
  *
  *   RAID2D_ERR_SHEET_LENGTH
- *   RAID2D_ERR_CHAIN         as from raid2d_follow; both give it for a cycle
- *   RAID2D_ERR_RING          as from raid2d_follow
+ *   RAID2D_ERR_CHAIN         the kind is not 1, as that of a cycle, or a number
+ *                            on the chain, of the first record or of a next
+ *                            one, is above 32
+ *   RAID2D_ERR_RING          the chain reaches a record twice, and so never
+ *                            ends
  *   RAID2D_OK                the sheet is tidy
  */
 uint32_t raid2d_tidy(uint8_t *sheet, size_t sheet_len);
