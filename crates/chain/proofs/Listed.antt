@@ -18,7 +18,8 @@ use Rattle.stripes.specs.Repair.{Entry}
 use Rattle.stripes.proofs.Fold.{by-cases}
 use Rattle.model.specs.Sheet.{narrow, numberAt, recordAt}
 use Rattle.model.specs.Chain.{entryAt, chainNumbers, chainRefusal, entriesAt, chainEntries}
-use Rattle.model.proofs.Chain.{among-snoc, entries-append, entries-length, Walked, walked-first, walked-next, walked-end, walked-outside, walked-ring}
+use Rattle.model.proofs.Visited.{among-snoc, entries-append, entries-length}
+use Rattle.model.proofs.Chain.{Walked, walked-first, walked-next, walked-end, walked-outside, walked-ring}
 use Rattle.entries.specs.Listed.{wordOf, listed}
 use Rattle.entries.proofs.Words.{listed-put}
 use Rattle.reader.specs.Found.{foundAt}

@@ -9,8 +9,9 @@ pub mod Accept
 pub mod Demand2
 pub mod Sheets
 pub mod Limits
-pub mod Chain
+pub mod Visited
 pub mod Whole
+pub mod Chain
 pub mod Contents
 pub mod Turns
 pub mod Losses

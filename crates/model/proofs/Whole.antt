@@ -13,7 +13,7 @@ use Rattle.stripes.specs.System.{among}
 use Rattle.stripes.proofs.Fold.{and-left, and-right, and-both, by-cases}
 use Rattle.model.specs.Sheet.{Format, sheetBytes}
 use Rattle.model.specs.Chain.{nextNumber, visited, chainNumbers, within, different}
-use Rattle.model.proofs.Chain.{among-here, among-there, among-which, few, visited-cases, visited-next, visited-zero, visited-few, visited-different, outside-ends}
+use Rattle.model.proofs.Visited.{among-here, among-there, among-which, few, visited-cases, visited-next, visited-zero, visited-few, visited-different, outside-ends}
 
 -- If no number of a list exceeds n, then one that stands in it does not,
 within-at : (n : ℕ) (ks : List ℕ) → within n ks ≡ true → (k : ℕ) → among k ks ≡ true → leb k n ≡ true
