@@ -184,6 +184,20 @@ static void run_example(const struct example *e, uint8_t off_chain)
     end_call(&c);
 }
 
+/* The header's trial: an array of zeros is sealed, and follow gives there the
+   status that it gives for any array whose survivors agree. */
+static void run_trial(const struct example *e, uint8_t off_chain)
+{
+    struct call c = call_of(e, off_chain);
+    int refused = e->status == 10 || e->status == 13;
+    size_t status = off_chain != 0 && !refused ? 14 : e->status;
+
+    memset(c.array.bytes, 0, c.array.len);
+    expect_as_now(&c);
+    expect_run(&c, status, status == 0 ? e->count : OUT_BEFORE, e->what);
+    end_call(&c);
+}
+
 /* With the most disks erased that can be repaired, no survivors contradict each
    other. */
 static int can_contradict(const struct example *e)
@@ -215,6 +229,7 @@ void test_sheets(void)
     for (i = 0; i < sizeof examples / sizeof examples[0]; i++)
         for (k = 0; k < 2; k++) {
             run_example(&examples[i], off_chain[k]);
+            run_trial(&examples[i], off_chain[k]);
             if (can_contradict(&examples[i]))
                 run_contradiction(&examples[i], off_chain[k]);
         }

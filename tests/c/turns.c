@@ -29,6 +29,21 @@ static void expect_repair(struct call *c, size_t disk, size_t stripe)
     c->map.expected[disk] = 0;
 }
 
+/* On the map from before a turn its list is one for follow if the turn was the
+   last. After any other disks stay erased. */
+static void expect_follow(const struct call *turn, const uint8_t *before,
+                          size_t made, int last, const char *what)
+{
+    struct call c = fitting_call(FOLLOW, turn->size);
+
+    memcpy(c.array.bytes, turn->array.bytes, c.array.len);
+    memcpy(c.map.bytes, before, c.map.len);
+    memcpy(c.sheet.bytes, turn->sheet.bytes, c.sheet.len);
+    expect_as_now(&c);
+    expect_run(&c, last ? 0 : 11, last ? made : OUT_BEFORE, what);
+    end_call(&c);
+}
+
 /* One turn, which begins with this number of the list. If it makes the last
    repair and the survivors do not agree, it refuses by 7: the blocks of its
    disks and the sheet are zero, and the map keeps its bytes. To tidy changes
@@ -37,9 +52,11 @@ static void expect_repair(struct call *c, size_t disk, size_t stripe)
 static size_t expect_turn(struct call *c, const struct repairs *list,
                           size_t from, int agree, const char *what)
 {
+    uint8_t before[DISKS];
     size_t left = list->count - from;
     size_t to = from + (c->limit < left ? c->limit : left), k;
 
+    memcpy(before, c->map.bytes, c->map.len);
     fill(c->sheet.bytes, c->sheet.len);
     expect_as_now(c);
     if (to == list->count && !agree) {
@@ -54,6 +71,7 @@ static size_t expect_turn(struct call *c, const struct repairs *list,
     expect_list(c, list, from, to);
     expect_run(c, 0, to - from, what);
     expect_tidy(c->sheet.bytes, 0, c->sheet.bytes, what);
+    expect_follow(c, before, to - from, to == list->count, what);
     return to;
 }
 
