@@ -11,14 +11,14 @@ use borrow.Author.Tests.{ne-eqb, eqb-true, eqb-false}
 use lib.Dec.{eqb}
 use lib.ListN.{length, getD}
 use Rattle.stripes.specs.Fold.{count}
-use Rattle.stripes.specs.System.{among, whole, Codeword, Bytes, consistent}
+use Rattle.stripes.specs.System.{whole, Codeword, Bytes, consistent}
 use Rattle.stripes.specs.Erased.{erasures, Agree, Belongs}
 use Rattle.stripes.specs.Repair.{Entry, repairs, fatal, rebuilt, zeroed, clears}
 use Rattle.stripes.specs.Cycle.{shownCycle}
 use Rattle.model.specs.Grid.{disks, sizeFits}
 use Rattle.model.specs.Refusal.{refusal}
 use Rattle.model.specs.Sheet.{Format, sheetOf, narrow, sheetBytes}
-use Rattle.model.specs.Chain.{within, chainTests, chainRefusal, noLeftovers, cleanTests, cleanRefusal, chainEntries}
+use Rattle.model.specs.Chain.{within, noLeftovers, cleanTests, cleanRefusal, chainEntries}
 use Rattle.model.specs.Plan.{planTests, outcomeStatus, lossSheet, planSheet, sheetLayout}
 use Rattle.model.specs.Turn.{Turn, lossTold, contradiction, repairsMade, turnOf, wholeRebuild}
 use Rattle.model.specs.Rebuild.{bufferTests, bufferRefusal, rebuildRefusal, rebuildTurn}

@@ -1,13 +1,13 @@
 -- Tidy sheets: what comes of a sheet from elsewhere, in the words of paper 02, P4, for every format and every sheet. Where a theorem
 -- asks for `Bytes s`, the sheet's numbers are bytes, as those of a lent buffer are.
 -- Assumes nothing.
-use mathlib.Core.Path.{_≡_, refl, sym, _∙_, ap, subst}
+use mathlib.Core.Path.{_≡_, refl, sym, _∙_, ap}
 use mathlib.Core.Bool.{Bool, true, false, cond}
 use mathlib.Core.Logic.{_↔_}
 use mathlib.Core.List.{List, [], _∷_, _++_, append-assoc}
 use Prim.Native.Nat.{ℕ, zero, suc, _+_, _^_, _≤_, _<_}
 use native.Mathlib.Omega.{arith}
-use borrow.Author.Tests.{eq-eqb, ne-eqb, eqb-true, eqb-false}
+use borrow.Author.Tests.{eq-eqb, eqb-true, eqb-false}
 use lib.Dec.{eqb}
 use lib.ListN.{length, getD, take}
 use Rattle.stripes.specs.System.{Layout, whole, Bytes, consistent}
@@ -18,18 +18,16 @@ use Rattle.stripes.proofs.Peel.{repairs-peels}
 use Rattle.stripes.proofs.Split.{peels-take}
 use Rattle.model.specs.Grid.{sizeFits}
 use Rattle.model.specs.Refusal.{Test, refusal}
-use Rattle.model.specs.Sheet.{Format, narrow, recordAt, sheetBytes, sheetOf, SheetBytes}
+use Rattle.model.specs.Sheet.{Format, narrow, recordAt, sheetBytes, sheetOf}
 use Rattle.model.specs.Chain.{entryAt, chainNumbers, chainTests, chainRefusal, onChain, noLeftovers, Leftover, cleanTests, cleanRefusal, entriesAt, chainEntries}
 use Rattle.model.specs.Tidy.{tidyTests, tidyStatus, tidyForm, tidySheet, Tidy, TidyDemand}
-use Rattle.model.specs.Plan.{planTests, planOutcome, planSheet, outcomeStatus, lossOutcome, lossSheet, sheetLayout}
+use Rattle.model.specs.Plan.{planTests, planSheet, outcomeStatus, lossOutcome, lossSheet, sheetLayout}
 use Rattle.model.specs.Turn.{lossTold, contradiction, repairsMade, turnRepairs, contradicts, turnOf}
 use Rattle.model.specs.Rebuild.{bufferTests, bufferRefusal, rebuildRefusal, rebuildTurn}
 use Rattle.model.specs.Follow.{listTests, followStatus, followTests, listOutcome, listArray, followOutcome, looseStatus}
 use Rattle.model.specs.declared.Size.{Size}
-use Rattle.model.specs.declared.Outcome.{Outcome}
-use Rattle.model.specs.declared.Outcome.the-variants.{Repairs, Refused}
-use Rattle.model.proofs.Refusal.{given-accepted, given-refused, fails, passes, by-test, passed, refused-first, refusal-rest, no-tests}
-use Rattle.model.proofs.Accept.{buffers-fit, buffers-passed, rebuild-fits}
+use Rattle.model.proofs.Refusal.{given-accepted, given-refused, fails, passes, passed, refused-first, refusal-rest}
+use Rattle.model.proofs.Accept.{buffers-fit, rebuild-fits}
 use Rattle.model.proofs.Sheets.{Fitting, Small, small, number-small, sheet-length, sheet-bytes, sheet-is}
 use Rattle.model.proofs.Limits.{peels-fitting}
 use Rattle.model.proofs.Chain.{chain-few, chain-goes-on, clean-exact, clean-goes-on, leftovers-exact, written-chain, off-chain}

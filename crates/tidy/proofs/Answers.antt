@@ -1,6 +1,6 @@
 -- What tidy answers and leaves of the sheet at each of its ends.
 -- Assumes nothing.
-use mathlib.Core.Path.{_≡_, sym, _∙_, ap, ap₂}
+use mathlib.Core.Path.{_≡_, sym, _∙_, ap}
 use mathlib.Core.List.{List}
 use Prim.Native.Nat.{ℕ}
 use native.Mathlib.Omega.{arith}
@@ -8,7 +8,6 @@ use borrow.Author.Tests.{eq-eqb, ne-eqb}
 use lib.Dec.{eqb}
 use lib.ListN.{length}
 use Rattle.stripes.specs.System.{Bytes}
-use Rattle.stripes.specs.Repair.{Entry}
 use Rattle.model.specs.Sheet.{narrow, sheetOf}
 use Rattle.model.specs.Chain.{chainTests, chainRefusal, chainEntries}
 use Rattle.model.specs.Tidy.{tidyTests, tidyStatus, tidyForm, tidySheet}

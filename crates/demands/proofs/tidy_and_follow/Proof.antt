@@ -1,8 +1,6 @@
 -- `demands::tidy_and_follow` meets its contract: what the two calls promise is what the theorem about both is proved of.
 -- Assumes nothing.
-use mathlib.Core.Path.{_≡_, _∙_, ap}
-use mathlib.Core.List.{List}
-use Prim.Native.Nat.{ℕ}
+use mathlib.Core.Path.{_∙_, ap}
 use native.Mathlib.Omega.{arith}
 use borrow.Author.Needs.{needs}
 use Rattle.stripes.specs.System.{Bytes}

@@ -1,6 +1,6 @@
 -- `demands::tidy_sheets` meets its contract: what tidy promises is what the theorems about it are proved of.
 -- Assumes nothing.
-use mathlib.Core.Path.{_≡_, sym, _∙_}
+use mathlib.Core.Path.{sym, _∙_}
 use native.Mathlib.Omega.{arith}
 use borrow.Author.Needs.{needs}
 use Rattle.stripes.specs.System.{Bytes}
