@@ -50,7 +50,7 @@ int warn(ratio_table ratios)
     return warnings;
 }
 
-static void print_titled(const char *title, const char *what, double ratio)
+void print_titled(const char *title, const char *what, double ratio)
 {
     printf("%-28s %-28s %6.2f\n", title, what, ratio);
 }

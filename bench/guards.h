@@ -17,6 +17,7 @@ void print_ratio(struct size size, const char *what, double ratio);
 int judge(struct size size, const char *what, double ratio, double most);
 
 /* The same of other work, with the words that the line begins with. */
+void print_titled(const char *title, const char *what, double ratio);
 int judge_titled(const char *title, const char *what, double ratio, double most);
 
 #endif

@@ -21,7 +21,7 @@ struct input {
     /* The copy of the map that rebuild is lent, in which it marks its repairs, and its limit. */
     uint8_t *lent;
     size_t limit;
-    /* The new block of a write, and its disk. */
+    /* The new block of a write, and its disk, or the disk that a plan is for. */
     uint8_t *data;
     size_t disk;
     /* What the last call returned and gave. */

@@ -9,8 +9,23 @@
 #include "tidied.h"
 #include "timing.h"
 #include "turns.h"
+#include "wanted.h"
 
 #include <stdio.h>
+#include <string.h>
+
+/* What is timed besides the table of calls. The name of a part as the program's argument has it timed by itself. */
+static const struct part {
+    const char *name;
+    int (*agrees)(void);
+    int (*compare)(struct input *input);
+} parts[] = {
+    {"repairs", peers_agree, compare_places}, {"follow", follow_agrees, compare_follow},
+    {"tidy", tidy_agrees, compare_tidy},      {"turns", turns_agree, compare_turns},
+    {"save", save_agrees, compare_save},      {"wanted", wanted_agrees, compare_wanted},
+};
+
+enum { PARTS = sizeof parts / sizeof *parts };
 
 static void print_head(void)
 {
@@ -53,34 +68,59 @@ static void measure_all(struct input *input, ratio_table ratios)
     }
 }
 
-int main(void)
+/* All calls and all parts; how many limits were passed. */
+static int compare_all(struct input *input)
 {
     static ratio_table ratios;
-    struct input input;
-    int warnings;
-    if (!peers_agree() || !follow_agrees() || !tidy_agrees() || !turns_agree() || !save_agrees()) {
-        puts("Nothing is timed.");
-        return 1;
-    }
+    int warnings = 0;
     puts("All peers give the library's results.");
     print_head();
+    measure_all(input, ratios);
+    for (size_t p = 0; p < PARTS; p++) {
+        puts("");
+        warnings += parts[p].compare(input);
+    }
+    puts("");
+    print_speeds(input);
+    puts("");
+    return warnings + warn(ratios);
+}
+
+/* The number of a part, or how many there are. */
+static size_t find_part(const char *name)
+{
+    size_t p = 0;
+    while (p < PARTS && strcmp(parts[p].name, name) != 0)
+        p++;
+    return p;
+}
+
+/* Whether the results of these parts are right. The first part sees to the whole table, which has its call. */
+static int parts_agree(size_t first, size_t last)
+{
+    for (size_t p = first; p <= last; p++) {
+        if (!parts[p].agrees()) {
+            puts("Nothing is timed.");
+            return 0;
+        }
+    }
+    return 1;
+}
+
+int main(int argc, char **argv)
+{
+    struct input input;
+    size_t part = argc > 1 ? find_part(argv[1]) : 0;
+    int warnings;
+    if (part == PARTS) {
+        fprintf(stderr, "bench: there is no part %s\n", argv[1]);
+        return 1;
+    }
+    if (!parts_agree(part, argc > 1 ? part : PARTS - 1))
+        return 1;
     input_open(&input);
-    measure_all(&input, ratios);
-    puts("");
-    warnings = compare_places(&input);
-    puts("");
-    warnings += compare_follow(&input);
-    puts("");
-    warnings += compare_tidy(&input);
-    puts("");
-    warnings += compare_turns(&input);
-    puts("");
-    warnings += compare_save(&input);
-    puts("");
-    print_speeds(&input);
+    warnings = argc > 1 ? parts[part].compare(&input) : compare_all(&input);
     input_close(&input);
-    puts("");
-    warnings += warn(ratios);
     if (warnings == 0)
         puts("All guarded ratios are within their limits.");
     return 0;

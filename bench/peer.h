@@ -16,6 +16,8 @@ typedef uint32_t write_call(size_t rows, size_t columns, size_t block, uint8_t *
                             const uint8_t *data, size_t data_len);
 typedef uint32_t plan_call(size_t rows, size_t columns, const uint8_t *map, size_t map_len, uint8_t *sheet,
                            size_t sheet_len, size_t *count);
+typedef uint32_t plan_disk_call(size_t rows, size_t columns, const uint8_t *map, size_t map_len, uint8_t *sheet,
+                                size_t sheet_len, size_t disk, size_t *count);
 typedef uint32_t rebuild_call(size_t rows, size_t columns, size_t block, uint8_t *array, size_t array_len, uint8_t *map,
                               size_t map_len, uint8_t *sheet, size_t sheet_len, size_t limit, size_t *count);
 typedef uint32_t tidy_call(uint8_t *sheet, size_t sheet_len);
@@ -42,8 +44,9 @@ extern const struct peer peers[PEERS];
 /* The tuned peer also plans for those that only differ in how they sum. */
 plan_call tuned_plan;
 
-/* Of tidy there are plain loops only. */
+/* Of tidy, and of a plan for one disk, there are plain loops only. */
 tidy_call plain_tidy;
+plan_disk_call plain_plan_disk;
 
 /* What the calls return besides 0, and the stripe of column 0, in the numbers of the C interface. */
 enum { SEALED = 0, FATAL = 6, CONTRADICTORY = 7, NOT_SEALED = 64, FIRST_COLUMN = 16 };

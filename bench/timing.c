@@ -41,10 +41,10 @@ static int by_value(const void *a, const void *b)
     return (x > y) - (x < y);
 }
 
-static double median_of(double samples[SAMPLES])
+static double median_of(double *samples, size_t count)
 {
-    qsort(samples, SAMPLES, sizeof samples[0], by_value);
-    return samples[SAMPLES / 2];
+    qsort(samples, count, sizeof samples[0], by_value);
+    return samples[count / 2];
 }
 
 static double samples[PEERS][SAMPLES];
@@ -57,7 +57,7 @@ void time_peers(const struct call *call, struct input *input, double medians[PEE
             if (takes_part(&peers[p], call, input->size))
                 samples[p][i] = sample(call, &peers[p], input, repeats);
     for (size_t p = 0; p < PEERS; p++)
-        medians[p] = takes_part(&peers[p], call, input->size) ? median_of(samples[p]) : 0;
+        medians[p] = takes_part(&peers[p], call, input->size) ? median_of(samples[p], SAMPLES) : 0;
 }
 
 void time_maps(const struct call *call, struct input *input, const size_t *kinds, size_t count, double *medians)
@@ -70,7 +70,23 @@ void time_maps(const struct call *call, struct input *input, const size_t *kinds
         }
     }
     for (size_t k = 0; k < count; k++)
-        medians[k] = median_of(samples[k]);
+        medians[k] = median_of(samples[k], SAMPLES);
+}
+
+void time_disks(const struct call *call, struct input *input, const size_t *disks, size_t count, double *medians)
+{
+    static double rounds[DISKS_MAX][DISK_SAMPLES];
+    size_t repeats;
+    input->disk = disks[0];
+    repeats = repeats_for(call, input);
+    for (size_t i = 0; i < DISK_SAMPLES; i++) {
+        for (size_t k = 0; k < count; k++) {
+            input->disk = disks[k];
+            rounds[k][i] = sample(call, &peers[LIBRARY], input, repeats);
+        }
+    }
+    for (size_t k = 0; k < count; k++)
+        medians[k] = median_of(rounds[k], DISK_SAMPLES);
 }
 
 void time_calls(const struct call *const *list, size_t count, struct input *input, double *medians)
@@ -80,7 +96,7 @@ void time_calls(const struct call *const *list, size_t count, struct input *inpu
         for (size_t k = 0; k < count; k++)
             samples[k][i] = sample(list[k], &peers[LIBRARY], input, repeats);
     for (size_t k = 0; k < count; k++)
-        medians[k] = median_of(samples[k]);
+        medians[k] = median_of(samples[k], SAMPLES);
 }
 
 double time_call(const struct call *call, struct input *input)
@@ -88,5 +104,5 @@ double time_call(const struct call *call, struct input *input)
     size_t repeats = repeats_for(call, input);
     for (size_t i = 0; i < SAMPLES; i++)
         samples[LIBRARY][i] = sample(call, &peers[LIBRARY], input, repeats);
-    return median_of(samples[LIBRARY]) / (double)repeats;
+    return median_of(samples[LIBRARY], SAMPLES) / (double)repeats;
 }

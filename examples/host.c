@@ -4,11 +4,12 @@
  * It draws the numbers of disks and stripes, fills an array while the
  * superparity is not there yet, writes a block, loses disks and gets them
  * back, follows a list of repairs that came from elsewhere, repairs two disks
- * at a time between the machine's cuts, meets a survivor that was changed
- * behind its back, saves what can be saved of a cabinet with nine dead cards,
- * tidies a sheet that came by mail, and meets in the end a loss that nothing
- * brings back. `make example` builds and runs it, and examples/host.expected
- * has what it prints.
+ * at a time between the machine's cuts, repairs first the one disk that is
+ * wanted at the counter, meets a survivor that was changed behind its back,
+ * saves what can be saved of a cabinet with nine dead cards, tidies a sheet
+ * that came by mail, and meets in the end a loss that nothing brings back.
+ * `make example` builds and runs it, and examples/host.expected has what it
+ * prints.
  *
  * It is C99 and C++. Whatever it gets back is compared with what was stored:
  * the exit status is 0 only if all went as it should.
@@ -21,7 +22,7 @@
 /* 3 rows and 4 columns of data disks with blocks of 8 bytes; with the parities
    4 rows of 5 disks. */
 enum { ROWS = 3, COLUMNS = 4, BLOCK = 8 };
-enum { ACROSS = COLUMNS + 1, SUPERPARITY = 19 };
+enum { ACROSS = COLUMNS + 1, DOWN = ROWS + 1, SUPERPARITY = 19 };
 
 /* All memory is the host's own: the library allocates nothing. A map of zeros
    says that every disk is present. */
@@ -239,6 +240,20 @@ static void plan(void)
         print_repairs(sheet);
 }
 
+/* The fewest repairs that bring one disk back, whatever else is erased. */
+static uint32_t plan_disk(size_t disk)
+{
+    size_t count = 0;
+    uint32_t status = raid2d_plan_disk(ROWS, COLUMNS, map, sizeof map,
+                                       sheet, sizeof sheet, disk, &count);
+
+    printf("plan for disk %zu: %s, %zu repairs\n", disk,
+           raid2d_strerror(status), count);
+    if (status == RAID2D_OK)
+        print_repairs(sheet);
+    return status;
+}
+
 /* At most so many repairs. The library marks the disks repaired as present in
    the map. */
 static uint32_t repair(size_t limit, size_t *count)
@@ -364,13 +379,13 @@ static void follow_notes(void)
    the array and the map: a host stores the blocks repaired, and after them the
    map. If the cut comes between the two, the turn is made again and gives the
    same blocks. The sheet is for whoever wants to see it. */
-static void make_turn(size_t turn)
+static void make_turn(size_t turn, size_t repairs)
 {
     size_t count = 0;
     uint32_t status = repair(2, &count);
 
     printf("turn %zu: %s\n", turn, raid2d_strerror(status));
-    expect(status == RAID2D_OK && count == (turn < 3 ? 2 : 1), "a turn");
+    expect(status == RAID2D_OK && count == repairs, "a turn");
     if (status == RAID2D_OK)
         print_repairs(sheet);
     print_left();
@@ -382,14 +397,67 @@ static void make_turn(size_t turn)
 static void repair_between_cuts(void)
 {
     static const size_t failed[] = { 5, 6, 7, 8, 9 };
-    size_t turn;
 
     printf("\n6. Row 1 fails, disks 5 to 9. Between two cuts there is time for"
            " two disks.\n");
     lose(failed, 5);
-    for (turn = 1; turn <= 3; turn++)
-        make_turn(turn);
+    make_turn(1, 2);
+    make_turn(2, 2);
+    make_turn(3, 1);
     expect(all_is_there(), "what the turns have restored");
+}
+
+/* A repair without the library: the sum of the other disks of a row, which
+   stand side by side, or of a column, which are a row apart. Then the disk
+   counts as present. */
+static void repair_by(size_t disk, size_t stripe)
+{
+    size_t other = stripe * ACROSS, step = 1, disks = ACROSS, i;
+
+    if (stripe >= RAID2D_COLUMN_STRIPE) {
+        other = stripe - RAID2D_COLUMN_STRIPE;
+        step = ACROSS;
+        disks = DOWN;
+    }
+    memset(block_of(disk), 0, BLOCK);
+    for (; disks > 0; disks--, other += step)
+        for (i = 0; i < BLOCK && other != disk; i++)
+            block_of(disk)[i] ^= block_of(other)[i];
+    map[disk] = 0;
+}
+
+/* The repairs of the sheet, in its order. */
+static void make_repairs(void)
+{
+    size_t k;
+
+    for (k = raid2d_sheet_first(sheet); k != 0; k = raid2d_sheet_next(sheet, k))
+        repair_by(raid2d_sheet_disk(sheet, k), raid2d_sheet_stripe(sheet, k));
+}
+
+/* By plan's order disk 7 would come fourth. Follow takes no list that leaves
+   disks erased, so the host makes the repairs up to disk 7 itself. Nothing is
+   checked before the last turn, and until then a host keeps a copy of the map
+   from before the first repair. */
+static void serve_the_counter(void)
+{
+    static const size_t failed[] = { 0, 1, 2, 7, 8, 13 };
+    uint32_t status;
+
+    printf("\n7. Disks 0, 1, 2, 7, 8 and 13 fail. A customer waits for disk 7,"
+           " the corridor.\n");
+    lose(failed, 6);
+    plan();
+    status = plan_disk(7);
+    expect(status == RAID2D_OK, "plan for a disk");
+    if (status == RAID2D_OK)
+        make_repairs();
+    look_at(7);
+    print_left();
+    expect(memcmp(block_of(7), names[1][2], BLOCK) == 0, "the wanted disk");
+    make_turn(1, 2);
+    make_turn(2, 1);
+    expect(all_is_there(), "what was restored behind the wanted disk");
 }
 
 /* A sum over a wrong block gives a wrong block. So rebuild checks all stripes
@@ -401,7 +469,7 @@ static void meet_a_changed_survivor(void)
     size_t count = 0;
     uint32_t status;
 
-    printf("\n7. A bit of disk 6 flips, and nobody says so. Then disk 0"
+    printf("\n8. A bit of disk 6 flips, and nobody says so. Then disk 0"
            " fails.\n");
     block_of(6)[0] ^= 1;
     expect(check() == RAID2D_NOT_SEALED, "check of a changed block");
@@ -503,7 +571,7 @@ static void save_a_card(void)
     size_t count = 0;
     uint32_t status;
 
-    printf("\n8. In a locksmith's cabinet, 3 rows and 3 columns, nine cards are"
+    printf("\n9. In a locksmith's cabinet, 3 rows and 3 columns, nine cards are"
            " dead.\n");
     fill_cabinet();
     status = plan_cards(&count);
@@ -537,7 +605,7 @@ static void follow_mail(void)
 {
     uint32_t status;
 
-    printf("\n9. Disks 2, 4 and 17 fail again. A sheet comes by mail, with"
+    printf("\n10. Disks 2, 4 and 17 fail again. A sheet comes by mail, with"
            " leftovers.\n");
     lose(disk_with_parities, 3);
     follow(mail, RAID2D_ERR_LEFTOVERS);
@@ -658,7 +726,7 @@ static void meet_a_fatal_loss(void)
     static const size_t failed[] = { 0, 3, 6, 8, 10, 11, 19 };
     static uint8_t before[sizeof array];
 
-    printf("\n10. Disks 0, 3, 6, 8, 10, 11 and 19 fail.\n");
+    printf("\n11. Disks 0, 3, 6, 8, 10, 11 and 19 fail.\n");
     memcpy(before, array, sizeof array);
     lose(failed, 7);
     fail_to_rebuild();
@@ -683,6 +751,7 @@ int main(void)
     lose_disk_with_parities();
     follow_notes();
     repair_between_cuts();
+    serve_the_counter();
     meet_a_changed_survivor();
     save_a_card();
     follow_mail();

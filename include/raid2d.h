@@ -131,9 +131,9 @@
  * Statuses. Where several apply, the first in the call's list is returned.
  * RAID2D_OK and RAID2D_NOT_SEALED are answers, every other status is a
  * refusal. A call that refuses leaves every buffer and every out-parameter as
- * it was, but for what the lists of raid2d_plan, raid2d_rebuild, raid2d_follow
- * and raid2d_save say of RAID2D_FATAL and RAID2D_ERR_SURVIVORS. A status keeps
- * its number for good.
+ * it was, but for what the lists of raid2d_plan, raid2d_plan_disk,
+ * raid2d_rebuild, raid2d_follow and raid2d_save say of RAID2D_FATAL and
+ * RAID2D_ERR_SURVIVORS. A status keeps its number for good.
  *
  * State. There is none: no memory is allocated, nothing is read or written but
  * what is lent and less than 3 KB of stack. Of the C library the archive needs
@@ -159,10 +159,10 @@ extern "C" {
 
 /* The version of this header, as three numbers, as one, and as a string. */
 #define RAID2D_VERSION_MAJOR   0
-#define RAID2D_VERSION_MINOR   8
+#define RAID2D_VERSION_MINOR   9
 #define RAID2D_VERSION_PATCH   0
-#define RAID2D_VERSION_NUMBER  800
-#define RAID2D_VERSION_STRING  "0.8.0"
+#define RAID2D_VERSION_NUMBER  900
+#define RAID2D_VERSION_STRING  "0.9.0"
 
 /* The range of a side: of data rows, and of data columns. */
 #define RAID2D_SIDE_MIN  2
@@ -216,6 +216,7 @@ enum raid2d_status {
     RAID2D_ERR_LIMIT = 12,
     RAID2D_ERR_RING = 13,
     RAID2D_ERR_LEFTOVERS = 14,
+    RAID2D_ERR_WANTED = 15,
     RAID2D_NOT_SEALED = 64
 };
 
@@ -262,6 +263,8 @@ static inline const char *raid2d_strerror(uint32_t status)
         return "the sheet's chain comes back to a record";
     case RAID2D_ERR_LEFTOVERS:
         return "a byte off the sheet's chain is not zero";
+    case RAID2D_ERR_WANTED:
+        return "the wanted disk is not in the array, or not erased";
     case RAID2D_NOT_SEALED:
         return "the array is not sealed";
     default:
@@ -476,6 +479,62 @@ uint32_t raid2d_plan(size_t rows, size_t columns,
                      const uint8_t *map, size_t map_len,
                      uint8_t *sheet, size_t sheet_len,
                      size_t *count);
+
+/*
+ * raid2d_plan_disk: say how the disk that is wanted first can be repaired.
+ *
+ * The sheet has the shortest list of allowed repairs that ends with the disk,
+ * whatever else is erased, also where the loss is fatal: no shorter one
+ * exists. Where a list that ends by the disk's row and one that ends by its
+ * column are equally short, it is the one by the row. The repairs before the
+ * last go by lowest number: at each step the lowest-numbered disk still to
+ * come in this list that can be repaired then, which just one of its stripes
+ * allows. With 2 rows and 2 columns, the disks 1, 2, 3, 4 and 6 erased and
+ * disk 4 wanted, these are 6 by stripe 2, 3 by stripe 16 and 4 by stripe 1.
+ *
+ * raid2d_follow takes such a sheet only if its repairs leave no disk erased.
+ * Otherwise the host makes them: for each record it sets the block of the disk
+ * to the sum of the other disks of the stripe, and then the disk's byte of the
+ * map to 0. After the last one raid2d_look hands the disk out. These repairs
+ * check nothing, so the host keeps a copy of the map from before them, and
+ * goes on with the map that they leave:
+ *
+ *   - A loss that is not fatal goes to raid2d_rebuild, in turns if need be, and
+ *     also if no disk is left erased, since the last turn checks all stripes.
+ *     With RAID2D_OK and a map without a byte 1 the array is the only sealed
+ *     one with the survivors from before these repairs. After
+ *     RAID2D_ERR_SURVIVORS the disks repaired may be wrong, the wanted one
+ *     too, and the host copies the first map back.
+ *   - A fatal loss stays fatal, and raid2d_save restores what is determined.
+ *
+ *   sheet      receives the repairs or the cycle
+ *   disk       the number of the disk that is wanted
+ *   count      receives the number of repairs, at least 1 and at most
+ *              rows + columns + 1, or the number of undetermined disks
+ *
+ *   Reads      the map
+ *   Writes     the whole sheet and *count with RAID2D_OK and RAID2D_FATAL,
+ *              else nothing
+ *   Unchanged  the map, always
+ *
+ * Returns the first of these that applies:
+ *
+ *   RAID2D_ERR_SIDE
+ *   RAID2D_ERR_MAP
+ *   RAID2D_ERR_SHEET_LENGTH
+ *   RAID2D_ERR_WANTED        the array has no disk of that number, or the
+ *                            disk is not erased
+ *   RAID2D_FATAL             no list of allowed repairs reaches the disk: it
+ *                            is in the residual; the sheet and *count are
+ *                            those of raid2d_plan for this map; the cycle need
+ *                            not hold the disk, which raid2d_save may restore
+ *   RAID2D_OK                the sheet lists the repairs, that of the disk
+ *                            last; *count is their number
+ */
+uint32_t raid2d_plan_disk(size_t rows, size_t columns,
+                          const uint8_t *map, size_t map_len,
+                          uint8_t *sheet, size_t sheet_len,
+                          size_t disk, size_t *count);
 
 /*
  * raid2d_rebuild: restore erased disks, at most so many in one turn.

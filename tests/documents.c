@@ -3,7 +3,8 @@
  * sheet.inc and marks.inc are these loops, as they stand in the header's
  * comments. The first reads plan's sheet for two data rows and three data
  * columns with disks 0, 3 and 8 erased; the second marks what save restores of
- * nine disks at three by three. It is C99 and C++.
+ * nine disks at three by three. Then the repairs of the header's example of a
+ * wanted disk. It is C99 and C++.
  */
 #include <stdio.h>
 
@@ -48,10 +49,25 @@ static void mark_saved(void)
     printf("\n");
 }
 
+static int list_wanted(void)
+{
+    static const uint8_t map[RAID2D_DISKS(2, 2)] = { 0, 1, 1, 1, 1, 0, 1 };
+    uint8_t sheet[RAID2D_SHEET_BYTES];
+    size_t k, count = 0;
+
+    if (raid2d_plan_disk(2, 2, map, sizeof map, sheet, sizeof sheet, 4, &count)
+        != RAID2D_OK)
+        return 1;
+    for (k = 1; k <= count; k++)
+        printf("%zu by stripe %zu\n", raid2d_sheet_disk(sheet, k),
+               raid2d_sheet_stripe(sheet, k));
+    return 0;
+}
+
 int main(void)
 {
     int failed = read_sheet();
 
     mark_saved();
-    return failed;
+    return list_wanted() | failed;
 }

@@ -172,6 +172,23 @@ static size_t run_small(const struct example *e)
     return 0;
 }
 
+/* The calls that write a sheet and take no array. */
+static size_t run_sheet(struct example *e, size_t *out)
+{
+    uint8_t *map = e->buffers[MAP].bytes, *sheet = e->buffers[SHEET].bytes;
+    size_t map_len = e->buffers[MAP].len, sheet_len = e->buffers[SHEET].len;
+
+    if (strcmp(e->call, "plan") == 0)
+        return raid2d_plan(e->rows, e->columns, map, map_len,
+                           sheet, sheet_len, out);
+    if (strcmp(e->call, "plan_disk") == 0)
+        return raid2d_plan_disk(e->rows, e->columns, map, map_len,
+                                sheet, sheet_len, e->disk, out);
+    if (strcmp(e->call, "tidy") == 0)
+        return raid2d_tidy(sheet, sheet_len);
+    return run_small(e);
+}
+
 static size_t run(struct example *e, size_t *out)
 {
     size_t rows = e->rows, columns = e->columns, block = e->block;
@@ -190,20 +207,16 @@ static size_t run(struct example *e, size_t *out)
     if (strcmp(e->call, "look") == 0)
         return raid2d_look(rows, columns, block, array, array_len,
                            map, map_len, e->disk, out);
-    if (strcmp(e->call, "plan") == 0)
-        return raid2d_plan(rows, columns, map, map_len, sheet, sheet_len, out);
     if (strcmp(e->call, "rebuild") == 0)
         return raid2d_rebuild(rows, columns, block, array, array_len,
                               map, map_len, sheet, sheet_len, e->limit, out);
     if (strcmp(e->call, "follow") == 0)
         return raid2d_follow(rows, columns, block, array, array_len,
                              map, map_len, sheet, sheet_len, out);
-    if (strcmp(e->call, "tidy") == 0)
-        return raid2d_tidy(sheet, sheet_len);
     if (strcmp(e->call, "save") == 0)
         return raid2d_save(rows, columns, block, array, array_len,
                            map, map_len, out);
-    return run_small(e);
+    return run_sheet(e, out);
 }
 
 /* Whether the call answers and leaves what the example says. */

@@ -1,5 +1,6 @@
 // What is proved of the definitions, said of the calls: demand 2 of seal, check and write, demand 3 of plan and rebuild's turns on
-// one input, of follow that it does as rebuild, of tidy what it makes of sheets, and of save what it gives back.
+// one input, of the plan for one disk what it lists, of follow that it does as rebuild, of tidy what it makes of sheets, and of save
+// what it gives back.
 ghost use mathlib.Core.Path.{_≡_};
 ghost use mathlib.Core.Bool.{true, false};
 ghost use mathlib.Core.Logic.{_↔_};
@@ -9,16 +10,17 @@ ghost use lib.ListN.{length, take};
 ghost use Rattle.stripes.specs.Fold.{count};
 ghost use Rattle.stripes.specs.System.{whole};
 ghost use Rattle.stripes.specs.Erased.{erasures, Belongs};
-ghost use Rattle.stripes.specs.Repair.{fatal};
+ghost use Rattle.stripes.specs.Repair.{fatal, mapAfter, rebuilt};
 ghost use Rattle.model.specs.Grid.{columnBase, disks};
 ghost use Rattle.model.specs.Refusal.{refusal, arrayTests};
-ghost use Rattle.model.specs.Array.{sealStatus, sealArray, checked, checkStatus, writeStatus, writeArray};
+ghost use Rattle.model.specs.Array.{sealStatus, sealArray, checked, checkStatus, writeStatus, writeArray, canLook};
 ghost use Rattle.model.specs.Sheet.{narrow, sheetBytes, sheetsIn};
 ghost use Rattle.model.specs.Plan.{planTests, sheetLayout, planOutcome, planSheet, outcomeStatus};
+ghost use Rattle.model.specs.PlanDisk.{planDiskTests, planDiskOutcome, planDiskSheet, DiskDemand};
 ghost use Rattle.model.specs.Rebuild.{bufferRefusal, rebuildRefusal, rebuildTurn};
-ghost use Rattle.model.specs.Chain.{Leftover, chainEntries};
+ghost use Rattle.model.specs.Chain.{Leftover, chainEntries, cleanRefusal};
 ghost use Rattle.model.specs.Follow.{Usable, listOutcome, listArray, followOutcome, followArray, looseStatus};
-ghost use Rattle.model.specs.Tidy.{tidyStatus, tidySheet, TidyDemand};
+ghost use Rattle.model.specs.Tidy.{tidyStatus, tidySheet, Tidy, TidyDemand};
 ghost use Rattle.model.specs.Save.{saveLayout, mapTests, saveAnswer, saveArray, AsTurn, SaveDemand};
 ghost use Rattle.model.specs.Edition.{superparity};
 ghost use Rattle.model.specs.Demand2.{SealDemand, CheckDemand, WriteDemand};
@@ -123,6 +125,48 @@ pub fn plan_and_rebuild(
     Answers {
         planned: planned,
         rebuilt: rebuilt,
+    }
+}
+
+// What plan answers for a loss, and what the plan for one disk of it does.
+pub struct Plans {
+    pub planned: Outcome,
+    pub wanted: Outcome,
+}
+
+// Plans the repair of a loss into one sheet, the draft, and that of one wanted disk into another. Where neither is refused before 6, the
+// second sheet has the shortest list that ends with the disk, as paper 02 orders it, or where no list reaches the disk what the draft
+// has. A list is tidy, and with its repairs made look hands the block of the disk out.
+pub fn plan_and_plan_disk(
+    size: Size,
+    map: &[u8],
+    draft: &mut [u8],
+    sheet: &mut [u8],
+    disk: usize,
+) -> Plans
+    ensures planned { λ r. ⌜ r .planned ≡ planOutcome size (now (map .entry)) (now (draft .entry)) ⌝ }
+    ensures draft { λ r. ⌜ now (draft .exit) ≡ planSheet size (now (map .entry)) (now (draft .entry)) ⌝ }
+    ensures wanted { λ r. ⌜ r .wanted ≡ planDiskOutcome size (now (map .entry)) (now (sheet .entry)) disk ⌝ }
+    ensures sheet { λ r. ⌜ now (sheet .exit) ≡ planDiskSheet size (now (map .entry)) (now (sheet .entry)) disk ⌝ }
+    ensures demand { λ r. ⌜
+        (refusal (planTests size (now (map .entry)) (length (now (draft .entry)))) ≡ 0
+        → refusal (planDiskTests size (now (map .entry)) (length (now (sheet .entry))) disk) ≡ 0
+        → DiskDemand (superparity size (narrow .base)) narrow (erasures (now (map .entry))) disk (r .planned) (now (draft .exit)) (r .wanted)
+        (now (sheet .exit)))
+        ⌝ }
+    ensures tidy { λ r. ⌜ (outcomeStatus (r .wanted) ≡ 0 → Tidy narrow (now (sheet .exit)) × (cleanRefusal narrow (now (sheet .exit)) ≡ 0)) ⌝ }
+    ensures look { λ r. ⌜
+        (outcomeStatus (r .wanted) ≡ 0 → (B : ℕ) (a : List ℕ) → refusal (arrayTests size B (length a)) ≡ 0
+        → canLook size B (rebuilt (sheetLayout size) (whole B) a (chainEntries narrow (now (sheet .exit))))
+        (mapAfter (now (map .entry)) (chainEntries narrow (now (sheet .exit)))) disk
+        ≡ true)
+        ⌝ }
+{
+    let planned = plan::plan(size, map, draft);
+    let wanted = wanted::plan_disk(size, map, sheet, disk);
+    Plans {
+        planned: planned,
+        wanted: wanted,
     }
 }
 

@@ -127,6 +127,18 @@ plan-accepts a b m len = (
   λ h. passes 1 (sizeFits (rectangle a b)) _ (size-accepts a b .1 (h .0, h .1, h .2, h .3)) ∙ sheet-accepts a b m len .1 (h .4),
 )
 
+-- Where plan's tests are passed, those that follow decide.
+pub plan-fits : (z : Size) (m : List ℕ) (len : ℕ) → refusal (planTests z m len) ≡ 0 → (sizeFits z ≡ true) × (mapFits z m ≡ true) × (len ≡ 98)
+unfolding planTests
+plan-fits z m len ok =
+    let (size, rest) = passed 1 (sizeFits z) _ (omega arith) ok in let (map, long) = sheet-fits z m len rest in (size, map, long)
+
+pub plan-passed : (z : Size) (m : List ℕ) (len : ℕ) → refusal (planTests z m len) ≡ 0 → (ts : List Test) → refusal (planTests z m len ++ ts) ≡ refusal ts
+unfolding planTests sheetTests
+plan-passed z m len ok ts =
+    let (size, map, long) = plan-fits z m len ok in
+    passes 1 (sizeFits z) _ size ∙ passes 4 (mapFits z m) _ map ∙ passes 5 (eqb len 98) ts (eq-eqb len 98 long)
+
 pub buffers-accepts : (a b B arrayLen : ℕ) (m : List ℕ) (len : ℕ) → (refusal (bufferTests (rectangle a b) B arrayLen m len) ≡ 0)
     ↔ ((refusal (arrayTests (rectangle a b) B arrayLen) ≡ 0) × SheetFits a b m len)
 unfolding bufferTests

@@ -12,6 +12,7 @@ use Rattle.stripes.specs.Erased.{erasures, without, below}
 use Rattle.stripes.specs.Repair.{mapAfter, alone, allowed, firstAllowed, someAllowed, nextDisk, repairOf, peel, repairs, after, residual, fatal, sumOfOthers, repaired, rebuilt, zeroed, allAllowed, clears, residualCount}
 use Rattle.stripes.specs.Joined.{united, partBy, part, joined}
 use Rattle.stripes.specs.Undetermined.{undetermined, determined, lost, survivorSum, partSum, partsCancel, savedByte, saved}
+use Rattle.stripes.specs.Wanted.{onSide, sideRepairs, serves, takesLower, wantedStripe, wantedRepairs}
 use Rattle.stripes.specs.Cycle.{closing, core, partner, trace, lowestOf, cycleOf, shownCycle}
 use Rattle.model.specs.Grid.{grid, layoutOf, rectangle, rows, columns, across, disks, diskAt, isData, arrayBytes, arrayOf, sideFits, sizeFits, blockFits, mapFits, down}
 use Rattle.model.specs.Equations.{cell, rowData, columnData}
@@ -21,6 +22,7 @@ use Rattle.model.specs.Sheet.{narrow, chainBytes, sheetOf, blankSheet, n
 use Rattle.model.specs.Chain.{entryAt, nextNumber, visited, chainNumbers, within, different, chainTests, onChain, noLeftovers, cleanTests, entriesAt, chainEntries}
 use Rattle.model.specs.Tidy.{tidyTests, tidyStatus, tidyForm, tidySheet}
 use Rattle.model.specs.Plan.{sheetTests, planTests, planOutcome, outcomeStatus, outcomeCount, lossOutcome, lossSheet, planSheet}
+use Rattle.model.specs.PlanDisk.{canBeWanted, planDiskTests, diskOutcome, diskSheet, planDiskOutcome, planDiskSheet}
 use Rattle.model.specs.Turn.{clear, lossTold, contradiction, repairsMade, turnRepairs, contradicts, turnOf}
 use Rattle.model.specs.Rebuild.{bufferTests, rebuildTests, rebuildRefusal, rebuildTurn}
 use Rattle.model.specs.Save.{mapTests, saveTests, saveStatus, saveAnswer, saveArray, savingStatus, savingCount}
@@ -84,6 +86,12 @@ followed : Size → (a m sheet : List ℕ) → List ℕ
 followed z a m sheet =
     outcomeStatus (followOutcome z 1 a m sheet) ∷ outcomeCount (followOutcome z 1 a m sheet) 99 ∷ followArray z 1 a m sheet
 
+-- What the plan for one disk gives, where 99 stood for the count and 9 all over the sheet: the number, the count, the sheet.
+plannedFor : Size → (m : List ℕ) → (d : ℕ) → List ℕ
+plannedFor z m d =
+    outcomeStatus (planDiskOutcome z m (replicate 98 9) d) ∷ outcomeCount (planDiskOutcome z m (replicate 98 9) d) 99
+    ∷ planDiskSheet z m (replicate 98 9) d
+
 -- What tidy gives for a sheet: the number, the sheet.
 tidied : List ℕ → List ℕ
 tidied sheet = tidyStatus narrow sheet ∷ tidySheet narrow sheet
@@ -93,7 +101,7 @@ rescued : Size → (a m : List ℕ) → List ℕ
 rescued z a m = savingStatus (saveAnswer z 1 a m) ∷ savingCount (saveAnswer z 1 a m) 99 ∷ saveArray z 1 a m
 
 unfoldable pub cases : List Case
-unfolding two wide high A W H D planned turned restored followed tidied rescued
+unfolding two wide high A W H D planned turned restored followed tidied plannedFor rescued
 cases =
     -- Data 1 2 / 4 8 seals to A, whatever stands in the parities' place.
     record {
@@ -279,23 +287,47 @@ cases =
           ++ rescued two (9 ∷ 8 ∷ 7 ∷ 7 ∷ 6 ∷ 12 ∷ 5 ∷ 10 ∷ 4 ∷ []) (1 ∷ 1 ∷ 0 ∷ 1 ∷ 1 ∷ 0 ∷ 0 ∷ 0 ∷ 1 ∷ []);
       expected = 0 ∷ 1 ∷ 9 ∷ 8 ∷ 3 ∷ 7 ∷ 6 ∷ 12 ∷ 5 ∷ 10 ∷ 15 ∷ 7 ∷ 99 ∷ 0 ∷ 0 ∷ 7 ∷ 0 ∷ 0 ∷ 12 ∷ 5 ∷ 10 ∷ 0 ∷ [];
     }
+    -- One wanted disk. With disks 1, 2, 3, 4 and 6 erased, 4 takes 6 by 2, 3 by 16, 4 by 1. With 0, 1 and 3 erased, 0 takes a repair more
+    -- by either stripe, so its row is taken: 1 by 17, 0 by 0. With 0 and 1 erased, 1 takes none more by its column: 1 by 17.
+    ∷ record {
+      number = 0;
+      computed =
+          plannedFor two (0 ∷ 1 ∷ 1 ∷ 1 ∷ 1 ∷ 0 ∷ 1 ∷ 0 ∷ 0 ∷ []) 4 ++ plannedFor two (1 ∷ 1 ∷ 0 ∷ 1 ∷ 0 ∷ 0 ∷ 0 ∷ 0 ∷ 0 ∷ []) 0
+          ++ plannedFor two (1 ∷ 1 ∷ 0 ∷ 0 ∷ 0 ∷ 0 ∷ 0 ∷ 0 ∷ 0 ∷ []) 1;
+      expected =
+          0 ∷ 3 ∷ 1 ∷ 1 ∷ 6 ∷ 2 ∷ 2 ∷ 3 ∷ 16 ∷ 3 ∷ 4 ∷ 1 ∷ 0 ∷ replicate 87 0 ++ 0 ∷ 2 ∷ 1 ∷ 1 ∷ 1 ∷ 17 ∷ 2 ∷ 0 ∷ 0 ∷ 0 ∷ replicate 90 0
+          ++ 0 ∷ 1 ∷ 1 ∷ 1 ∷ 1 ∷ 17 ∷ 0 ∷ replicate 93 0;
+    }
+    -- Of the fatal loss of 0, 1, 3, 4 and 8 disk 8 is reached, by 2. Disk 0 is not: 6, with plan's count and loop. Disk 2, which is
+    -- present, and disk 9, which the grid has not, get 15.
+    ∷ record {
+      number = 0;
+      computed =
+          plannedFor two (1 ∷ 1 ∷ 0 ∷ 1 ∷ 1 ∷ 0 ∷ 0 ∷ 0 ∷ 1 ∷ []) 8 ++ plannedFor two (1 ∷ 1 ∷ 0 ∷ 1 ∷ 1 ∷ 0 ∷ 0 ∷ 0 ∷ 1 ∷ []) 0
+          ++ plannedFor two (1 ∷ 1 ∷ 0 ∷ 1 ∷ 1 ∷ 0 ∷ 0 ∷ 0 ∷ 1 ∷ []) 2 ++ plannedFor two (1 ∷ 1 ∷ 0 ∷ 1 ∷ 1 ∷ 0 ∷ 0 ∷ 0 ∷ 1 ∷ []) 9;
+      expected =
+          0 ∷ 1 ∷ 1 ∷ 1 ∷ 8 ∷ 2 ∷ 0 ∷ replicate 93 0
+          ++ 6 ∷ 4 ∷ 2 ∷ 1 ∷ 0 ∷ 0 ∷ 2 ∷ 1 ∷ 17 ∷ 3 ∷ 4 ∷ 1 ∷ 4 ∷ 3 ∷ 16 ∷ 0 ∷ replicate 84 0
+          ++ 15 ∷ 99 ∷ replicate 98 9 ++ 15 ∷ 99 ∷ replicate 98 9;
+    }
     ∷ []
 
 -- Every case holds, and the paper's nine are there.
 pub cases-hold : (map (λ (c : Case). c .computed) cases ≡ map (λ (c : Case). c .expected) cases)
-    × (map (λ (c : Case). c .number) cases ≡ 1 ∷ 2 ∷ 3 ∷ 4 ∷ 5 ∷ 6 ∷ 7 ∷ 8 ∷ 9 ∷ replicate 11 0)
-unfolding cases sealStatus sealArray encoded encodedByte writeStatus writeArray writeTests written writtenByte isParityOf refusal arrayTests sideFits sizeFits blockFits arrayBytes arrayOf disks across down rows columns diskAt isData rowData columnData cell byte whole xsum _⊕_ tabulate gate every bit count lowest among on sumOver stripeSum sumsToZero grid layoutOf mapFits erasures without alone allowed firstAllowed someAllowed nextDisk repairOf peel repairs after residual residualCount lost fatal changed sumOfOthers repaired rebuilt zeroed consistent below closing core partner firstOf otherThan trace lowestOf cycleOf shownCycle numberBytes numberAt chainBytes sheetOf blankSheet sheetTests planTests lossOutcome lossSheet planOutcome planSheet outcomeStatus outcomeCount mapAfter clear lossTold contradiction repairsMade turnRepairs contradicts turnOf bufferTests rebuildTests rebuildRefusal rebuildTurn entryAt nextNumber visited chainNumbers within different chainTests onChain noLeftovers cleanTests entriesAt chainEntries tidyTests tidyStatus tidyForm tidySheet allAllowed clears listTests followTests followStatus followOutcome followArray united partBy part joined undetermined determined survivorSum partSum partsCancel savedByte saved mapTests saveTests saveStatus saveAnswer saveArray savingStatus savingCount rectangle digit decimal repairWord fatalWord refusedWord entryLines listed listing
+    × (map (λ (c : Case). c .number) cases ≡ 1 ∷ 2 ∷ 3 ∷ 4 ∷ 5 ∷ 6 ∷ 7 ∷ 8 ∷ 9 ∷ replicate 13 0)
+unfolding cases onSide sideRepairs serves takesLower wantedStripe wantedRepairs canBeWanted planDiskTests diskOutcome diskSheet planDiskOutcome planDiskSheet sealStatus sealArray encoded encodedByte writeStatus writeArray writeTests written writtenByte isParityOf refusal arrayTests sideFits sizeFits blockFits arrayBytes arrayOf disks across down rows columns diskAt isData rowData columnData cell byte whole xsum _⊕_ tabulate gate every bit count lowest among on sumOver stripeSum sumsToZero grid layoutOf mapFits erasures without alone allowed firstAllowed someAllowed nextDisk repairOf peel repairs after residual residualCount lost fatal changed sumOfOthers repaired rebuilt zeroed consistent below closing core partner firstOf otherThan trace lowestOf cycleOf shownCycle numberBytes numberAt chainBytes sheetOf blankSheet sheetTests planTests lossOutcome lossSheet planOutcome planSheet outcomeStatus outcomeCount mapAfter clear lossTold contradiction repairsMade turnRepairs contradicts turnOf bufferTests rebuildTests rebuildRefusal rebuildTurn entryAt nextNumber visited chainNumbers within different chainTests onChain noLeftovers cleanTests entriesAt chainEntries tidyTests tidyStatus tidyForm tidySheet allAllowed clears listTests followTests followStatus followOutcome followArray united partBy part joined undetermined determined survivorSum partSum partsCancel savedByte saved mapTests saveTests saveStatus saveAnswer saveArray savingStatus savingCount rectangle digit decimal repairWord fatalWord refusedWord entryLines listed listing
 cases-hold = (refl, refl)
 
 -- The example of paper 02, P3, on the sealed array 1 2 4 7 / 8 16 32 56 / 64 128 3 195 / 73 146 39 252. Nine disks are erased: eight are
--- lost, and disk 6 is not; its byte is 32, whatever the erased blocks hold.
+-- lost, and disk 6 is not; its byte is 32, whatever the erased blocks hold. No repair reaches it: the plan for it gives 6.
 abbrev nine : ℕ → Bool
 nine = erasures (1 ∷ 1 ∷ 0 ∷ 0 ∷ 1 ∷ 1 ∷ 1 ∷ 0 ∷ 0 ∷ 0 ∷ 1 ∷ 1 ∷ 0 ∷ 0 ∷ 1 ∷ 1 ∷ [])
 
 pub nine-hold : (lost (layoutOf (rectangle 3 3) 16) nine ≡ 8) × (determined (layoutOf (rectangle 3 3) 16) nine 6 ≡ true)
     × (savedByte (layoutOf (rectangle 3 3) 16) (whole 1) nine (9 ∷ 9 ∷ 4 ∷ 7 ∷ 9 ∷ 9 ∷ 9 ∷ 56 ∷ 64 ∷ 128 ∷ 9 ∷ 9 ∷ 73 ∷ 146 ∷ 9 ∷ 9 ∷ []) 6 0 ≡ 32)
-unfolding lost determined undetermined savedByte partSum survivorSum sumOver on among joined part partBy united firstOf otherThan without erasures count bit gate xsum _⊕_ byte whole layoutOf rectangle grid rows columns
-nine-hold = (refl, refl, refl)
+    × (residual (layoutOf (rectangle 3 3) 16) nine 6 ≡ true)
+unfolding residual repairs peel nextDisk lowest someAllowed allowed alone every after lost determined undetermined savedByte partSum survivorSum sumOver on among joined part partBy united firstOf otherThan without erasures count bit gate xsum _⊕_ byte whole layoutOf rectangle grid rows columns
+nine-hold = (refl, refl, refl, refl)
 
 -- Without disk 6 no stripe has fewer than two erased disks, and yet survivors can contradict: here disk 2 holds 5 in place of 4.
 abbrev eight : ℕ → Bool

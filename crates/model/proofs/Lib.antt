@@ -19,6 +19,7 @@ pub mod Demand3
 pub mod Save
 pub mod Follow
 pub mod Tidy
+pub mod PlanDisk
 pub mod Look
 pub mod Listings
 pub mod Cases

@@ -84,7 +84,7 @@ set-fits z m d h =
     (λ q. rw (eqb-true i d q, zero-set m d) refl)
     (λ q. rw (getD-set-other m d i 0 0 (eqb-false i d q)) (bits i l)))))
 
-map-after-fits : (z : Size) (m : List ℕ) (w : List Entry) → mapFits z m ≡ true → mapFits z (mapAfter m w) ≡ true
+pub map-after-fits : (z : Size) (m : List ℕ) (w : List Entry) → mapFits z m ≡ true → mapFits z (mapAfter m w) ≡ true
 unfolding mapAfter
 map-after-fits z m [] h = h
 map-after-fits z m (r ∷ rs) h = map-after-fits z (set m (r .disk) 0) rs (set-fits z m (r .disk) h)

@@ -15,3 +15,4 @@ pub mod Edition
 pub mod Save
 pub mod Demand2
 pub mod Demand3
+pub mod PlanDisk

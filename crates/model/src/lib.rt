@@ -17,11 +17,11 @@ pub enum Checked {
     Refused(u32),
 }
 
-// What plan, rebuild and follow answer.
+// What plan, the plan for one disk, rebuild and follow answer.
 pub enum Outcome {
     // The number of repairs.
     Repairs(usize),
-    // The loss is fatal; the number of undetermined disks (paper 02: lost cards).
+    // The loss is fatal, and no repair reaches the wanted disk, if there is one; the number of undetermined disks (paper 02: lost cards).
     Fatal(usize),
     // A refusal by its number.
     Refused(u32),

@@ -47,6 +47,17 @@ module _ (L : Layout) (e : ℕ → Bool) (k : ℕ) (list after : List ℕ) where
   )
 
 -- ---- plan
+
+-- Its tests refuse by 1, or as those of the map and the sheet do.
+module _ (z : Size) (m : List ℕ) (len : ℕ) where
+  pub size-first : sizeFits z ≡ false → refusal (planTests z m len) ≡ 1
+  unfolding planTests
+  size-first size = fails 1 _ _ size
+
+  pub size-passed : sizeFits z ≡ true → refusal (planTests z m len) ≡ refusal (sheetTests z m len)
+  unfolding planTests
+  size-passed size = passes 1 _ _ size
+
 module _ (z : Size) (m sheet : List ℕ) where
   -- The answer and the sheet are those of the definitions.
   abbrev pub Answers : Outcome → (after : List ℕ) → Type 0
@@ -61,21 +72,19 @@ module _ (z : Size) (m sheet : List ℕ) where
   )
 
   pub refused-size : sizeFits z ≡ false → Answers (Refused 1) sheet
-  unfolding planTests
-  refused-size size = refused 1 (fails 1 _ _ size) (λ q. omega arith)
+  refused-size size = refused 1 (size-first z m (length sheet) size) (λ q. omega arith)
 
   pub refused-sheet : sizeFits z ≡ true → (status : ℕ) → status ≡ refusal (sheetTests z m (length sheet)) → (status ≡ 0 → ⊥)
       → Answers (Refused status) sheet
-  unfolding planTests
-  refused-sheet size status e n = refused status (passes 1 _ _ size ∙ sym e) n
+  refused-sheet size status e n = refused status (size-passed z m (length sheet) size ∙ sym e) n
 
   -- Otherwise the draft decides, where the limit lets all repairs through.
   pub planned : sizeFits z ≡ true → refusal (sheetTests z m (length sheet)) ≡ 0 → (k : ℕ) → length (repairs (sheetLayout z) (erasures m)) ≤ k
       → (answer : Outcome) (after : List ℕ) → answer ≡ lossOutcome (sheetLayout z) (erasures m)
       → after ≡ draftSheet (sheetLayout z) narrow (erasures m) k → Answers answer after
-  unfolding planTests planOutcome planSheet lossSheet draftSheet
+  unfolding planOutcome planSheet lossSheet draftSheet
   planned size tests k few answer after outcome written =
-      let accepted : refusal (planTests z m (length sheet)) ≡ 0 = passes 1 _ _ size ∙ tests in (
+      let accepted : refusal (planTests z m (length sheet)) ≡ 0 = size-passed z m (length sheet) size ∙ tests in (
         outcome ∙ sym (given-accepted _ _ _ accepted),
         written ∙ (rw (take-all k (repairs (sheetLayout z) (erasures m)) few)) ∙ sym (given-accepted _ _ _ accepted),
       )

@@ -7,6 +7,7 @@ ghost use Rattle.model.specs.Sheet.{narrow};
 ghost use Rattle.model.specs.Chain.{kindOf, firstNumber, entryAt, nextNumber, ifRecord};
 ghost use Rattle.model.specs.Array.{sealStatus, sealArray, checked, checkStatus, checkStripe, writeStatus, writeArray, lookLength, lookOffset};
 ghost use Rattle.model.specs.Plan.{planOutcome, planSheet, outcomeStatus, outcomeCount};
+ghost use Rattle.model.specs.PlanDisk.{planDiskOutcome, planDiskSheet};
 ghost use Rattle.model.specs.Rebuild.{rebuildTurn};
 ghost use Rattle.model.specs.Follow.{followOutcome, followArray};
 ghost use Rattle.model.specs.Tidy.{tidyStatus, tidySheet};
@@ -19,9 +20,9 @@ use model::Size;
 // The version of the library: 10000 times the major number, 100 times the minor number, and the patch.
 #[no_mangle]
 pub extern "C" fn raid2d_version_number() -> u32
-    ensures { λ r. ⌜ r ≡ 800 ⌝ }
+    ensures { λ r. ⌜ r ≡ 900 ⌝ }
 {
-    800
+    900
 }
 
 // The lengths of a map and of an array.
@@ -183,6 +184,26 @@ pub extern "C" fn raid2d_plan(
         ⌝ }
 {
     let answer = plan::plan(Size { rows, columns }, map, sheet);
+    report(answer, count)
+}
+
+#[no_mangle]
+pub extern "C" fn raid2d_plan_disk(
+    rows: usize,
+    columns: usize,
+    map: &[u8],
+    sheet: &mut [u8],
+    disk: usize,
+    count: &mut usize,
+) -> u32
+    ensures status { λ r. ⌜ r ≡ outcomeStatus (planDiskOutcome (rectangle rows columns) (now (map .entry)) (now (sheet .entry)) disk) ⌝ }
+    ensures sheet { λ r. ⌜ now (sheet .exit) ≡ planDiskSheet (rectangle rows columns) (now (map .entry)) (now (sheet .entry)) disk ⌝ }
+    ensures count { λ r. ⌜
+        now (count .exit)
+        ≡ outcomeCount (planDiskOutcome (rectangle rows columns) (now (map .entry)) (now (sheet .entry)) disk) (now (count .entry))
+        ⌝ }
+{
+    let answer = wanted::plan_disk(Size { rows, columns }, map, sheet, disk);
     report(answer, count)
 }
 

@@ -24,7 +24,8 @@ use model::Size;
 use stripes::Stretch;
 
 // Saves the determined disks, where the survivors belong to a sealed array, and says how many they are: by repairs as far as these
-// reach, then by one sum for each disk that is left. `erased` is the number of erased disks.
+// reach, then by one sum for each disk that is left. `erased` is the number of erased disks. The length of the working
+// map is no disk's number, so no disk is held back.
 fn save_determined(
     size: Size,
     base: usize,
@@ -49,7 +50,7 @@ fn save_determined(
         now (array .exit) ≡ saved (layoutOf size base) stretch (now (array .entry)) (erasures (now (work .entry)))
         ⌝ }
 {
-    let made = order::peel(size, base, erased, work, stripes, counts, list);
+    let made = order::peel(size, base, work.len(), erased, work, stripes, counts, list);
     restore::repair::repair_all(size, base, stretch, array, list, made);
     made + rest::sum_rest(size, base, stretch, array, work, stripes)
 }

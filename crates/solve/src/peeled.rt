@@ -16,7 +16,7 @@ pub struct Peeled {
 }
 
 // Lists the repairs of the erased disks below k in plan's order. What they leave erased stays in `work`, with its stripes in
-// the table.
+// the table. The map's length is no disk's number, so no disk is held back.
 pub fn peel_below(
     size: Size,
     base: usize,
@@ -35,7 +35,7 @@ pub fn peel_below(
 {
     tally::load::copy(map, k, work);
     let erased = tally::load::tally(size, base, work, stripes, counts);
-    let made = order::peel(size, base, erased, work, stripes, counts, list);
+    let made = order::peel(size, base, map.len(), erased, work, stripes, counts, list);
     Peeled {
         made: made,
         left: erased - made,

@@ -14,9 +14,10 @@ use Rattle.stripes.specs.System.{Layout, whole, Codeword, Bytes, consist
 use Rattle.stripes.specs.Erased.{without, Agree, Belongs}
 use Rattle.stripes.specs.Repair.{Entry, allowed, Peels, repairs, after, residual, fatal, rebuilt, allAllowed, clears, residualCount}
 use Rattle.stripes.proofs.Fold.{same-test, by-cases, and-left, and-right, and-both, count-zero-none}
-use Rattle.stripes.proofs.Peel.{stuck-stays, repairs-peels, residual-stuck, residual-sub, not-fatal, peel-count, residual-none}
+use Rattle.stripes.proofs.Peel.{stuck-stays, repairs-peels, residual-stuck, residual-sub, not-fatal, peel-count, residual-none, after-append}
 use Rattle.stripes.proofs.Restore.{Bounded, consistent-belongs, rebuilt-is}
 use Rattle.stripes.proofs.Bytes.{whole-inside}
+use Rattle.stripes.proofs.Split.{peels-append, fatal-after}
 
 module _ (L : Layout) where
   -- The test says what Peels says.
@@ -87,6 +88,15 @@ module _ (L : Layout) where
   pub repairs-clear : (e : ℕ → Bool) → fatal L e ≡ false → clears L e (repairs L e) ≡ true
   unfolding clears residualCount residual
   repairs-clear e fine = and-both (peels-all-allowed e (repairs L e) (repairs-peels L e)) (eq-eqb _ 0 (residual-none L e fine))
+
+  -- Any repairs of such a loss, and then plan's repairs of what they leave, are one.
+  pub rest-clears : (e : ℕ → Bool) → fatal L e ≡ false → (v : List Entry) → Peels L e v → clears L e (v ++ repairs L (after e v)) ≡ true
+  unfolding clears residualCount residual
+  rest-clears e fine v p =
+      let f : ℕ → Bool = after e v in
+      and-both (peels-all-allowed e (v ++ repairs L f) (peels-append L e v (repairs L f) p (repairs-peels L f)))
+      (eq-eqb _ 0
+      (ap (count (L .disks)) (after-append e v (repairs L f)) ∙ residual-none L f (fatal-after L e v p ∙ fine)))
 
 -- What such a list makes of an array.
 module _ (L : Layout) (bounded : Bounded L) (B : ℕ) (e : ℕ → Bool) (a : List ℕ) (sized : length a ≡ L .disks * whole B .block) where

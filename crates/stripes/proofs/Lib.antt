@@ -17,4 +17,6 @@ pub mod Joined
 pub mod Ends
 pub mod Undetermined
 pub mod Saved
+pub mod Side
+pub mod Wanted
 pub mod Theorems

@@ -16,8 +16,8 @@ use lib.Seq.{take-length, take-suc}
 use Rattle.stripes.specs.Fold.{bit, count}
 use Rattle.stripes.specs.System.{Layout, among, on, Rising, Ordered}
 use Rattle.stripes.specs.Erased.{without}
-use Rattle.stripes.specs.Repair.{Entry, alone, allowed, firstAllowed, someAllowed, Peels, nextDisk, repairOf, peel, repairs, after, residual, fatal, diskOf, stripeOf, InOrder, residualCount}
-use Rattle.stripes.proofs.Fold.{and-left, and-right, and-both, or-left, or-right, same-test, by-cases, lt-or-le, every-at, every-fails, count-le, count-none, count-zero-none, count-some, count-found, count-first, count-without, lowest-is}
+use Rattle.stripes.specs.Repair.{Entry, alone, allowed, firstAllowed, someAllowed, Peels, nextDisk, repairOf, peel, anyDisk, repairs, after, residual, fatal, diskOf, stripeOf, InOrder, residualCount}
+use Rattle.stripes.proofs.Fold.{bit-zero, and-left, and-right, and-both, or-left, or-right, same-test, by-cases, lt-or-le, every-at, every-all, every-fails, count-le, count-none, count-zero-none, count-some, count-found, count-first, count-without, lowest-is, lowest-ext}
 
 -- ---- erased disks
 
@@ -59,6 +59,10 @@ without-bit e d i h = go (eqb d i) refl
 abbrev pub Stuck : Layout → (ℕ → Bool) → Type 0
 Stuck L e = (d s : ℕ) → allowed L e d s ≡ false
 
+-- No repair of a disk of c is allowed.
+abbrev pub Ended : Layout → (c e : ℕ → Bool) → Type 0
+Ended L c e = (d s : ℕ) → c d ≡ true → allowed L e d s ≡ false
+
 -- What the test of a repair says.
 pub record Allowed (L : Layout) (e : ℕ → Bool) (d s : ℕ) : Type 0 where
   pub disk : d < L .disks
@@ -81,6 +85,17 @@ allowed-is L e d s h =
           ap (λ (b : Bool). b && on L i s) (sym k)
           ∙ not-true (e i && on L i s) (ap (λ (b : Bool). b || not (e i && on L i s)) (sym (ne-eqb i d q)) ∙ apart);
     }
+
+pub allowed-of : {L : Layout} {e : ℕ → Bool} {d s : ℕ} → Allowed L e d s → allowed L e d s ≡ true
+unfolding allowed alone
+allowed-of {L} {e} {d} {s} a =
+    and-both (and-both (lt-ltb d (L .disks) (a .disk)) (a .erased))
+    (and-both (a .here)
+    (every-all (L .disks) (λ i l.
+    by-cases (λ (b : Bool). (b || not (e i && on L i s)) ≡ true) (eqb i d) (λ q. refl)
+    (λ q.
+    by-cases (λ (b : Bool). not (b && on L i s) ≡ true) (e i)
+    (λ k. ap not (a .only i l (eqb-false i d q) k)) (λ k. refl)))))
 
 -- ---- where no repair is allowed
 
@@ -107,6 +122,9 @@ other-stuck L c other d s =
     let (i, l, q, k, w) = other d s (a .disk) (a .erased) (a .here) in
     sym w ∙ a .only i l q k)
     (λ h. refl)
+
+pub none-stuck : (L : Layout) (e : ℕ → Bool) → count (L .disks) e ≡ 0 → Stuck L e
+none-stuck L e z = other-stuck L e (λ d s l h k. absurd (true≢false (sym h ∙ count-zero-none (L .disks) e z d l)))
 
 -- ---- lists of repairs
 
@@ -170,34 +188,6 @@ module _ (L : Layout) (e : ℕ → Bool) where
       go true q up = ap (allowed L e d) (eqb-true s t q) ∙ or-left (allowed L e d t) (someAllowed L e d ts) h
       go false q up = up (ap (λ (b : Bool). b || among s ts) (sym q) ∙ k)
 
-  pub next-allowed : nextDisk L e < L .disks → allowed L e (nextDisk L e) (repairOf L e (nextDisk L e) .stripe) ≡ true
-  unfolding nextDisk repairOf
-  next-allowed l =
-      some-allowed (nextDisk L e) (L .through (nextDisk L e)) (lowest-is (L .disks) (λ d. someAllowed L e d (L .through d)) .found l)
-
-  -- No disk with a lower number can be repaired.
-  pub next-lowest : (d s : ℕ) → allowed L e d s ≡ true → nextDisk L e ≤ d
-  unfolding nextDisk on
-  next-lowest d s h = ⊎-elim (λ l. absurd (true≢false (sym h ∙ earlier l))) (λ l. l) (lt-or-le d (nextDisk L e))
-    where
-      earlier : d < nextDisk L e → allowed L e d s ≡ false
-      earlier l =
-          none-allowed d (L .through d) (lowest-is (L .disks) (λ d. someAllowed L e d (L .through d)) .none d l) s
-          (allowed-is L e d s h .here)
-
-  -- Where there is no next repair, none is allowed, and the other way round.
-  pub next-none : ¬ (nextDisk L e < L .disks) → Stuck L e
-  next-none n d s =
-      by-cases (λ (b : Bool). b ≡ false) (allowed L e d s)
-      (λ h.
-      let low : nextDisk L e ≤ d = next-lowest d s h in
-      let l : d < L .disks = allowed-is L e d s h .disk in
-      absurd (n (lt-of-le-of-lt low l)))
-      (λ h. refl)
-
-  pub stuck-none : Stuck L e → ¬ (nextDisk L e < L .disks)
-  stuck-none stuck l = true≢false (sym (next-allowed l) ∙ stuck (nextDisk L e) (repairOf L e (nextDisk L e) .stripe))
-
   -- A disk is repaired by the lowest of its stripes that are allowed.
   first-lowest : (d : ℕ) (ss : List ℕ) → Rising ss → (s : ℕ) → among s ss ≡ true → allowed L e d s ≡ true → firstAllowed L e d ss ≤ s
   unfolding firstAllowed among
@@ -217,63 +207,127 @@ module _ (L : Layout) (e : ℕ → Bool) where
       let a : Allowed L e d s = allowed-is L e d s h in
       first-lowest d (L .through d) (ordered .rising d (a .disk)) s (a .here) h
 
--- ---- plan's order
-module _ (L : Layout) where
-  pub peel-next : (k : ℕ) (e : ℕ → Bool) → nextDisk L e < L .disks
-      → peel L (suc k) e ≡ repairOf L e (nextDisk L e) ∷ peel L k (without e (nextDisk L e))
+module _ (L : Layout) (c e : ℕ → Bool) where
+  next-found : nextDisk L c e < L .disks
+      → (c (nextDisk L c e) && someAllowed L e (nextDisk L c e) (L .through (nextDisk L c e))) ≡ true
+  unfolding nextDisk
+  next-found l = lowest-is (L .disks) (λ d. c d && someAllowed L e d (L .through d)) .found l
+
+  pub next-chosen : nextDisk L c e < L .disks → c (nextDisk L c e) ≡ true
+  next-chosen l = and-left (c (nextDisk L c e)) _ (next-found l)
+
+  pub next-allowed : nextDisk L c e < L .disks → allowed L e (nextDisk L c e) (repairOf L e (nextDisk L c e) .stripe) ≡ true
+  unfolding repairOf
+  next-allowed l = some-allowed L e (nextDisk L c e) (L .through (nextDisk L c e)) (and-right (c (nextDisk L c e)) _ (next-found l))
+
+  -- No disk of c with a lower number can be repaired.
+  pub next-lowest : (d s : ℕ) → c d ≡ true → allowed L e d s ≡ true → nextDisk L c e ≤ d
+  unfolding nextDisk on
+  next-lowest d s k h = ⊎-elim (λ l. absurd (true≢false (sym h ∙ earlier l))) (λ l. l) (lt-or-le d (nextDisk L c e))
+    where
+      earlier : d < nextDisk L c e → allowed L e d s ≡ false
+      earlier l =
+          none-allowed L e d (L .through d)
+          (ap (λ (b : Bool). b && someAllowed L e d (L .through d)) (sym k)
+          ∙ lowest-is (L .disks) (λ d. c d && someAllowed L e d (L .through d)) .none d l)
+          s (allowed-is L e d s h .here)
+
+  -- Where there is no next repair, none is allowed, and the other way round.
+  pub next-none : ¬ (nextDisk L c e < L .disks) → Ended L c e
+  next-none n d s k =
+      by-cases (λ (b : Bool). b ≡ false) (allowed L e d s)
+      (λ h.
+      let low : nextDisk L c e ≤ d = next-lowest d s k h in
+      let l : d < L .disks = allowed-is L e d s h .disk in
+      absurd (n (lt-of-le-of-lt low l)))
+      (λ h. refl)
+
+  pub ended-none : Ended L c e → ¬ (nextDisk L c e < L .disks)
+  ended-none ended l =
+      true≢false (sym (next-allowed l) ∙ ended (nextDisk L c e) (repairOf L e (nextDisk L c e) .stripe) (next-chosen l))
+
+-- ---- repairs by lowest number
+module _ (L : Layout) (c : ℕ → Bool) where
+  pub peel-next : (k : ℕ) (e : ℕ → Bool) → nextDisk L c e < L .disks
+      → peel L c (suc k) e ≡ repairOf L e (nextDisk L c e) ∷ peel L c k (without e (nextDisk L c e))
   unfolding peel
   peel-next k e l =
-      ap (λ (b : Bool). cond b (repairOf L e (nextDisk L e) ∷ peel L k (without e (nextDisk L e))) []) (lt-ltb (nextDisk L e) (L .disks) l)
+      ap (λ (b : Bool). cond b (repairOf L e (nextDisk L c e) ∷ peel L c k (without e (nextDisk L c e))) []) (lt-ltb (nextDisk L c e) (L .disks) l)
 
-  pub peel-none : (k : ℕ) (e : ℕ → Bool) → ¬ (nextDisk L e < L .disks) → peel L k e ≡ []
+  pub peel-none : (k : ℕ) (e : ℕ → Bool) → ¬ (nextDisk L c e < L .disks) → peel L c k e ≡ []
   unfolding peel
   peel-none zero e n = refl
   peel-none (suc k) e n =
-      ap (λ (b : Bool). cond b (repairOf L e (nextDisk L e) ∷ peel L k (without e (nextDisk L e))) [])
-      (le-ltb (nextDisk L e) (L .disks) (omega arith))
+      ap (λ (b : Bool). cond b (repairOf L e (nextDisk L c e) ∷ peel L c k (without e (nextDisk L c e))) [])
+      (le-ltb (nextDisk L c e) (L .disks) (omega arith))
 
   -- What holds of the list at each step holds of the whole list.
   pub by-peel {ℓ} : (P : ℕ → (ℕ → Bool) → List Entry → Type ℓ)
       → ((e : ℕ → Bool) → P 0 e [])
-      → ((k : ℕ) (e : ℕ → Bool) → ¬ (nextDisk L e < L .disks) → P (suc k) e [])
-      → ((k : ℕ) (e : ℕ → Bool) (w : List Entry) → nextDisk L e < L .disks
-      → P k (without e (nextDisk L e)) w → P (suc k) e (repairOf L e (nextDisk L e) ∷ w))
-      → (k : ℕ) (e : ℕ → Bool) → P k e (peel L k e)
+      → ((k : ℕ) (e : ℕ → Bool) → ¬ (nextDisk L c e < L .disks) → P (suc k) e [])
+      → ((k : ℕ) (e : ℕ → Bool) (w : List Entry) → nextDisk L c e < L .disks
+      → P k (without e (nextDisk L c e)) w → P (suc k) e (repairOf L e (nextDisk L c e) ∷ w))
+      → (k : ℕ) (e : ℕ → Bool) → P k e (peel L c k e)
   unfolding peel
   by-peel P start stop step zero e = start e
-  by-peel P start stop step (suc k) e = go (decLt (nextDisk L e) (L .disks)) (by-peel P start stop step k (without e (nextDisk L e)))
+  by-peel P start stop step (suc k) e = go (decLt (nextDisk L c e) (L .disks)) (by-peel P start stop step k (without e (nextDisk L c e)))
     where
-      go : Dec (nextDisk L e < L .disks) → P k (without e (nextDisk L e)) (peel L k (without e (nextDisk L e))) → P (suc k) e (peel L (suc k) e)
+      go : Dec (nextDisk L c e < L .disks) → P k (without e (nextDisk L c e)) (peel L c k (without e (nextDisk L c e))) → P (suc k) e (peel L c (suc k) e)
       go (yes l) up = subst (P (suc k) e) (sym (peel-next k e l)) (step k e _ l up)
       go (no n) up = subst (P (suc k) e) (sym (peel-none (suc k) e n)) (stop k e n)
 
-  pub peel-peels : (k : ℕ) (e : ℕ → Bool) → Peels L e (peel L k e)
+  pub peel-peels : (k : ℕ) (e : ℕ → Bool) → Peels L e (peel L c k e)
   unfolding repairOf
-  peel-peels = by-peel (λ k e w. Peels L e w) (λ e. tt) (λ k e n. tt) (λ k e w l up. (next-allowed L e l, up))
+  peel-peels = by-peel (λ k e w. Peels L e w) (λ e. tt) (λ k e n. tt) (λ k e w l up. (next-allowed L c e l, up))
 
-  pub none-stuck : (e : ℕ → Bool) → count (L .disks) e ≡ 0 → Stuck L e
-  none-stuck e z =
-      other-stuck L e (λ d s l h k. absurd (true≢false (sym h ∙ count-zero-none (L .disks) e z d l)))
+  -- Disks that are not in c stay as they are.
+  pub peel-others : (k : ℕ) (e : ℕ → Bool) (d : ℕ) → c d ≡ false → after e (peel L c k e) d ≡ e d
+  unfolding after repairOf
+  peel-others k e d out =
+      by-peel (λ k e w. after e w d ≡ e d) (λ e. refl) (λ k e n. refl)
+      (λ k e w l up.
+      up ∙ without-other e (nextDisk L c e) d (λ q. true≢false (sym (next-chosen L c e l) ∙ ap c (sym q) ∙ out))) k e
 
   -- With as many steps as there are erased disks, no repair is left.
-  pub peel-ends : (k : ℕ) (e : ℕ → Bool) → count (L .disks) e ≤ k → Stuck L (after e (peel L k e))
+  pub peel-ends : (k : ℕ) (e : ℕ → Bool) → count (L .disks) e ≤ k → Ended L c (after e (peel L c k e))
   unfolding after repairOf without
   peel-ends =
-      by-peel (λ k e w. count (L .disks) e ≤ k → Stuck L (after e w))
-      (λ e c. none-stuck e (omega arith))
-      (λ k e n c. next-none L e n)
-      (λ k e w l up c.
-      let a : Allowed L e (nextDisk L e) (repairOf L e (nextDisk L e) .stripe) = allowed-is L e _ _ (next-allowed L e l) in
-      let fewer = count-without (L .disks) e (nextDisk L e) l (a .erased) in
+      by-peel (λ k e w. count (L .disks) e ≤ k → Ended L c (after e w))
+      (λ e few d s h. none-stuck L e (omega arith) d s)
+      (λ k e n few. next-none L c e n)
+      (λ k e w l up few.
+      let a : Allowed L e (nextDisk L c e) (repairOf L e (nextDisk L c e) .stripe) = allowed-is L e _ _ (next-allowed L c e l) in
+      let fewer = count-without (L .disks) e (nextDisk L c e) l (a .erased) in
       up (omega arith))
 
+-- Which disks are in c matters for disks only.
+module _ (L : Layout) (c f : ℕ → Bool) (same : (d : ℕ) → d < L .disks → c d ≡ f d) where
+  next-choice : (e : ℕ → Bool) → nextDisk L c e ≡ nextDisk L f e
+  unfolding nextDisk
+  next-choice e = lowest-ext (L .disks) (λ d l. ap (λ (b : Bool). b && someAllowed L e d (L .through d)) (same d l))
+
+  pub peel-choice : (k : ℕ) (e : ℕ → Bool) → peel L c k e ≡ peel L f k e
+  unfolding peel
+  peel-choice zero e = refl
+  peel-choice (suc k) e =
+      let d : ℕ = nextDisk L f e in
+      rw (next-choice e)
+      (ap (λ (w : List Entry). cond (ltb d (L .disks)) (repairOf L e d ∷ w) []) (peel-choice k (without e d)))
+
+-- So plan's order holds back a number that is no disk's.
+pub repairs-held : (L : Layout) (n : ℕ) → L .disks ≤ n → (e : ℕ → Bool) → peel L (without anyDisk n) (L .disks) e ≡ repairs L e
+unfolding repairs
+repairs-held L n h e = peel-choice L (without anyDisk n) anyDisk (λ d l. without-other anyDisk n d (λ q. omega arith)) (L .disks) e
+
+-- ---- plan's order
+module _ (L : Layout) where
   pub repairs-peels : (e : ℕ → Bool) → Peels L e (repairs L e)
   unfolding repairs
-  repairs-peels e = peel-peels (L .disks) e
+  repairs-peels e = peel-peels L anyDisk (L .disks) e
 
   pub residual-stuck : (e : ℕ → Bool) → Stuck L (residual L e)
   unfolding residual repairs
-  residual-stuck e = peel-ends (L .disks) e (count-le (L .disks) e)
+  residual-stuck e d s = peel-ends L anyDisk (L .disks) e (count-le (L .disks) e) d s refl
 
   pub residual-sub : (e : ℕ → Bool) (d : ℕ) → residual L e d ≡ true → e d ≡ true
   unfolding residual
@@ -361,48 +415,58 @@ module _ (L : Layout) where
   peels-at e (r ∷ rs) p zero l = p .0
   peels-at e (r ∷ rs) p (suc i) l = peels-at (without e (r .disk)) rs (p .1) i (le-of-suc-le-suc l)
 
-  -- Each repair of plan's order is the next one at its step.
-  pub peel-turn : (k : ℕ) (e : ℕ → Bool) (i : ℕ) → i < length (peel L k e)
-      → (nextDisk L (atTurn e (peel L k e) i) < L .disks)
-      × (getD (peel L k e) i (record { disk = 0; stripe = 0 })
-      ≡ repairOf L (atTurn e (peel L k e) i) (nextDisk L (atTurn e (peel L k e) i)))
+module _ (L : Layout) (c : ℕ → Bool) where
+  -- Each repair is the next one at its step.
+  pub peel-turn : (k : ℕ) (e : ℕ → Bool) (i : ℕ) → i < length (peel L c k e)
+      → (nextDisk L c (atTurn e (peel L c k e) i) < L .disks)
+      × (getD (peel L c k e) i (record { disk = 0; stripe = 0 })
+      ≡ repairOf L (atTurn e (peel L c k e) i) (nextDisk L c (atTurn e (peel L c k e) i)))
   unfolding after repairOf
   peel-turn =
-      by-peel L Turn (λ e i l. absurd (not-suc-le-zero l)) (λ k e n i l. absurd (not-suc-le-zero l))
+      by-peel L c Turn (λ e i l. absurd (not-suc-le-zero l)) (λ k e n i l. absurd (not-suc-le-zero l))
       (λ k e w l up. elim [ zero ↦ (λ h. (l, refl)) | suc i ↦ (λ h. up i (le-of-suc-le-suc h)) ])
     where
       Turn : ℕ → (ℕ → Bool) → List Entry → Type 0
       Turn k e w =
           (i : ℕ) → i < length w
-          → (nextDisk L (atTurn e w i) < L .disks)
-          × (getD w i (record { disk = 0; stripe = 0 }) ≡ repairOf L (atTurn e w i) (nextDisk L (atTurn e w i)))
+          → (nextDisk L c (atTurn e w i) < L .disks)
+          × (getD w i (record { disk = 0; stripe = 0 }) ≡ repairOf L (atTurn e w i) (nextDisk L c (atTurn e w i)))
 
-  module _ (k : ℕ) (e : ℕ → Bool) (enough : count (L .disks) e ≤ k) (i : ℕ) (within : i ≤ length (peel L k e)) where
-    -- Plan's order goes on as long as there is a next repair,
-    peel-more : nextDisk L (atTurn e (peel L k e) i) < L .disks → i < length (peel L k e)
+  pub peel-disk : (k : ℕ) (e : ℕ → Bool) (i : ℕ) → i < length (peel L c k e)
+      → (diskOf (peel L c k e) i ≡ nextDisk L c (atTurn e (peel L c k e) i)) × (c (diskOf (peel L c k e) i) ≡ true)
+  unfolding diskOf repairOf
+  peel-disk k e i l =
+      let (more, at) = peel-turn k e i l in
+      let disk = ap (λ (r : Entry). r .disk) at in
+      (disk, ap c disk ∙ next-chosen L c (atTurn e (peel L c k e) i) more)
+
+  module _ (k : ℕ) (e : ℕ → Bool) (enough : count (L .disks) e ≤ k) (i : ℕ) (within : i ≤ length (peel L c k e)) where
+    -- They go on as long as there is a next repair,
+    peel-more : nextDisk L c (atTurn e (peel L c k e) i) < L .disks → i < length (peel L c k e)
     peel-more l = ⊎-elim (λ q. absurd (ended q)) (λ h. h) (eq-or-lt-of-le within)
       where
-        ended : i ≡ length (peel L k e) → ⊥
+        ended : i ≡ length (peel L c k e) → ⊥
         ended q =
-            stuck-none L (after e (peel L k e)) (peel-ends L k e enough)
-            (subst (λ (w : List Entry). nextDisk L (after e w) < L .disks)
-            (ap (λ (j : ℕ). take j (peel L k e)) q ∙ take-length (peel L k e)) l)
+            ended-none L c (after e (peel L c k e)) (peel-ends L c k e enough)
+            (subst (λ (w : List Entry). nextDisk L c (after e w) < L .disks)
+            (ap (λ (j : ℕ). take j (peel L c k e)) q ∙ take-length (peel L c k e)) l)
 
-    pub peel-goes : nextDisk L (atTurn e (peel L k e) i) < L .disks
-        → (i < length (peel L k e))
-        × (take (i + 1) (peel L k e)
-        ≡ take i (peel L k e) ++ (repairOf L (atTurn e (peel L k e) i) (nextDisk L (atTurn e (peel L k e) i)) ∷ []))
+    pub peel-goes : nextDisk L c (atTurn e (peel L c k e) i) < L .disks
+        → (i < length (peel L c k e))
+        × (take (i + 1) (peel L c k e)
+        ≡ take i (peel L c k e) ++ (repairOf L (atTurn e (peel L c k e) i) (nextDisk L c (atTurn e (peel L c k e) i)) ∷ []))
     peel-goes l =
-        let h : i < length (peel L k e) = peel-more l in (
+        let h : i < length (peel L c k e) = peel-more l in (
           h,
-          ap (λ (j : ℕ). take j (peel L k e)) (add-one i) ∙ take-suc (peel L k e) i (record { disk = 0; stripe = 0 }) h
-              ∙ ap (λ (r : Entry). take i (peel L k e) ++ (r ∷ [])) (peel-turn k e i h .1),
+          ap (λ (j : ℕ). take j (peel L c k e)) (add-one i) ∙ take-suc (peel L c k e) i (record { disk = 0; stripe = 0 }) h
+              ∙ ap (λ (r : Entry). take i (peel L c k e) ++ (r ∷ [])) (peel-turn k e i h .1),
         )
 
     -- and ends where there is none.
-    pub peel-stops : ¬ (nextDisk L (atTurn e (peel L k e) i) < L .disks) → i ≡ length (peel L k e)
+    pub peel-stops : ¬ (nextDisk L c (atTurn e (peel L c k e) i) < L .disks) → i ≡ length (peel L c k e)
     peel-stops n = ⊎-elim (λ q. q) (λ h. absurd (n (peel-turn k e i h .0))) (eq-or-lt-of-le within)
 
+module _ (L : Layout) where
   -- A list of repairs names each disk that it takes away once, and no other.
   pub named-count : (e : ℕ → Bool) (w : List Entry) → Peels L e w
       → (d : ℕ) → count (length w) (λ i. eqb (diskOf w i) d) + bit (after e w d) ≡ bit (e d)
@@ -414,17 +478,39 @@ module _ (L : Layout) where
       let here = without-bit e (r .disk) d (allowed-is L e (r .disk) (r .stripe) (p .0) .erased) in
       omega arith
 
+  pub named-where : (e : ℕ → Bool) (w : List Entry) → Peels L e w → (d : ℕ) → e d ≡ true → after e w d ≡ false
+      → (i : ℕ) × (i < length w) × (diskOf w i ≡ d)
+  unfolding bit
+  named-where e w p d h k =
+      let all = named-count e w p d in
+      let one : bit (e d) ≡ 1 = ap bit h in
+      let none : bit (after e w d) ≡ 0 = ap bit k in
+      let (i, l, q) = count-found (length w) (λ i. eqb (diskOf w i) d) (omega arith) in
+      (i, l, eqb-true (diskOf w i) d q)
+
+  pub named-repaired : (e : ℕ → Bool) (w : List Entry) → Peels L e w → (i : ℕ) → i < length w
+      → (diskOf w i < L .disks) × (e (diskOf w i) ≡ true) × (after e w (diskOf w i) ≡ false)
+  unfolding bit
+  named-repaired e w p i l =
+      let d : ℕ = diskOf w i in
+      let a : Allowed L (atTurn e w i) d (stripeOf w i) = allowed-is L (atTurn e w i) d (stripeOf w i) (peels-at L e w p i l) in
+      let own : e d ≡ true = after-sub e (take i w) d (a .erased) in
+      let all = named-count e w p d in
+      let one : bit (e d) ≡ 1 = ap bit own in
+      let some = count-some (length w) (λ j. eqb (diskOf w j) d) i l (eq-eqb d d refl) in
+      (a .disk, own, bit-zero (after e w d) (omega arith))
+
   -- The repairs of a loss that is not fatal are in plan's order.
   pub in-order : Ordered L → (e : ℕ → Bool) → fatal L e ≡ false → InOrder L e (repairs L e)
   unfolding repairs repairOf diskOf stripeOf residual bit
   in-order ordered e h =
       record {
-        allowedThen = peels-at e (repairs L e) (repairs-peels L e);
+        allowedThen = peels-at L e (repairs L e) (repairs-peels L e);
         lowestThen = λ i l d s a.
             let f : ℕ → Bool = atTurn e (repairs L e) i in
-            let turn : getD (repairs L e) i (record { disk = 0; stripe = 0 }) ≡ repairOf L f (nextDisk L f) = peel-turn (L .disks) e i l .1 in
-            let disk : diskOf (repairs L e) i ≡ nextDisk L f = ap (λ (r : Entry). r .disk) turn in (
-              subst (λ (n : ℕ). n ≤ d) (sym disk) (next-lowest L f d s a),
+            let turn : getD (repairs L e) i (record { disk = 0; stripe = 0 }) ≡ repairOf L f (nextDisk L anyDisk f) = peel-turn L anyDisk (L .disks) e i l .1 in
+            let disk : diskOf (repairs L e) i ≡ nextDisk L anyDisk f = ap (λ (r : Entry). r .disk) turn in (
+              subst (λ (n : ℕ). n ≤ d) (sym disk) (next-lowest L anyDisk f d s refl a),
               λ q.
                   subst (λ (r : Entry). r .stripe ≤ s) (ap (repairOf L f) (q ∙ disk) ∙ sym turn) (next-stripe L f ordered d s a),
             );

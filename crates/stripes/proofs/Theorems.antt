@@ -13,6 +13,7 @@ use Rattle.stripes.specs.Repair.{Entry, diskOf, Peels, repairs, after, r
 use Rattle.stripes.specs.Cycle.{Cycle, shownCycle}
 use Rattle.stripes.specs.Joined.{joined}
 use Rattle.stripes.specs.Undetermined.{undetermined, determined, lost, partsCancel, savedByte}
+use Rattle.stripes.specs.Wanted.{wantedRepairs, Reached, Wanted}
 use Rattle.stripes.specs.declared.Stretch.{Stretch}
 use Rattle.stripes.proofs.Fold.{by-cases}
 use Rattle.stripes.proofs.Bytes.{whole-inside}
@@ -23,6 +24,7 @@ use Rattle.stripes.proofs.Trace.{cycle-fatal, shown}
 use Rattle.stripes.proofs.Restore.{judge, restored-is, unique}
 use Rattle.stripes.proofs.Split.{repairs-rest, fatal-rest}
 use Rattle.stripes.proofs.Undetermined.{saved-byte, belongs-iff, damage-shown, any-bytes, undetermined-iff}
+use Rattle.stripes.proofs.Wanted.{unreached-iff, wanted-is, wanted-unique}
 use Rattle.stripes.proofs.Saved.{fatal-lost as Saved·fatal-lost, reached-determined as Saved·reached-determined, undetermined-after, lost-fewer, lost-tells, shown-undetermined}
 
 -- ---- where the stripes of a disk are listed in rising order
@@ -128,6 +130,18 @@ module _ (L : Layout) (two : TwoStripes L) (e : ℕ → Bool) where
         → (p : ℕ) × (p < x .width) × (byte x a d p ≡ byte x b d p → ⊥)
         → partsCancel L x e a ≡ joined L e (lower L d) (higher L d)
     damage-shows = damage-shown L two x e
+
+  -- An erased disk is reached by a list of allowed repairs exactly if plan's order does not leave it. Then the shortest such list is the one
+  -- defined, ordered as paper 02 says, and it is the only one.
+  module _ (d : ℕ) where
+    pub reached-or-left : e d ≡ true → (residual L e d ≡ true) ↔ (Reached L e d → ⊥)
+    reached-or-left = unreached-iff L d e
+
+    pub wanted-list : Reached L e d → Wanted L e d (wantedRepairs L e d)
+    wanted-list = wanted-is L two e d
+
+    pub wanted-only : (w : List Entry) → Wanted L e d w → w ≡ wantedRepairs L e d
+    wanted-only = wanted-unique L two e d
 
   module _ (w : List Entry) (peels : Peels L e w) where
     -- What repairs bring back is determined,

@@ -5,3 +5,4 @@ pub mod Repair
 pub mod Cycle
 pub mod Joined
 pub mod Undetermined
+pub mod Wanted

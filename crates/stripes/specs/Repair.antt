@@ -47,25 +47,29 @@ abbrev pub Peels : Layout → (ℕ → Bool) → List Entry → Type 0
 Peels L e [] = Unit {0}
 Peels L e (r ∷ rs) = (allowed L e (r .disk) (r .stripe) ≡ true) × Peels L (without e (r .disk)) rs
 
--- ---- Plan's order
+-- ---- Repairs by lowest number, and plan's order
 
--- The lowest-numbered disk that can be repaired, or the number of disks where there is none.
-unfoldable pub nextDisk : Layout → (ℕ → Bool) → ℕ
-nextDisk L e = lowest (L .disks) (λ d. someAllowed L e d (L .through d))
+-- Of the disks of c, the lowest-numbered one that can be repaired, or the number of disks where there is none.
+unfoldable pub nextDisk : Layout → (c e : ℕ → Bool) → ℕ
+nextDisk L c e = lowest (L .disks) (λ d. c d && someAllowed L e d (L .through d))
 
--- Its repair, by the first of its stripes that is allowed.
+-- The repair of a disk, by the first of its stripes that is allowed.
 unfoldable pub repairOf : Layout → (ℕ → Bool) → ℕ → Entry
 repairOf L e d = record { disk = d; stripe = firstAllowed L e d (L .through d) }
 
--- At most k repairs in plan's order (peeling): at each step the lowest-numbered disk that can be repaired then.
-unfoldable pub peel : Layout → ℕ → (ℕ → Bool) → List Entry
-peel L zero e = []
-peel L (suc k) e =
-    cond (ltb (nextDisk L e) (L .disks)) (repairOf L e (nextDisk L e) ∷ peel L k (without e (nextDisk L e))) []
+-- At most k repairs of disks of c by lowest number (peeling): at each step the lowest-numbered one that can be repaired then.
+unfoldable pub peel : Layout → (c : ℕ → Bool) → ℕ → (e : ℕ → Bool) → List Entry
+peel L c zero e = []
+peel L c (suc k) e =
+    cond (ltb (nextDisk L c e) (L .disks)) (repairOf L e (nextDisk L c e) ∷ peel L c k (without e (nextDisk L c e))) []
 
--- All of them. Each takes an erased disk away, so as many steps as there are disks are enough.
+-- Every disk.
+abbrev pub anyDisk : ℕ → Bool
+anyDisk d = true
+
+-- Plan's order is that of all disks. Each repair takes an erased disk away, so as many steps as there are disks are enough.
 unfoldable pub repairs : Layout → (ℕ → Bool) → List Entry
-repairs L e = peel L (L .disks) e
+repairs L e = peel L anyDisk (L .disks) e
 
 -- The disks that are still erased after a list of repairs.
 unfoldable pub after : (ℕ → Bool) → List Entry → ℕ → Bool

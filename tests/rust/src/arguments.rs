@@ -107,6 +107,16 @@ pub fn disk(random: &mut Random, grid: Grid) -> usize {
     number(random, good, &[grid.disks(), grid.disks() + 1, 255, 256, 256 + good])
 }
 
+/// The number of a disk that is wanted: one that the map has as erased, or now and then any other.
+pub fn wanted(random: &mut Random, grid: Grid, map: &[u8]) -> usize {
+    let (any, erased) = (disk(random, grid), model::erased_disks(map));
+    if erased.is_empty() {
+        return any;
+    }
+    let good = random.pick(&erased);
+    number(random, good, &[any, grid.disks(), 256 + good])
+}
+
 /// A loss of any kind; none on a grid that no call takes.
 fn any_loss(random: &mut Random, grid: Grid) -> Vec<u8> {
     let good = |side: usize| (SIDE_MIN..=SIDE_MAX).contains(&side);

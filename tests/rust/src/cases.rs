@@ -1,14 +1,14 @@
 //! The cases of paper 01, which has only squares, and the like on a grid wider than high and on one higher than wide.
 //! What is stated here is expected of the library and of the model, which ties the model to the papers.
 
-use crate::inputs::{grids_up_to, BLOCK_MAX, LARGEST};
-use crate::losses::{map_of, map_of_bits, rectangles, sets_up_to};
-use crate::model::{FATAL, NO_REPAIRS, OUT_OF_RANGE};
+use crate::inputs::{grids_up_to, BLOCK_MAX, LARGEST, SIDE_MAX};
+use crate::losses::{hanging_on_a_rectangle, map_of, map_of_bits, rectangles, sets_up_to};
+use crate::model::{erased_disks, Rule, FATAL, NOT_ERASED, NO_REPAIRS, OUT_OF_RANGE};
 use crate::outcome::Outcome;
 use crate::rebuild::AT_ONCE;
 use crate::sheet::SHEET;
 use crate::size::{Grid, Size};
-use crate::{ffi, model, Run};
+use crate::{branch, ffi, model, shortest, Run};
 
 /// An array of known bytes, sealed but where it is called damaged.
 #[derive(Clone, Copy)]
@@ -73,6 +73,35 @@ fn plan(run: &mut Run, case: &str, grid: Grid, map: &[u8], status: usize, count:
         model.written = expected.written.clone();
     }
     stated(run, &format!("{case}, plan"), expected, || ffi::plan(grid, map, &OLD), model);
+}
+
+/// As many disks can be searched.
+const FEW: usize = 9;
+
+/// The same of the plan for one disk, by each of the rules where few disks are erased, and else by that of branches.
+fn plan_disk(run: &mut Run, case: &str, grid: Grid, map: &[u8], disk: usize, expected: Outcome) {
+    let case = format!("case {case}, plan for disk {disk}");
+    let planned = model::plan(grid, map, &OLD);
+    let rules: [Rule; 3] = [branch::shortest, shortest::by_sets, shortest::by_lists];
+    let known = if erased_disks(map).len() <= FEW { rules.len() } else { 1 };
+    run.tally.compare(|| format!("{case}, the library"), &expected, || ffi::plan_disk(grid, map, &OLD, disk));
+    for &rule in &rules[..known] {
+        let mut model = model::plan_disk(&planned, rule, grid, map, &OLD, disk);
+        if expected.answer == FATAL {
+            model.written = expected.written.clone();
+        }
+        run.tally.compare(|| format!("{case}, the model"), &expected, || Ok(model));
+    }
+}
+
+/// The list for a disk that is wanted, while these cards are marked.
+fn wanted(run: &mut Run, grid: Grid, marked: &[usize], disk: usize, repairs: &[(u8, u8)]) {
+    let mut begins = vec![1];
+    for (number, &(card, line)) in (1..).zip(repairs) {
+        begins.extend([number, card, line]);
+    }
+    let expected = Outcome { answer: 0, out: Some(repairs.len()), written: vec![sheet(&begins)] };
+    plan_disk(run, &format!("marked {marked:?}"), grid, &map_of(grid, marked), disk, expected);
 }
 
 /// The array with 99 on the marked cards.
@@ -309,6 +338,49 @@ fn turns(run: &mut Run) {
     }
 }
 
+/// Paper 02 gives no lists: these follow its words by hand. Where the two ways are as long the row's is taken, also where its
+/// numbers are higher, and a longer row's is not; steps go by lowest number among those that are possible.
+fn wanted_disks(run: &mut Run) {
+    let grid = A.size.grid;
+    wanted(run, grid, &[0], 0, &[(0, 0)]);
+    wanted(run, grid, &[0, 1], 1, &[(1, 17)]);
+    wanted(run, grid, &[0, 3], 3, &[(3, 1)]);
+    wanted(run, grid, &[0, 1, 3], 0, &[(1, 17), (0, 0)]);
+    wanted(run, grid, &[0, 1, 2, 3], 0, &[(3, 1), (0, 16)]);
+    wanted(run, grid, &[1, 2, 3, 4, 6], 4, &[(6, 2), (3, 16), (4, 1)]);
+    for (size, stair, by_row) in [
+        (A.size, [0, 1, 4, 5, 8], [(8, 2), (5, 18), (4, 1)]),
+        (WIDE.size, [0, 1, 5, 6, 10], [(10, 2), (6, 18), (5, 1)]),
+        (HIGH.size, [0, 3, 4, 7, 8], [(0, 0), (3, 16), (4, 1)]),
+    ] {
+        wanted(run, size.grid, &stair, stair[2], &by_row);
+    }
+    wanted(run, WIDE.size.grid, &[0, 1, 5, 6, 10], 6, &[(10, 2), (6, 18)]);
+    wanted(run, WIDE.size.grid, &[0, 1, 5, 6, 10], 1, &[(0, 16), (1, 0)]);
+    // Row 0 and column 0 of the largest grid: the cards of the row go by their columns.
+    let cross: Vec<usize> = (0..16).chain((1..16).map(|r| 16 * r)).collect();
+    let row: Vec<(u8, u8)> = (1..16).map(|c| (c, 16 + c)).chain([(0, 0)]).collect();
+    wanted(run, LARGEST, &cross, 0, &row);
+    wanted(run, LARGEST, &cross, 240, &[(240, 15)]);
+}
+
+/// With a loop on cards 0, 1, 3 and 4, card 8 can be repaired all the same. Any other number is no marked card, which is said
+/// before 6, or 6 with plan's sheet and count.
+fn wanted_in_a_loop(run: &mut Run) {
+    let (grid, marked) = (A.size.grid, [0, 1, 3, 4, 8]);
+    let map = map_of(grid, &marked);
+    wanted(run, grid, &marked, 8, &[(8, 2)]);
+    for disk in [0, 1, 3, 4] {
+        let written = vec![sheet(&[2, 1, 0, 0, 2, 1, 17, 3, 4, 1, 4, 3, 16, 0])];
+        plan_disk(run, "5 and card 8", grid, &map, disk, Outcome { answer: FATAL, out: Some(4), written });
+    }
+    let kept = Outcome { answer: NOT_ERASED, out: None, written: vec![OLD.to_vec()] };
+    for disk in [2, 5, 6, 7, 9, 10, 255, 256, 264, (1 << 32) + 8, usize::MAX] {
+        plan_disk(run, "5 and card 8", grid, &map, disk, kept.clone());
+        plan_disk(run, "2", grid, &[0; 9], disk, kept.clone());
+    }
+}
+
 /// The like of cases 1, 3, 4, 7, 9 and 11 on a grid of two rows and three columns.
 fn wider_than_high(run: &mut Run) {
     seals(run, "wide 1", WIDE, &[1, 2, 4, 99, 8, 16, 32, 7, 6, 5, 4, 3]);
@@ -353,7 +425,8 @@ fn refused(run: &mut Run, case: &str, size: Size, map: &[u8], status: usize) {
     if status != 2 {
         let expected = Outcome { answer: status, out: None, written: vec![OLD.to_vec()] };
         let model = model::plan(size.grid, map, &OLD);
-        stated(run, &format!("{case}, plan"), expected, || ffi::plan(size.grid, map, &OLD), model);
+        stated(run, &format!("{case}, plan"), expected.clone(), || ffi::plan(size.grid, map, &OLD), model);
+        plan_disk(run, case, size.grid, map, 0, expected);
     }
 }
 
@@ -467,11 +540,37 @@ fn limit(run: &mut Run) {
     }
 }
 
+/// The count of the plan for one disk, by the library and by the model; 0 where there is no list.
+fn list_length(grid: Grid, map: &[u8], disk: usize) -> [usize; 2] {
+    let none = |_| Outcome::reading(usize::MAX, None);
+    let model = model::plan_disk(&model::plan(grid, map, &OLD), branch::shortest, grid, map, &OLD, disk);
+    [ffi::plan_disk(grid, map, &OLD, disk).unwrap_or_else(none), model]
+        .map(|outcome| outcome.out.filter(|_| outcome.answer == 0).unwrap_or(0))
+}
+
+/// The longest list for one disk: half of a+b and one more where both ways are open, a+b-2 where one leads to a loop.
+fn longest_list(run: &mut Run) {
+    for grid in [(2, 2), (2, 3), (3, 2)].map(|(rows, columns)| Grid::new(rows, columns)) {
+        let maps = (0..1 << grid.disks()).map(|set| map_of_bits(grid, set));
+        let lengths =
+            maps.flat_map(|map| erased_disks(&map).into_iter().map(move |disk| list_length(grid, &map, disk)));
+        let most = lengths.fold([0; 2], |most, length| [0, 1].map(|i| length[i].max(most[i])));
+        number(run, &format!("the longest list for one disk, {grid}"), 0, (grid.rows + grid.columns) / 2 + 1, most);
+    }
+    for grid in grids_up_to(SIDE_MAX) {
+        let disks = hanging_on_a_rectangle(&mut run.random, grid);
+        let lengths = list_length(grid, &map_of(grid, &disks), disks[0]);
+        number(run, &format!("a list past a loop, {grid}"), 0, grid.rows + grid.columns - 2, lengths);
+    }
+}
+
 pub fn run(run: &mut Run) {
     seals(run, "1", A, &[1, 2, 99, 4, 8, 7, 6, 5, 4]);
     losses(run);
     turns(run);
     tidy_sheets(run);
+    wanted_disks(run);
+    wanted_in_a_loop(run);
     nine_cards(run);
     write(run, "9", A, 0, 0, &[9, 2, 11, 4, 8, 12, 13, 10, 7]);
     wider_than_high(run);
@@ -483,5 +582,6 @@ pub fn run(run: &mut Run) {
     refused(run, "11", A.size, &[0, 0, 0, 0, 2, 0, 0, 0, 0], 4);
     counted(run);
     limit(run);
+    longest_list(run);
     lost_by_definition(run);
 }

@@ -6,7 +6,7 @@ use crate::random::Random;
 use crate::rebuild::{self, AT_ONCE};
 use crate::sheet::SHEET;
 use crate::size::{Grid, Size};
-use crate::{cores, follow, losses, plan, save, turns, Run};
+use crate::{cores, follow, losses, plan, save, turns, wanted, Run};
 
 /// Random losses of four disks, and as many of other numbers, in parts.
 const PARTS: usize = 20;
@@ -17,10 +17,12 @@ const SHARING: usize = 64;
 /// One loss in so many is also rebuilt in turns.
 const IN_TURNS: usize = 4;
 
-/// Plan, rebuild, follow and save for one map, on a sealed array and on a damaged one. Some are rebuilt in turns too.
+/// Plan and plan for one disk, and rebuild, follow and save on a sealed array and on a damaged one, for one map. Some are
+/// rebuilt in turns too.
 pub fn loss(run: &mut Run, size: Size, sealed: &[u8], map: &[u8]) {
     let sheet = run.random.bytes(SHEET);
     plan::compare(&mut run.tally, size.grid, map, &sheet);
+    wanted::any_disk(run, size.grid, map, &sheet);
     rebuild::sealed_and_damaged(run, size, sealed, map);
     if run.random.one_in(IN_TURNS) {
         turns::any_limit(run, size, sealed, map);

@@ -1,33 +1,37 @@
-//! Every refusal of plan, rebuild, follow, save and tidy alone, every pair of them, and every larger set: of those that
-//! apply, the first in the paper's list is due.
+//! Every refusal of plan, plan for one disk, rebuild, follow, save and tidy alone, every pair of them, and every larger set:
+//! of those that apply, the first in the paper's list is due.
 
 use crate::inputs::{random_grid, sealed_array};
 use crate::random::Random;
 use crate::rebuild::{self, AT_ONCE};
 use crate::sheet::place_of;
 use crate::size::Size;
-use crate::{arguments, cores, follow, losses, plan, save, sheets, tidy, Run};
+use crate::wanted::Asked;
+use crate::{arguments, branch, cores, follow, losses, plan, save, sheets, tidy, Run};
 
 /// How often each set of faults is tried, each time with other values.
 const TURNS: usize = 5;
 
-/// The arguments of rebuild and follow; those of plan, save and tidy are among them.
+/// The arguments of rebuild and follow, among which are those of plan, save and tidy, and one more for plan for one disk.
 struct Arguments {
     size: Size,
     array: Vec<u8>,
     map: Vec<u8>,
     sheet: Vec<u8>,
+    /// The number of an erased disk.
+    disk: usize,
 }
 
 /// A call with nothing wrong: a sealed array that has lost one of its row parities, and a sheet with the repair.
 fn faultless(random: &mut Random) -> Arguments {
     let size = Size { grid: random_grid(random), block: random.between(1, 20) };
     let grid = size.grid;
-    let map = losses::map_of(grid, &[grid.disk_at(random.below(grid.rows), grid.columns)]);
+    let disk = grid.disk_at(random.below(grid.rows), grid.columns);
+    let map = losses::map_of(grid, &[disk]);
     let mut array = sealed_array(random, size);
     losses::forget(random, size, &mut array, &map);
     let steps = sheets::any_order(random, grid, &map);
-    Arguments { size, array, map, sheet: sheets::scattered(random, &steps) }
+    Arguments { size, array, map, sheet: sheets::scattered(random, &steps), disk }
 }
 
 /// One byte more or less, or another wrong length.
@@ -60,8 +64,12 @@ const FAULTS: [fn(&mut Random, &mut Arguments); 13] = [
         let disk = grid.disk_at(random.below(grid.rows), random.below(grid.columns));
         a.array[disk * block + random.below(block)] ^= random.between(1, 255) as u8;
     },
-    // 6: the corners of a rectangle are lost.
-    |random, a| losses::ring(random, a.size.grid, 2, 0).iter().for_each(|&disk| a.map[disk] = 1),
+    // 6: the corners of a rectangle are lost, and one of them is wanted.
+    |random, a| {
+        let corners = losses::ring(random, a.size.grid, 2, 0);
+        corners.iter().for_each(|&disk| a.map[disk] = 1);
+        a.disk = random.pick(&corners);
+    },
     // 11: another disk, a stripe that does not go through the disk, or no repair at all.
     |random, a| {
         let at = first_record(&mut a.sheet);
@@ -106,6 +114,13 @@ const FAULTS: [fn(&mut Random, &mut Arguments); 13] = [
     |random, a| a.size.grid.columns = wrong_side(random, a.size.grid.columns),
 ];
 
+/// The number of a disk that is present or of none; some of them would be the good one if they were shortened.
+fn wrong_disk(random: &mut Random, a: &Arguments) -> usize {
+    let present = a.map.iter().position(|&mark| mark == 0).unwrap_or(usize::MAX);
+    let disks = a.map.len();
+    random.pick(&[present, present, disks, a.disk + 256, a.disk + (1 << 32), usize::MAX])
+}
+
 /// The calls with one set of faults, given by its bits.
 fn one_set(run: &mut Run, set: usize) {
     for _ in 0..TURNS {
@@ -116,6 +131,11 @@ fn one_set(run: &mut Run, set: usize) {
             }
         }
         plan::compare(&mut run.tally, a.size.grid, &a.map, &a.sheet);
+        // 15, by the number, which the plan for one disk has alone.
+        let asked = Asked::new(a.size.grid, &a.map, &a.sheet);
+        for disk in [a.disk, wrong_disk(&mut run.random, &a)] {
+            asked.compare(&mut run.tally, branch::shortest, disk);
+        }
         // 12, by the limit, which is rebuild's alone.
         for limit in [AT_ONCE, 0] {
             rebuild::compare(&mut run.tally, a.size, &a.array, &a.map, &a.sheet, limit);
@@ -129,5 +149,5 @@ fn one_set(run: &mut Run, set: usize) {
 pub fn run(run: &mut Run) {
     let name = "every set of refusals";
     cores::share(run, name, 1 << FAULTS.len(), one_set);
-    run.tally.report(name, &[0, 1, 2, 3, 4, 5, 6, 7, 10, 11, 12, 13, 14]);
+    run.tally.report(name, &[0, 1, 2, 3, 4, 5, 6, 7, 10, 11, 12, 13, 14, 15]);
 }

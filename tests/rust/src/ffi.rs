@@ -34,6 +34,10 @@ extern "C" {
                        map: *const u8, map_len: usize,
                        sheet: *mut u8, sheet_len: usize,
                        count: *mut usize) -> u32;
+    pub fn raid2d_plan_disk(rows: usize, columns: usize,
+                            map: *const u8, map_len: usize,
+                            sheet: *mut u8, sheet_len: usize,
+                            disk: usize, count: *mut usize) -> u32;
     pub fn raid2d_rebuild(rows: usize, columns: usize, block: usize,
                           array: *mut u8, array_len: usize,
                           map: *mut u8, map_len: usize,
@@ -123,6 +127,19 @@ pub fn plan(grid: Grid, map: &[u8], sheet: &[u8]) -> Result<Outcome, String> {
     let (map_at, map_len) = (map.pointer(), map.len());
     let (sheet_at, sheet_len) = (sheet.pointer(), sheet.len());
     let status = unsafe { raid2d_plan(rows, columns, map_at, map_len, sheet_at, sheet_len, count.pointer()) };
+    map.only_read()?;
+    Ok(Outcome { answer: status as usize, out: count.value()?, written: vec![sheet.written()?] })
+}
+
+pub fn plan_disk(grid: Grid, map: &[u8], sheet: &[u8], disk: usize) -> Result<Outcome, String> {
+    let Grid { rows, columns } = grid;
+    let mut map = Lent::new("map", map);
+    let mut sheet = Lent::new("sheet", sheet);
+    let mut count = Out::new();
+    let (map_at, map_len) = (map.pointer(), map.len());
+    let (sheet_at, sheet_len) = (sheet.pointer(), sheet.len());
+    let status =
+        unsafe { raid2d_plan_disk(rows, columns, map_at, map_len, sheet_at, sheet_len, disk, count.pointer()) };
     map.only_read()?;
     Ok(Outcome { answer: status as usize, out: count.value()?, written: vec![sheet.written()?] })
 }

@@ -26,12 +26,12 @@ fn refused(run: &mut Run, call: &str, status: usize, found: usize, out: Out) {
     run.tally.compare(|| format!("{call} of 2^32 bytes too many"), &Outcome::reading(status, None), answer);
 }
 
-/// Plan, rebuild, follow, save and tidy with a buffer that has 2^32 bytes more than it should.
+/// Plan, plan for one disk, rebuild, follow, save and tidy with a buffer that has 2^32 bytes more than it should.
 fn maps_and_sheets(run: &mut Run, at: *mut u8) {
     let (len, sheet_len) = ((1 << 32) + RIGHT, (1 << 32) + SHEET);
     let (mut array, mut map, mut sheet) = (ARRAY, MAP, [7; SHEET]);
     let (array, map, sheet) = (array.as_mut_ptr(), map.as_mut_ptr(), sheet.as_mut_ptr());
-    let mut out: [Out; 11] = std::array::from_fn(|_| Out::new());
+    let mut out: [Out; 13] = std::array::from_fn(|_| Out::new());
     let counts = out.each_mut().map(|out| out.pointer());
     let found = unsafe {
         [
@@ -49,6 +49,8 @@ fn maps_and_sheets(run: &mut Run, at: *mut u8) {
             ("follow, sheet", 5, ffi::raid2d_follow(2, 3, 1, array, RIGHT, map, RIGHT, at, sheet_len, counts[7])),
             ("save, array", 3, ffi::raid2d_save(2, 3, 1, at, len, map, RIGHT, counts[8])),
             ("save, map", 4, ffi::raid2d_save(2, 3, 1, array, RIGHT, at, len, counts[9])),
+            ("plan_disk, map", 4, ffi::raid2d_plan_disk(2, 3, at, len, sheet, SHEET, 0, counts[10])),
+            ("plan_disk, sheet", 5, ffi::raid2d_plan_disk(2, 3, map, RIGHT, at, sheet_len, 0, counts[11])),
             // Tidy has no count: its number stays untouched.
             ("tidy, sheet", 5, ffi::raid2d_tidy(at, sheet_len)),
         ]

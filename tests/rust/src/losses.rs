@@ -1,6 +1,6 @@
-//! Maps to try plan, rebuild, follow and save on, and what a lost array holds.
+//! Maps to try plan, plan for one disk, rebuild, follow and save on, and what a lost array holds.
 
-use crate::equations::Equations;
+use crate::equations::{stripes_through, Equations};
 use crate::inputs::{place, random_grid, sealed_array};
 use crate::random::Random;
 use crate::size::{Grid, Size};
@@ -104,6 +104,75 @@ pub fn rectangles_and_more(random: &mut Random, grid: Grid, rectangles: usize, m
     let others: Vec<usize> = others.filter(|&disk| equations.add(disk)).take(more).collect();
     disks.extend(others);
     disks
+}
+
+/// Disks that grow on some stripes: each new one lies on a stripe that was reached and on one that was free.
+struct Tree {
+    reached: Vec<usize>,
+    disks: Vec<usize>,
+}
+
+impl Tree {
+    fn on(stripe: usize) -> Tree {
+        Tree { reached: vec![stripe], disks: Vec::new() }
+    }
+
+    /// One disk more, if a row and a column are left for it.
+    fn grow(&mut self, random: &mut Random, grid: Grid, free: &mut Vec<usize>) {
+        let crossing = |&(one, other): &(usize, usize)| (one < 16) != (other < 16);
+        let pairs = self.reached.iter().flat_map(|&one| free.iter().map(move |&other| (one, other)));
+        let pairs: Vec<(usize, usize)> = pairs.filter(crossing).collect();
+        if !pairs.is_empty() {
+            let (one, other) = random.pick(&pairs);
+            free.retain(|&stripe| stripe != other);
+            self.reached.push(other);
+            self.disks.push(grid.disk_at(one.min(other), one.max(other) - 16));
+        }
+    }
+
+    /// One disk more that closes a loop, if the stripes reached have one that is not there yet.
+    fn close(&mut self, random: &mut Random, grid: Grid) {
+        let inside = |disk: &usize| stripes_through(grid, *disk).iter().all(|stripe| self.reached.contains(stripe));
+        let closing = |disk: &usize| inside(disk) && !self.disks.contains(disk);
+        let closing: Vec<usize> = (0..grid.disks()).filter(closing).collect();
+        if !closing.is_empty() {
+            self.disks.push(random.pick(&closing));
+        }
+    }
+}
+
+/// A disk with so many disks that hang on its row and so many that hang on its column, or as many as there is room for, and
+/// then a loop on either where one is asked for. So the ways to repair it by its row and by its column are as long as these
+/// numbers, and one that has a loop is none.
+pub fn two_branches(random: &mut Random, grid: Grid, lengths: [usize; 2], loops: [bool; 2]) -> Vec<usize> {
+    let disk = random.below(grid.disks());
+    let own = stripes_through(grid, disk);
+    let mut free: Vec<usize> = (0..=grid.rows).chain(16..=16 + grid.columns).collect();
+    free.retain(|stripe| !own.contains(stripe));
+    let mut branches = own.map(Tree::on);
+    for length in 0..lengths[0].max(lengths[1]) {
+        for (branch, _) in branches.iter_mut().zip(lengths).filter(|&(_, most)| length < most) {
+            branch.grow(random, grid, &mut free);
+        }
+    }
+    for (branch, _) in branches.iter_mut().zip(loops).filter(|&(_, closed)| closed) {
+        branch.close(random, grid);
+    }
+    branches.into_iter().flat_map(|branch| branch.disks).chain([disk]).collect()
+}
+
+/// A rectangle with a disk on one of its rows or columns, and on the other stripe of that disk all that can hang there: the
+/// longest list that a plan for one disk can need, on a grid that is large enough. It is that of the first disk.
+pub fn hanging_on_a_rectangle(random: &mut Random, grid: Grid) -> Vec<usize> {
+    let (r, c) = (shuffled(random, grid.rows + 1), shuffled(random, grid.columns + 1));
+    let (disk, other) = random.pick(&[(grid.disk_at(r[0], c[2]), 16 + c[2]), (grid.disk_at(r[2], c[0]), r[2])]);
+    let taken = [r[0], r[1], 16 + c[0], 16 + c[1], other];
+    let mut free: Vec<usize> = (0..=grid.rows).chain(16..=16 + grid.columns).collect();
+    free.retain(|stripe| !taken.contains(stripe));
+    let mut tree = Tree::on(other);
+    (0..grid.most_repairs()).for_each(|_| tree.grow(random, grid, &mut free));
+    let corners = [(0, 0), (0, 1), (1, 0), (1, 1)].map(|(x, y)| grid.disk_at(r[x], c[y]));
+    [disk].into_iter().chain(corners).chain(tree.disks).collect()
 }
 
 /// How many kinds of losses there are below, and which of them is none.

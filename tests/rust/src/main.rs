@@ -1,13 +1,16 @@
 //! Compares libraid2d.a with a model written from papers 01 and 02: every answer, every out-parameter and all bytes.
 //!
 //! Without an argument the comparison is that of the gate. The argument `maps` asks instead for all maps of grids with
-//! four rows or columns, and `sets` for all losses of three and of four disks at the largest grid and at some others.
+//! four rows or columns, in the plan for one disk also of those with three of both, and `sets` for all losses of three and
+//! of four disks at the largest grid and at some others.
 //! RAID2D_SEED sets the seed, which is printed: the same seed gives the same run. RAID2D_LONG=1 does twenty times the
 //! random work. RAID2D_TRACE=1 prints every input before its call, for a library that ends the program. RAID2D_STOP=1
 //! ends the run with the first comparison that fails. The last line counts the comparisons; the exit status is 1 where
 //! one fails.
 
 mod arguments;
+mod branch;
+mod by_hand;
 mod cases;
 mod check;
 mod cores;
@@ -25,6 +28,7 @@ mod losses;
 mod model;
 mod outcome;
 mod plan;
+mod planted;
 mod random;
 mod rebuild;
 mod save;
@@ -32,11 +36,13 @@ mod seal;
 mod sets;
 mod sheet;
 mod sheets;
+mod shortest;
 mod size;
 mod steps;
 mod tally;
 mod tidy;
 mod turns;
+mod wanted;
 mod write;
 
 use random::Random;
@@ -64,7 +70,7 @@ struct Call {
     answers: &'static [usize],
 }
 
-const CALLS: [Call; 9] = [
+const CALLS: [Call; 10] = [
     Call { name: "seal", contents: seal::contents, refusals: seal::refusals, draws: 30_000, answers: &[0, 1, 2, 3] },
     Call {
         name: "check",
@@ -89,6 +95,13 @@ const CALLS: [Call; 9] = [
         answers: &[0, 1, inputs::BLOCK_MAX],
     },
     Call { name: "plan", contents: plan::contents, refusals: plan::refusals, draws: 45_000, answers: &[0, 1, 4, 5, 6] },
+    Call {
+        name: "plan_disk",
+        contents: wanted::contents,
+        refusals: wanted::refusals,
+        draws: 45_000,
+        answers: &[0, 1, 4, 5, 6, 15],
+    },
     Call {
         name: "rebuild",
         contents: rebuild::contents,
@@ -147,7 +160,7 @@ fn is_set(variable: &str) -> bool {
 
 fn gate(run: &mut Run, rounds: usize) {
     cases::run(run);
-    run.tally.report("paper's cases", &[0, 1, 2, 4, 6, 7, 8, 10, 11, 12, 13, 14]);
+    run.tally.report("paper's cases", &[0, 1, 2, 4, 6, 7, 8, 10, 11, 12, 13, 14, 15]);
     fields::run(run);
     run.tally.report("lengths and fields", &[0]);
     huge::run(run);
@@ -159,6 +172,7 @@ fn gate(run: &mut Run, rounds: usize) {
     tidy::run(run, rounds);
     turns::run(run, rounds);
     save::run(run, rounds);
+    wanted::run(run, rounds);
     exhaustive::run(run, rounds);
 }
 
@@ -172,7 +186,10 @@ fn main() -> ExitCode {
     let mut run = Run { random: Random::new(seed), tally: Tally::new(is_set("RAID2D_TRACE")) };
     match std::env::args().nth(1).as_deref() {
         None => gate(&mut run, rounds),
-        Some("maps") => exhaustive::more_maps(&mut run),
+        Some("maps") => {
+            exhaustive::more_maps(&mut run);
+            wanted::more_maps(&mut run);
+        }
         Some("sets") => sets::run(&mut run),
         Some(other) => panic!("{other} is neither maps nor sets"),
     }

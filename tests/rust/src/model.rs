@@ -24,6 +24,8 @@ pub const NO_REPAIRS: usize = 12;
 const TWICE: usize = 13;
 /// The status of bytes off the chain that are not zero.
 pub const LEFTOVERS: usize = 14;
+/// The status of a wanted disk that the grid has not, or that is not erased.
+pub const NOT_ERASED: usize = 15;
 /// What check answers for an array that is not sealed. Paper 01 gives no number; the C interface does.
 const NOT_SEALED: usize = 64;
 /// Column c is stripe 16 + c.
@@ -257,6 +259,26 @@ pub fn plan(grid: Grid, map: &[u8], sheet: &[u8]) -> Outcome {
     Outcome { answer, out, written: vec![listed] }
 }
 
+/// How the list that ends with a wanted disk is found, for the erased disks in rising order. None where no list does.
+pub type Rule = fn(Grid, &[usize], usize) -> Option<Vec<Record>>;
+
+/// The list that ends with a wanted disk and its number of repairs, or what plan says. Refusals 1, 4 and 5 are those of plan,
+/// whose outcome for this map and sheet is given; 15 stands between them and 6.
+pub fn plan_disk(planned: &Outcome, rule: Rule, grid: Grid, map: &[u8], sheet: &[u8], disk: usize) -> Outcome {
+    if planned.answer != SUCCESS && planned.answer != FATAL {
+        return planned.clone();
+    }
+    if disk >= grid.disks() || map[disk] == 0 {
+        return Outcome { answer: NOT_ERASED, out: None, written: vec![sheet.to_vec()] };
+    }
+    match rule(grid, &erased_disks(map), disk) {
+        Some(repairs) => {
+            Outcome { answer: SUCCESS, out: Some(repairs.len()), written: vec![sheet::of_repairs(&repairs)] }
+        }
+        None => planned.clone(),
+    }
+}
+
 /// The array with other blocks on the erased disks.
 fn with_erased(block: usize, array: &[u8], map: &[u8], erased: &[u8]) -> Vec<u8> {
     let mut changed = array.to_vec();
@@ -267,7 +289,7 @@ fn with_erased(block: usize, array: &[u8], map: &[u8], erased: &[u8]) -> Vec<u8>
 }
 
 /// Sets the block of a disk to the sum of the other disks of a stripe.
-fn repair(size: Size, array: &mut [u8], disk: usize, stripe: usize) {
+pub fn repair(size: Size, array: &mut [u8], disk: usize, stripe: usize) {
     let mut others = stripe_disks(size.grid, stripe);
     others.retain(|&other| other != disk);
     let bytes = sum(array, size.block, &others);

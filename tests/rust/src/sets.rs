@@ -1,6 +1,6 @@
 //! All losses of three and of four disks of some grids, 177 million at the largest. The model is too slow for them:
 //! plan is judged by a rule and by a simulation of plan's order on at most four disks. The fatal ones and a sample of
-//! the others also go the usual way, through rebuild, follow and save.
+//! the others also go the usual way, through plan for one disk, rebuild, follow and save.
 
 use crate::inputs::sealed_array;
 use crate::losses::{choose, map_of, rectangles, sets_up_to};

@@ -93,17 +93,22 @@ pub fn off_chain(sheet: &[u8]) -> Vec<usize> {
     others.flat_map(|number| place_of(number)..place_of(number) + 3).collect()
 }
 
-/// Whether every step is an allowed repair at its turn, and no disk remains erased at the end. A repair is allowed if its
-/// disk is still erased, its stripe goes through the disk, and no other disk on the stripe is still erased.
-pub fn clears(grid: Grid, erased: &[usize], steps: &[Record]) -> bool {
+/// The disks that are still erased after these steps; none where a step is not an allowed repair at its turn. A repair is
+/// allowed if its disk is still erased, its stripe goes through the disk, and no other disk on the stripe is still erased.
+pub fn left_after(grid: Grid, erased: &[usize], steps: &[Record]) -> Option<Vec<usize>> {
     let mut left = erased.to_vec();
     for &(disk, stripe) in steps {
         if !left.contains(&disk) || !lies_on(grid, disk, stripe) || count_on(grid, &left, stripe) != 1 {
-            return false;
+            return None;
         }
         left.retain(|&other| other != disk);
     }
-    left.is_empty()
+    Some(left)
+}
+
+/// Whether every step is an allowed repair at its turn, and no disk remains erased at the end.
+pub fn clears(grid: Grid, erased: &[usize], steps: &[Record]) -> bool {
+    left_after(grid, erased, steps).is_some_and(|left| left.is_empty())
 }
 
 /// The records 1, 2, 3 of a chain, with zeros behind them.

@@ -16,7 +16,7 @@ const PARTS: usize = 10;
 const GREAT: [usize; 6] = [1 << 8, 1 << 16, 1 << 32, (1 << 32) + 1, 1 << 63, AT_ONCE];
 
 /// The repairs that a sheet lists.
-fn repairs_of(sheet: &[u8]) -> Result<Vec<Record>, String> {
+pub fn repairs_of(sheet: &[u8]) -> Result<Vec<Record>, String> {
     match model::chain_refusal(sheet) {
         SUCCESS => Ok(sheet::list(sheet)),
         _ => Err(format!("no list of repairs: {}", show(sheet))),

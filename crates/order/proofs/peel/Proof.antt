@@ -5,9 +5,9 @@ use Prim.Native.Nat.{_-_, _<_, ℕ}
 use native.Mathlib.Omega.{arith}
 use borrow.Author.Needs.{needs}
 use lib.ListN.{length}
-use Rattle.stripes.specs.Erased.{erasures}
-use Rattle.stripes.specs.Repair.{repairs}
-use Rattle.stripes.proofs.Peel.{Allowed, repairs-peels}
+use Rattle.stripes.specs.Erased.{erasures, without}
+use Rattle.stripes.specs.Repair.{anyDisk}
+use Rattle.stripes.proofs.Peel.{Allowed, peel-peels}
 use Rattle.stripes.specs.System.{Layout}
 use Rattle.stripes.proofs.Degree.{on-bound}
 use Rattle.stripes.specs.Fold.{count}
@@ -15,19 +15,19 @@ use Rattle.model.specs.Grid.{layoutOf}
 use Rattle.model.proofs.Grid.{disks-bound, size-fits, layout-disks}
 use Rattle.model.proofs.Limits.{grid-repairs-bound}
 use Rattle.order.specs.declared.Next.the-variants.{Repair}
-use Rattle.order.specs.Pick.{picked}
+use Rattle.order.specs.Pick.{picked, heldRepairs}
 use Rattle.order.proofs.Turns.{Turn, turn-none, turn-next, turn-stuck, turn-done, turn-ends, picked-allowed}
 use Rattle.order.proofs.peel.Statement.{statement}
 use Rattle.layout.proofs.Runs.{stripes-few, numbered-two}
 use Rattle.order.proofs.peel.Tie as tie
 
 abbrev Inv-loop : tie.InvT-loop
-Inv-loop size base erased work₀ stripes counts₀ list₀ k₀ work counts list k =
-    Turn (layoutOf size base) (erasures work₀) work stripes counts list k
+Inv-loop size base held erased work₀ stripes counts₀ list₀ k₀ work counts list k =
+    Turn (layoutOf size base) (without anyDisk held) (erasures work₀) work stripes counts list k
     × (length work ≡ length work₀) × (length counts ≡ length counts₀) × (length list ≡ length list₀)
 
 abbrev μ-loop : tie.MeasureT-loop
-μ-loop size base erased work₀ stripes counts₀ list₀ k₀ work counts list k = erased - k
+μ-loop size base held erased work₀ stripes counts₀ list₀ k₀ work counts list k = erased - k
 
 loop-holds : tie.Need-loop-holds Inv-loop μ-loop
 loop-holds c = (turn-none _ (c .before .before .before .before .pre .1 .1 .0), search needs, search needs, search needs)
@@ -44,7 +44,8 @@ room : (l : tie.At-loop Inv-loop μ-loop) → (l .loop .k < 32) × (l .loop .k <
 room l =
     let s = start l in
     let e = erasures (s .args .work .now) in
-    let all = grid-repairs-bound (s .args .size) (s .args .base) (s .pre .0 .above) (s .pre .0 .fits) e (repairs (layout l) e) (repairs-peels (layout l) e) in
+    let w = heldRepairs (layout l) (s .args .held) e in
+    let few = grid-repairs-bound (s .args .size) (s .args .base) (s .pre .0 .above) (s .pre .0 .fits) e w (peel-peels (layout l) _ _ e) in
     let made = l .loop .inv .0 .within in
     (omega arith, omega (arith, l .loop .inv .3, s .pre .1 .1 .1))
 
@@ -61,21 +62,21 @@ enum-told c = c .match .keys2
 answered : (c : tie.After-answer Inv-loop μ-loop) →
     let l = c .before .before .before .before .before .before in
     let v = c .answer .given .0 in
-    Repair (v .0) (v .1 .0) ≡ picked (layout l) (erasures (l .loop .work))
+    Repair (v .0) (v .1 .0) ≡ picked (layout l) (without anyDisk (start l .args .held)) (erasures (l .loop .work))
 answered c = sym (c .answer .given .1) ∙ c .before .before .pick .ensures
 
 may : (c : tie.After-answer Inv-loop μ-loop) →
     let l = c .before .before .before .before .before .before in
     let v = c .answer .given .0 in
     Allowed (layout l) (erasures (l .loop .work)) (v .0) (v .1 .0)
-may c = picked-allowed _ _ _ _ (answered c)
+may c = picked-allowed _ _ _ _ _ (answered c)
 
 small : (c : tie.After-answer Inv-loop μ-loop) → let v = c .answer .given .0 in (v .0 < 65536) × (v .1 .0 < 65536)
 small c =
     let l = c .before .before .before .before .before .before in
     let s = start l in
     let a = may c in
-    let all = disks-bound (s .args .size) (size-fits (s .args .size) (s .pre .0 .fits)) in
+    let most = disks-bound (s .args .size) (size-fits (s .args .size) (s .pre .0 .fits)) in
     let same = layout-disks (s .args .size) (s .args .base) in
     let few = stripes-few (s .pre .0) in
     (omega (arith, a .disk), omega (arith, on-bound (layout l) (numbered-two (s .pre .0)) _ (a .disk) _ (a .here)))

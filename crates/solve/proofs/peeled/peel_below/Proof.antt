@@ -1,8 +1,12 @@
 -- `solve::peeled::peel_below` meets its contract: the erased disks below k are loaded, then peeled.
 -- Assumes nothing.
+use Prim.Native.Nat.{_≤_}
 use native.Mathlib.Omega.{arith}
 use borrow.Author.Needs.{needs}
+use lib.ListN.{length}
+use Rattle.model.specs.Grid.{layoutOf}
 use Rattle.model.proofs.Grid.{layout-disks}
+use Rattle.order.proofs.Held.{none-held}
 use Rattle.solve.proofs.Memory.{map-disks, loaded-inside, made-some, peeled}
 use Rattle.solve.proofs.peeled.peel_below.Statement.{statement}
 use Rattle.solve.proofs.peeled.peel_below.Tie as tie
@@ -32,10 +36,20 @@ peel-requires c κs =
     let (number, tallied) = t .tally .ensures in
     (p .0, (number, (tallied, p .1 .1 .1 .listFits)))
 
-sub-t28 : tie.Need-sub-t28
-sub-t28 c =
+-- No disk's number is the map's length, so none is held back.
+no-disk : (p : tie.After-peel) →
+    let a = p .before .before .before .before .before .before .before .before .before .before .before .before .before .before .before .before .before .before .before .before .before .before .args in
+    layoutOf (a .size) (a .base) .disks ≤ length (a .map .now)
+no-disk p =
+    let s = p .before .before .before .before .before .before .before .before .before .before .before .before .before .before .before .before .before .before .before .before .before .before in
+    let long = map-disks _ (s .args .base) _ (s .pre .1 .0) in
+    omega arith
+
+sub-t20 : tie.Need-sub-t20
+sub-t20 c =
     let p = c .before .before .before .before .before .before in
-    made-some _ _ _ (p .before .before .before .before .before .before .before .before .before .tally .ensures .0) (p .peel .ensures .0)
+    made-some _ _ _ (p .before .before .before .before .before .before .before .before .before .tally .ensures .0)
+    (none-held (no-disk p) _ _ (p .peel .ensures) .0)
 
 same-length : tie.Need-same-length
 same-length c = search needs
@@ -53,8 +67,8 @@ returns : tie.Need-returns
 returns c =
     let p = c .before .before .before .before .before .before in
     let t = p .before .before .before .before .before .before .before .before .before in
-    let (number, (rest, (entries, table))) = p .peel .ensures in
-    peeled _ _ _ (t .tally .ensures .0) number (t .before .before .before .before .before .before .copy .ensures) entries rest table
+    let (number, (rest, (entries, tallied))) = none-held (no-disk p) _ _ (p .peel .ensures) in
+    peeled _ _ _ (t .tally .ensures .0) number (t .before .before .before .before .before .before .copy .ensures) entries rest (tallied .table)
 
 pub peel-below-spec : {M : Type 1} → statement M
 peel-below-spec =
@@ -63,7 +77,7 @@ peel-below-spec =
     copy-requires
     tally-requires
     peel-requires
-    sub-t28
+    sub-t20
     same-length
     same-length-2
     same-length-3

@@ -1,0 +1,6 @@
+pub mod Answers
+pub mod Chosen
+pub mod Kept
+pub mod Loaded
+pub mod Moved
+pub mod Reached
