@@ -136,7 +136,7 @@
  * RAID2D_ERR_SURVIVORS. A status keeps its number for good.
  *
  * State. There is none: no memory is allocated, nothing is read or written but
- * what is lent and less than 3 KB of stack. Of the C library the archive needs
+ * what is lent and less than 4 KB of stack. Of the C library the archive needs
  * memcpy and memset, which take stack of their own, and at their first call so
  * does a dynamic linker that has to find them. Calls may run at the same time,
  * also from a signal handler, unless one writes what another is lent.

@@ -27,7 +27,7 @@ static uint8_t array[RAID2D_ARRAY_BYTES(SIDE, SIDE, BLOCK)];
 static uint8_t map[RAID2D_DISKS(SIDE, SIDE)];
 static uint8_t sheet[RAID2D_SHEET_BYTES];
 static uint8_t data[BLOCK];
-static size_t disks, array_len;
+static size_t disks, array_len, wanted;
 static size_t out;
 static size_t result;
 
@@ -67,6 +67,12 @@ static void plan(void)
                          &out);
 }
 
+static void plan_disk(void)
+{
+    result = raid2d_plan_disk(rows, columns, map, disks, sheet, sizeof sheet,
+                              wanted, &out);
+}
+
 static void rebuild_some(size_t limit)
 {
     result = raid2d_rebuild(rows, columns, BLOCK, array, array_len, map,
@@ -100,7 +106,8 @@ static void tidy(void)
     result = raid2d_tidy(sheet, sizeof sheet);
 }
 
-/* What a run starts from: arbitrary data, sealed, and no disk erased. */
+/* What a run starts from: arbitrary data, sealed, and no disk erased. Disk 0 is
+   the one that is wanted. */
 static void prepare(void)
 {
     uint32_t x = 1;
@@ -113,6 +120,7 @@ static void prepare(void)
     memcpy(data, array + 7, sizeof data);
     memset(map, 0, sizeof map);
     memset(sheet, 0, sizeof sheet);
+    wanted = 0;
     raid2d_seal(rows, columns, BLOCK, array, array_len);
 }
 
@@ -227,6 +235,22 @@ static void contradicted_rectangle(void)
     lose(1, 1);
 }
 
+/* The longest list for one disk, 28 repairs at the largest size: four disks are
+   a cycle, and the wanted one stands in its second column and in row 2. There
+   all others are erased, and in column 2 all below. */
+static void longest_list(void)
+{
+    size_t i;
+
+    for (i = 0; i < 4; i++)
+        lose(i / 2, i % 2);
+    for (i = 1; i <= columns; i++)
+        lose(2, i);
+    for (i = 3; i <= rows; i++)
+        lose(i, 2);
+    wanted = 2 * (columns + 1) + 1;
+}
+
 struct run {
     const char *name;
     void (*call)(void);
@@ -245,6 +269,11 @@ static const struct run runs[] = {
     { "plan", plan, "the longest cycle", stairs, RAID2D_FATAL },
     { "plan", plan, "all disks erased", all_lost, RAID2D_FATAL },
     { "plan", plan, "rectangles joined", rectangles, RAID2D_FATAL },
+    { "plan_disk", plan_disk, "the longest list", longest_list, RAID2D_OK },
+    { "plan_disk", plan_disk, "a row and a column lost", cross, RAID2D_OK },
+    { "plan_disk", plan_disk, "the longest cycle", stairs, RAID2D_FATAL },
+    { "plan_disk", plan_disk, "all disks erased", all_lost, RAID2D_FATAL },
+    { "plan_disk", plan_disk, "rectangles joined", rectangles, RAID2D_FATAL },
     { "rebuild", rebuild, "a row and a column lost", cross, RAID2D_OK },
     { "rebuild", rebuild_one, "one repair of the same", cross, RAID2D_OK },
     { "rebuild", rebuild, "the longest cycle", stairs, RAID2D_FATAL },
@@ -319,7 +348,7 @@ static int run_all(size_t limit, size_t empty)
         size_t depth = depth_of(run) - empty;
         int good = depth < limit && result == run->expected;
 
-        printf("%2zu by %2zu %-8s %-24s %4zu bytes of stack%s\n", rows, columns,
+        printf("%2zu by %2zu %-9s %-24s %4zu bytes of stack%s\n", rows, columns,
                run->name, run->on, depth, good ? "" : "  FAILED");
         failed += !good;
     }

@@ -4,15 +4,16 @@
  * kind that guard bytes, sums, samples, squares and rebuilds of all disks do not
  * show: a byte that is only read, or written as it was, single losses among
  * millions, rows that are taken for columns, and turns that do not end as they
- * should. wrong_save.c has save, wrong_tidy.c tidy and what follow makes of a
- * sheet. tests/wrong renames the archive's functions and sees that the tests
- * fail.
+ * should. wrong_disk.c has plan_disk, wrong_save.c save, wrong_tidy.c tidy and
+ * what follow makes of a sheet. tests/wrong renames the archive's functions and
+ * sees that the tests fail.
  */
 #include <stdlib.h>
 #include <string.h>
 
 #include "raid2d.h"
 #include "wrong.h"
+#include "wrong_disk.h"
 #include "wrong_tidy.h"
 
 size_t right_sheet_next(const uint8_t *sheet, size_t record);
@@ -487,6 +488,45 @@ uint32_t raid2d_plan(size_t rows, size_t columns,
     if (wrong("plan counts what no repair reaches") && status == 6)
         *count = count_left(rows, columns, map);
     return spoil_plan(status, rows, columns, map, map_len, sheet, count);
+}
+
+/* A byte that is not lent is read or cleared, or one that is only read is
+   written. */
+static void touch_plan_disk(const uint8_t *map, size_t map_len,
+                            uint8_t *sheet, const size_t *count)
+{
+    if (wrong("plan_disk reads a byte behind the map"))
+        read_at(map + map_len);
+    if (wrong("plan_disk reads a byte before the map"))
+        read_at(map - 1);
+    if (wrong("plan_disk reads a byte behind the count"))
+        read_at(count + 1);
+    if (wrong("plan_disk reads a byte before the count"))
+        read_at((const uint8_t *)count - 1);
+    if (wrong("plan_disk writes the map, the same bytes"))
+        write_at(map);
+    if (wrong("plan_disk clears a byte behind the sheet"))
+        set_bytes(sheet + RAID2D_SHEET_BYTES, 0, 1);
+}
+
+uint32_t raid2d_plan_disk(size_t rows, size_t columns,
+                          const uint8_t *map, size_t map_len,
+                          uint8_t *sheet, size_t sheet_len,
+                          size_t disk, size_t *count)
+{
+    struct size size = passed_on("plan_disk", rows, columns);
+    uint32_t status;
+
+    if (strncmp(wanted(), "plan_disk ", 10) != 0)
+        return right_plan_disk(rows, columns, map, map_len, sheet, sheet_len,
+                               disk, count);
+    status = plan_disk_wrongly(size.rows, size.columns, map, map_len, sheet,
+                               sheet_len, disk, count);
+    if (status == 0 || status == 6)
+        touch_plan_disk(map, map_len, sheet, count);
+    if (status == 0 && too_many("plan_disk", rows, columns, *count))
+        return 6;
+    return status;
 }
 
 uint32_t raid2d_rebuild(size_t rows, size_t columns, size_t block,

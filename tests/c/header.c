@@ -13,7 +13,7 @@ static uint8_t largest[RAID2D_ARRAY_BYTES(RAID2D_SIDE_MAX, RAID2D_SIDE_MAX,
                                           RAID2D_BLOCK_MAX)];
 
 static const uint32_t statuses[] = {
-    0, 1, 2, 3, 4, 5, 6, 7, 8, 9, 10, 11, 12, 13, 14, 64
+    0, 1, 2, 3, 4, 5, 6, 7, 8, 9, 10, 11, 12, 13, 14, 15, 64
 };
 
 #define STATUSES (sizeof statuses / sizeof statuses[0])
@@ -62,13 +62,14 @@ static void numbers_of_statuses(void)
     expect(RAID2D_ERR_LIMIT == 12, "number of a limit of 0");
     expect(RAID2D_ERR_RING == 13, "number of a record reached twice");
     expect(RAID2D_ERR_LEFTOVERS == 14, "number of leftovers");
+    expect(RAID2D_ERR_WANTED == 15, "number of a wrong wanted disk");
     expect(RAID2D_NOT_SEALED == 64, "number of an array that is not sealed");
 }
 
 /* Each status has words of its own; all other numbers share theirs. */
 static void words_of_statuses(void)
 {
-    static const uint32_t others[] = { 15, 63, 65, 256, 0xffffffffu };
+    static const uint32_t others[] = { 16, 63, 65, 256, 0xffffffffu };
     const char *unknown = raid2d_strerror(others[0]);
     size_t i, j;
 

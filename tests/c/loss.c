@@ -74,7 +74,17 @@ size_t disks_on(struct size s, size_t stripe)
     return (stripe < 16 ? s.columns : s.rows) + 1;
 }
 
-static size_t erased_on(const uint8_t *map, struct size s, size_t stripe)
+size_t row_of(struct size s, size_t disk)
+{
+    return disk / (s.columns + 1);
+}
+
+size_t column_of(struct size s, size_t disk)
+{
+    return 16 + disk % (s.columns + 1);
+}
+
+size_t erased_on(const uint8_t *map, struct size s, size_t stripe)
 {
     size_t count = 0, k;
 
@@ -83,27 +93,39 @@ static size_t erased_on(const uint8_t *map, struct size s, size_t stripe)
     return count;
 }
 
-struct repairs in_plans_order(const struct call *c)
+void add_repair(struct repairs *list, size_t disk, size_t stripe)
 {
-    size_t across = c->size.columns + 1, disk = 0;
+    list->number[list->count].disk = disk;
+    list->number[list->count++].stripe = stripe;
+}
+
+struct repairs in_order_among(const uint8_t *map, struct size s,
+                              const uint8_t *among)
+{
+    size_t disks = disks_of(s), disk = 0;
     struct repairs list = { 0, { { 0, 0 } } };
-    uint8_t map[DISKS];
+    uint8_t now[DISKS];
 
-    memcpy(map, c->map.bytes, c->map.len);
-    while (disk < c->map.len) {
-        size_t row = disk / across, column = 16 + disk % across;
-        int by_row = erased_on(map, c->size, row) == 1;
+    memcpy(now, map, disks);
+    while (disk < disks) {
+        size_t row = row_of(s, disk), column = column_of(s, disk);
+        int left = among[disk] && now[disk];
+        int by_row = left && erased_on(now, s, row) == 1;
 
-        if (map[disk] && (by_row || erased_on(map, c->size, column) == 1)) {
-            list.number[list.count].disk = disk;
-            list.number[list.count++].stripe = by_row ? row : column;
-            map[disk] = 0;
+        if (by_row || (left && erased_on(now, s, column) == 1)) {
+            add_repair(&list, disk, by_row ? row : column);
+            now[disk] = 0;
             disk = 0;
         } else {
             disk++;
         }
     }
     return list;
+}
+
+struct repairs in_plans_order(const struct call *c)
+{
+    return in_order_among(c->map.bytes, c->size, c->map.bytes);
 }
 
 /* ---- What is expected ---- */
@@ -141,4 +163,19 @@ void expect_zero_blocks(struct call *c)
     for (disk = 0; disk < c->map.len; disk++)
         if (c->map.bytes[disk])
             memset(c->array.expected + disk * block, 0, block);
+}
+
+void expect_repair(struct call *c, size_t disk, size_t stripe)
+{
+    size_t block = c->size.block, k;
+    uint8_t *sum = c->array.expected + disk * block;
+
+    memset(sum, 0, block);
+    for (k = 0; k < disks_on(c->size, stripe); k++) {
+        size_t other = disk_on(c->size, stripe, k);
+
+        if (other != disk)
+            add_block(sum, c->array.expected + other * block, block);
+    }
+    c->map.expected[disk] = 0;
 }

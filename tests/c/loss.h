@@ -1,7 +1,7 @@
 /*
  * Losses of known shapes, plan's order of their repairs, and what is expected
- * of the sheet and the blocks: what the tests of plan, rebuild, follow and save
- * share.
+ * of the sheet and the blocks: what the tests of plan, plan_disk, rebuild,
+ * follow and save share.
  */
 #ifndef LOSS_H
 #define LOSS_H
@@ -48,8 +48,21 @@ struct repairs {
     } number[RAID2D_SHEET_RECORDS];
 };
 
-/* Plan's order for the loss of a call: at each step the lowest disk that can
-   be repaired, by its row if that is allowed, else by its column. */
+/* The stripes of a disk, and how many disks of a stripe a map has erased. */
+size_t row_of(struct size s, size_t disk);
+size_t column_of(struct size s, size_t disk);
+size_t erased_on(const uint8_t *map, struct size s, size_t stripe);
+
+/* One more repair behind the others. */
+void add_repair(struct repairs *list, size_t disk, size_t stripe);
+
+/* The loss of a map as far as these disks go, a byte 1 for each: at each step
+   the lowest of them that can be repaired, by its row if that is allowed, else
+   by its column. All other disks stay as they are. */
+struct repairs in_order_among(const uint8_t *map, struct size s,
+                              const uint8_t *among);
+
+/* Plan's order for the loss of a call: the same with all erased disks. */
 struct repairs in_plans_order(const struct call *c);
 
 /* A sheet without records; then its record k. */
@@ -62,5 +75,9 @@ void expect_list(struct call *c, const struct repairs *list, size_t from,
 
 /* The erased blocks are zero, as with 7. */
 void expect_zero_blocks(struct call *c);
+
+/* The block of a disk is the sum of the others of a stripe, as these are
+   expected to be, and the disk is present. */
+void expect_repair(struct call *c, size_t disk, size_t stripe);
 
 #endif

@@ -482,6 +482,8 @@ static void cases_10_and_11(void)
     } calls[] = {
         { PLAN, { 1, 1, 1 }, 1 }, { PLAN, { 16, 16, 1 }, 1 },
         { PLAN, { 1, 2, 1 }, 1 }, { PLAN, { 15, 16, 1 }, 1 },
+        { PLAN_DISK, { 1, 1, 1 }, 1 }, { PLAN_DISK, { 16, 16, 1 }, 1 },
+        { PLAN_DISK, { 2, 1, 1 }, 1 }, { PLAN_DISK, { 16, 15, 1 }, 1 },
         { REBUILD, { 1, 1, 1 }, 1 }, { REBUILD, { 16, 16, 1 }, 1 },
         { REBUILD, { 2, 1, 1 }, 1 }, { REBUILD, { 16, 15, 1 }, 1 },
         { REBUILD, { 2, 2, 0 }, 2 }, { REBUILD, { 2, 2, 4097 }, 2 },
@@ -491,14 +493,16 @@ static void cases_10_and_11(void)
         { SAVE, { 1, 1, 1 }, 1 }, { SAVE, { 16, 16, 1 }, 1 },
         { SAVE, { 2, 1, 1 }, 1 }, { SAVE, { 16, 15, 1 }, 1 },
         { SAVE, { 2, 2, 0 }, 2 }, { SAVE, { 2, 2, 4097 }, 2 },
-        { PLAN, { 2, 2, 1 }, 4 }, { REBUILD, { 2, 2, 1 }, 4 },
-        { FOLLOW, { 2, 2, 1 }, 4 }, { SAVE, { 2, 2, 1 }, 4 }
+        { PLAN, { 2, 2, 1 }, 4 }, { PLAN_DISK, { 2, 2, 1 }, 4 },
+        { REBUILD, { 2, 2, 1 }, 4 }, { FOLLOW, { 2, 2, 1 }, 4 },
+        { SAVE, { 2, 2, 1 }, 4 }
     };
     size_t i;
 
     for (i = 0; i < sizeof calls / sizeof calls[0]; i++) {
         struct call c = fitting_call(calls[i].function, calls[i].size);
 
+        c.disk = 3;
         c.map.bytes[3] = calls[i].status == 4 ? 2 : 1;
         expect_as_now(&c);
         expect_run(&c, calls[i].status, OUT_BEFORE, "cases 10 and 11");

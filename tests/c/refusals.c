@@ -24,8 +24,9 @@ enum argument {
     PARITY_DISK, DATA_LENGTH,              /* write only */
     MAP_LENGTH, MAP_BYTE,                  /* from look on */
     NO_DISK, ERASED,                       /* look only */
-    SHEET_LENGTH,                          /* plan, rebuild, follow, tidy */
-    LOSS,                                  /* plan, rebuild and follow */
+    SHEET_LENGTH,                          /* plan to follow, and tidy */
+    WANTED,                                /* plan_disk only */
+    LOSS,                                  /* plan to follow */
     LIMIT,                                 /* rebuild only */
     CHAIN, RING,                           /* follow and tidy */
     LEFTOVER, STEP,                        /* follow only */
@@ -74,6 +75,8 @@ static const struct tests tests[] = {
                     { ARRAY_LENGTH, 0 }, { MAP_LENGTH, 0 }, { MAP_BYTE, 0 },
                     { NO_DISK, 0 }, { ERASED, 0 } } },
     { PLAN, 0, 6, { SIZE_TESTS, SHEET_TESTS, { LOSS, 6 } } },
+    { PLAN_DISK, 0, 7, { SIZE_TESTS, SHEET_TESTS, { WANTED, 15 },
+                         { LOSS, 6 } } },
     { REBUILD, 0, 10, { ARRAY_TESTS, SHEET_TESTS, { LIMIT, 12 }, { LOSS, 6 },
                         { DAMAGE, 7 } } },
     { FOLLOW, 0, 13, { ARRAY_TESTS, SHEET_TESTS, CHAIN_TESTS,
@@ -118,6 +121,7 @@ static const struct sheet_byte wrong_step[] = {
 #define RINGS (sizeof ring / sizeof ring[0])
 #define LEFTOVERS (sizeof leftover / sizeof leftover[0])
 #define WRONG_STEPS (sizeof wrong_step / sizeof wrong_step[0])
+#define WRONG_WANTED 8
 
 static void add(struct values *v, size_t value)
 {
@@ -205,6 +209,22 @@ static struct values no_disks(struct size s)
     return v;
 }
 
+/* The disk that plan_disk is asked for: one that the loss has and that is on a
+   cycle if there is one; or, from number 1 on, a present one, or a number that
+   no disk has, most of them such that they would be right if shortened. */
+static size_t wanted_disk(const struct arguments *a)
+{
+    struct size s = a->size;
+    size_t erased = a->of[LOSS] ? disks_of(s) - 1 : 1;
+    const size_t disks[WRONG_WANTED + 1] = {
+        erased, disk_at(s, 1, 1), disk_at(s, s.rows, 1), disks_of(s),
+        erased + 256, erased + 65536, erased + TWO_TO(32),
+        erased + TWO_TO(63), SIZE_MAX
+    };
+
+    return disks[a->of[WANTED]];
+}
+
 /* Wrong bytes of a map as 256 * disk + byte: on the disk looked at, and on
    the last disk. */
 static struct values map_bytes(size_t map_len)
@@ -248,6 +268,27 @@ static size_t fitting(const struct arguments *a, size_t block, size_t base)
     return length <= LENDABLE ? length : disks_of(a->size) * base;
 }
 
+/* How many things can be wrong with an argument that has a number for each. */
+static size_t wrong_numbers(enum argument argument)
+{
+    switch (argument) {
+    case WANTED:
+        return WRONG_WANTED;
+    case CHAIN:
+        return WRONG_CHAINS;
+    case RING:
+        return RINGS;
+    case LEFTOVER:
+        return LEFTOVERS;
+    case STEP:
+        return WRONG_STEPS;
+    case DAMAGE:
+        return 3;
+    default:
+        return 1;
+    }
+}
+
 static struct values values_of(enum argument argument,
                                const struct arguments *a)
 {
@@ -275,18 +316,8 @@ static struct values values_of(enum argument argument,
         return lengths(RAID2D_SHEET_BYTES);
     case LIMIT:
         return limits();
-    case CHAIN:
-        return numbered(WRONG_CHAINS);
-    case RING:
-        return numbered(RINGS);
-    case LEFTOVER:
-        return numbered(LEFTOVERS);
-    case STEP:
-        return numbered(WRONG_STEPS);
-    case DAMAGE:
-        return numbered(3);
     default:
-        return numbered(1);
+        return numbered(wrong_numbers(argument));
     }
 }
 
@@ -389,6 +420,13 @@ static size_t expect_refusal(struct call *c, struct size s, size_t status)
     return status == 6 ? 4 : OUT_BEFORE;
 }
 
+static size_t disk_of(enum function function, const struct arguments *a)
+{
+    if (function == PLAN_DISK)
+        return wanted_disk(a);
+    return function == WRITE ? a->of[PARITY_DISK] : a->of[NO_DISK];
+}
+
 static struct call call_with(enum function function, const struct arguments *a)
 {
     const struct size size = { a->of[ROWS], a->of[COLUMNS], a->of[BLOCK] };
@@ -396,7 +434,7 @@ static struct call call_with(enum function function, const struct arguments *a)
                              a->of[MAP_LENGTH], a->of[DATA_LENGTH],
                              a->of[SHEET_LENGTH]);
 
-    c.disk = function == WRITE ? a->of[PARITY_DISK] : a->of[NO_DISK];
+    c.disk = disk_of(function, a);
     c.limit = a->of[LIMIT];
     if (a->of[ERASED] && c.disk < c.map.len)
         c.map.bytes[c.disk] = 1;
@@ -475,15 +513,16 @@ struct wrapped {
 };
 
 /* All calls with the same size. They refuse with the status, but look, which
-   returns 0. Plan takes no block: it is called where a side is wrong. */
+   returns 0. Plan and plan_disk take no block: they are called where a side is
+   wrong. */
 static void all_refuse(const struct wrapped *w, struct size size)
 {
     const enum function functions[] = {
-        SEAL, CHECK, WRITE, LOOK, REBUILD, FOLLOW, SAVE, PLAN
+        SEAL, CHECK, WRITE, LOOK, REBUILD, FOLLOW, SAVE, PLAN, PLAN_DISK
     };
     size_t i;
 
-    for (i = 0; i < (w->status == 1 ? 8 : 7); i++) {
+    for (i = 0; i < (w->status == 1 ? 9 : 7); i++) {
         struct call c = new_call(functions[i], size, w->array_len, w->disks,
                                  1, RAID2D_SHEET_BYTES);
 
@@ -553,7 +592,8 @@ static void empty_buffers(struct size size)
         size_t result;
     } calls[] = {
         { SEAL, 3 }, { CHECK, 3 }, { WRITE, 3 }, { LOOK, 0 }, { PLAN, 4 },
-        { REBUILD, 3 }, { FOLLOW, 3 }, { SAVE, 3 }, { TIDY, 5 }
+        { PLAN_DISK, 4 }, { REBUILD, 3 }, { FOLLOW, 3 }, { SAVE, 3 },
+        { TIDY, 5 }
     };
     size_t i, null;
 

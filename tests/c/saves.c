@@ -162,15 +162,17 @@ static struct call nine_cards(enum function function)
     return c;
 }
 
-/* Plan and rebuild count eight lost disks; which cycle they list is open. */
+/* Plan, plan_disk and rebuild count eight lost disks; which cycle they list is
+   open. No repair reaches disk 6, which save restores. */
 static void count_nine_cards(void)
 {
-    const enum function functions[] = { PLAN, REBUILD };
+    const enum function functions[] = { PLAN, PLAN_DISK, REBUILD };
     size_t i;
 
-    for (i = 0; i < 2; i++) {
+    for (i = 0; i < COUNT(functions); i++) {
         struct call c = nine_cards(functions[i]);
 
+        c.disk = 6;
         expect_as_now(&c);
         expect(run(&c) == 6 && c.sheet.bytes[0] == RAID2D_SHEET_CYCLE,
                "nine cards: fatal");

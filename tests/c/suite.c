@@ -166,17 +166,18 @@ static void end_lent(struct lent *l)
     free(l->expected_memory);
 }
 
-/* All disks are present. The guards' nearest bytes are zero too, so that who
-   reads past the map finds a present disk there. */
-static void clear_map(struct lent *map)
+/* All disks are present. The guards' nearest bytes are as given, so that who
+   reads past the map finds a disk there that would do. */
+static void clear_map(struct lent *map, uint8_t beside)
 {
-    uint8_t *end = map->memory + map->memory_len;
-    uint8_t *low = map->place - (map->place > map->memory);
-    uint8_t *high = map->place + map->len;
+    uint8_t *end = map->place + map->len;
 
-    high += high < end;
-    if (high > low)
-        memset(low, 0, (size_t)(high - low));
+    if (map->place > map->memory)
+        map->place[-1] = beside;
+    if (map->len > 0)
+        memset(map->place, 0, map->len);
+    if (end < map->memory + map->memory_len)
+        *end = beside;
 }
 
 struct call new_call(enum function function, struct size size,
@@ -194,7 +195,7 @@ struct call new_call(enum function function, struct size size,
     c.data = lend(data_len, GUARD);
     c.sheet = lend(sheet_len, GUARD);
     c.out = lend(sizeof(size_t), OUT_GUARD);
-    clear_map(&c.map);
+    clear_map(&c.map, function == PLAN_DISK);
     expect_as_now(&c);
     return c;
 }
@@ -314,6 +315,9 @@ static size_t call_library(struct call *c, size_t *out)
     case PLAN:
         return raid2d_plan(rows, columns, c->map.bytes, c->map.len,
                            c->sheet.bytes, c->sheet.len, out);
+    case PLAN_DISK:
+        return raid2d_plan_disk(rows, columns, c->map.bytes, c->map.len,
+                                c->sheet.bytes, c->sheet.len, c->disk, out);
     case REBUILD:
         return raid2d_rebuild(rows, columns, block, c->array.bytes,
                               c->array.len, c->map.bytes, c->map.len,
@@ -335,15 +339,16 @@ static void set_access(const struct call *c,
                        void (*set)(const struct fenced *fenced))
 {
     enum function f = c->function;
+    int plans = f == PLAN || f == PLAN_DISK;
 
     if (!has_fence())
         return;
-    if (f == CHECK || f == LOOK || f == PLAN || f == TIDY)
+    if (f == CHECK || f == LOOK || plans || f == TIDY)
         set(&c->array.fenced);
     if (f != REBUILD)
         set(&c->map.fenced);
     set(&c->data.fenced);
-    if (f != PLAN && f != REBUILD && f != TIDY)
+    if (!plans && f != REBUILD && f != TIDY)
         set(&c->sheet.fenced);
 }
 
@@ -361,8 +366,8 @@ size_t run(struct call *c)
 void expect_run(struct call *c, size_t result, size_t out, const char *what)
 {
     static const char *const names[] = {
-        "seal", "check", "write", "look", "plan", "rebuild", "follow", "save",
-        "tidy"
+        "seal", "check", "write", "look", "plan", "plan_disk", "rebuild",
+        "follow", "save", "tidy"
     };
     size_t actual = run(c), actual_out;
     int bytes = lent_is_as_expected(&c->array) && lent_is_as_expected(&c->map)
@@ -449,6 +454,7 @@ int main(int argc, char **argv)
     test_refusals();
     test_answers();
     test_losses();
+    test_wanted();
     test_turns();
     test_saves();
     test_sheets();

@@ -44,7 +44,9 @@ struct known {
    rows for columns, so that it is higher than wide. */
 extern const struct known array_a, array_wide, array_high;
 
-enum function { SEAL, CHECK, WRITE, LOOK, PLAN, REBUILD, FOLLOW, SAVE, TIDY };
+enum function {
+    SEAL, CHECK, WRITE, LOOK, PLAN, PLAN_DISK, REBUILD, FOLLOW, SAVE, TIDY
+};
 
 /* A call: its numbers, what it is lent, and its out-parameter, a size_t that
    is lent too. Calls pass over what they have no parameter for. */
@@ -115,6 +117,7 @@ void test_fields(void);
 void test_refusals(void);
 void test_answers(void);
 void test_losses(void);
+void test_wanted(void);
 void test_turns(void);
 void test_saves(void);
 void test_sheets(void);

@@ -9,25 +9,9 @@
 #include "loss.h"
 #include "raid2d.h"
 #include "suite.h"
+#include "turns.h"
 
 /* ---- What is expected of turns ---- */
-
-/* The block of a disk is the sum of the others of a stripe, as these are
-   expected to be, and the disk is present. */
-static void expect_repair(struct call *c, size_t disk, size_t stripe)
-{
-    size_t block = c->size.block, k;
-    uint8_t *sum = c->array.expected + disk * block;
-
-    memset(sum, 0, block);
-    for (k = 0; k < disks_on(c->size, stripe); k++) {
-        size_t other = disk_on(c->size, stripe, k);
-
-        if (other != disk)
-            add_block(sum, c->array.expected + other * block, block);
-    }
-    c->map.expected[disk] = 0;
-}
 
 /* On the map from before a turn its list is one for follow if the turn was the
    last. After any other disks stay erased. */
@@ -75,9 +59,7 @@ static size_t expect_turn(struct call *c, const struct repairs *list,
     return to;
 }
 
-/* As many turns as the limit asks for, and one where no disk is erased. */
-static void expect_turns(struct call *c, size_t limit, int agree,
-                         const char *what)
+void expect_turns(struct call *c, size_t limit, int agree, const char *what)
 {
     struct repairs list = in_plans_order(c);
     size_t made = 0;

@@ -25,6 +25,12 @@ static const size_t limits[] = {
     ((size_t)1 << 31 << 1) + 1, SIZE_MAX / 2 + 1, SIZE_MAX
 };
 
+/* What makes a disk's number one that no disk has and that would be right if it
+   were shortened; with the last one it is near the greatest. */
+static const size_t aparts[] = {
+    256, (size_t)1 << 16, (size_t)1 << 31 << 1, SIZE_MAX / 2 + 1, SIZE_MAX - 255
+};
+
 struct numbers numbers_from(uint32_t seed)
 {
     struct numbers r;
@@ -77,8 +83,17 @@ static size_t limit_of(uint8_t code)
     return limits[(code - LIMIT_CODES - 1) % (sizeof limits / sizeof *limits)];
 }
 
-static enum call call_of(uint8_t flags)
+static size_t apart_of(uint8_t code)
 {
+    if (code <= APART_CODES)
+        return 0;
+    return aparts[(code - APART_CODES - 1) % (sizeof aparts / sizeof *aparts)];
+}
+
+enum call call_of(uint8_t flags)
+{
+    if (flags & FLAG_PLAN_DISK)
+        return PLAN_DISK;
     if (flags & FLAG_TIDY)
         return TIDY;
     if (flags & FLAG_SAVE)
@@ -128,6 +143,7 @@ void read_input(struct input *in, const uint8_t *data, size_t size)
     read_lengths(in, all);
     in->contents = (enum contents)(all[AT_CONTENTS] % CONTENTS);
     in->disk = all[AT_DISK];
+    in->wanted = in->disk + apart_of(all[AT_APART]);
     in->seed = all[AT_SEED] | (uint32_t)all[AT_SEED + 1] << 8 |
                (uint32_t)all[AT_SEED + 2] << 16 |
                (uint32_t)all[AT_SEED + 3] << 24;

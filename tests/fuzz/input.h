@@ -1,22 +1,26 @@
 /*
- * An input of the fuzzer: a call of raid2d_plan, raid2d_follow, raid2d_save or
- * raid2d_tidy, or turns of raid2d_rebuild, in a few hundred bytes.
+ * An input of the fuzzer: a call of raid2d_plan, raid2d_plan_disk,
+ * raid2d_follow, raid2d_save or raid2d_tidy, or turns of raid2d_rebuild, in a
+ * few hundred bytes.
  *
  *   byte 0       bit 0: follow, else plan. Bit 1: what is lent begins right
  *                behind a page without access, else it ends right before one.
  *                Bit 2: NULL is passed for what is empty. Bit 3: rebuild,
  *                whatever bit 0 is. Bit 5: save, whatever these are. Bit 6:
- *                tidy, whatever all these are.
+ *                tidy, whatever all these are. Bit 7: plan_disk, whatever all
+ *                these are.
  *   bytes 1..3   rows, columns and block: small numbers as they are, others
  *                by a table
  *   bytes 4..6   how much longer the array, the map and the sheet are than
  *                rows, columns and block ask for, from -128 to 127
  *   byte 7       what the array holds: one of enum contents
- *   byte 8       the disk that is damaged
+ *   byte 8       the disk that is damaged; for plan_disk the one that is wanted
  *   bytes 9..12  the seed of all arbitrary bytes
  *   98 bytes     the sheet that follow reads or tidy rewrites. Rebuild reads
  *                none: the first of them is its limit, small numbers as they
- *                are, others by a table
+ *                are, others by a table. Plan_disk reads none either: the first
+ *                of them says what is added to the disk's number, nothing if it
+ *                is small, else by a table
  *   the rest     the map
  *
  * Bytes that are missing are zero, so every byte string is an input.
@@ -42,6 +46,7 @@ enum {
     AT_SEED = 9,
     AT_SHEET = 13,
     AT_LIMIT = AT_SHEET,
+    AT_APART = AT_SHEET,
     AT_MAP = AT_SHEET + 98,
     INPUT_MAX = AT_MAP + 18 * 18
 };
@@ -52,10 +57,11 @@ enum {
     FLAG_NULL = 4,
     FLAG_REBUILD = 8,
     FLAG_SAVE = 32,
-    FLAG_TIDY = 64
+    FLAG_TIDY = 64,
+    FLAG_PLAN_DISK = 128
 };
 
-enum call { PLAN, FOLLOW, REBUILD, SAVE, TIDY };
+enum call { PLAN, FOLLOW, REBUILD, SAVE, TIDY, PLAN_DISK };
 
 /* The array is sealed; or one byte of one disk is changed; or two disks of a
    row, of a column, or four in the corners of a rectangle are changed by the
@@ -65,8 +71,14 @@ enum contents {
     ARBITRARY, CONTENTS
 };
 
-/* Numbers up to these stand for themselves in bytes 1 to 3, and for a limit. */
-enum { SIDE_CODES = 17, BLOCK_CODES = 64, LIMIT_CODES = 40 };
+/* Numbers up to these stand for themselves in bytes 1 to 3, and for a limit; up
+   to the last one nothing is added to a disk's number. */
+enum {
+    SIDE_CODES = 17,
+    BLOCK_CODES = 64,
+    LIMIT_CODES = 40,
+    APART_CODES = 200
+};
 
 /* The most bytes that an input can ask for. */
 enum {
@@ -84,12 +96,15 @@ struct input {
     size_t block_len;   /* likewise for block */
     size_t array_len, map_len, sheet_len;
     enum contents contents;
-    size_t disk;
+    size_t disk, wanted;
     uint32_t seed;
     size_t limit;
     uint8_t sheet[SHEET_LEN_MAX];
     uint8_t map[MAP_LEN_MAX];
 };
+
+/* The call that byte 0 stands for. */
+enum call call_of(uint8_t flags);
 
 void read_input(struct input *in, const uint8_t *data, size_t size);
 

@@ -1,6 +1,6 @@
 /*
- * The model: what plan, follow, rebuild, save and tidy must answer. Written
- * from the order's words, and from nothing of the library.
+ * The model: what plan, plan_disk, follow, rebuild, save and tidy must answer.
+ * Written from the order's words, and from nothing of the library.
  */
 #include <string.h>
 
@@ -20,7 +20,8 @@ enum {
     NOT_ALLOWED = 11,
     WRONG_LIMIT = 12,
     REACHED_TWICE = 13,
-    LEFTOVERS = 14
+    LEFTOVERS = 14,
+    NOT_WANTED = 15
 };
 
 /* ---- the grid */
@@ -247,15 +248,15 @@ size_t find_lost(struct grid g, const uint8_t *map, uint8_t *is_lost)
 
 /* ---- plan */
 
-/* The lowest disk that can be repaired, and its stripe: the row if that is
-   allowed, else the column. 0 if there is none. */
+/* The lowest of these disks that can be repaired, and its stripe: the row if
+   that is allowed, else the column. 0 if there is none. */
 static int next_repair(struct grid g, const uint8_t *work,
-                       size_t *disk, size_t *stripe)
+                       const uint8_t *these, size_t *disk, size_t *stripe)
 {
     size_t d;
 
     for (d = 0; d < disks_of(g); d++) {
-        if (work[d] != 1)
+        if (these[d] != 1)
             continue;
         *disk = d;
         *stripe = row_of(g, d);
@@ -286,16 +287,80 @@ static void add_record(uint8_t *sheet, size_t k, size_t disk, size_t stripe)
     sheet[record_at(k) + 1] = (uint8_t)stripe;
 }
 
-size_t plan_repairs(struct grid g, uint8_t *work, uint8_t *sheet)
+/* Lists the repairs of these disks, as long as one of them is allowed. */
+static size_t repair_these(struct grid g, uint8_t *work, const uint8_t *these,
+                           uint8_t *sheet)
 {
     size_t disk, stripe, count = 0;
 
     begin_list(sheet);
-    while (next_repair(g, work, &disk, &stripe)) {
+    while (next_repair(g, work, these, &disk, &stripe)) {
         work[disk] = 0;
         add_record(sheet, ++count, disk, stripe);
     }
     return count;
+}
+
+size_t plan_repairs(struct grid g, uint8_t *work, uint8_t *sheet)
+{
+    return repair_these(g, work, work, sheet);
+}
+
+/*
+ * Marks all disks that have to be repaired before one can be by a stripe: each
+ * other erased disk of the stripe, which then goes by its own other stripe, and
+ * what has to go before that. 0 if a disk comes up again: some of them would
+ * have to wait for each other.
+ */
+static int mark_before(struct grid g, const uint8_t *map, size_t disk,
+                       size_t stripe, uint8_t *marked)
+{
+    struct stripe s = stripe_of(g, stripe);
+    size_t i, other;
+
+    for (i = 0; i < s.length; i++) {
+        other = s.first + i * s.step;
+        if (other == disk || map[other] != 1)
+            continue;
+        if (marked[other])
+            return 0;
+        marked[other] = 1;
+        if (!mark_before(g, map, other,
+                         row_of(g, other) + column_of(g, other) - stripe,
+                         marked))
+            return 0;
+    }
+    return 1;
+}
+
+/* The list that ends with the disk by this stripe. 0 if there is none. */
+static size_t list_by(struct grid g, const uint8_t *map, size_t disk,
+                      size_t stripe, uint8_t *sheet)
+{
+    uint8_t marked[DISKS_MAX] = {0}, work[DISKS_MAX];
+    size_t count;
+
+    marked[disk] = 1;
+    if (!mark_before(g, map, disk, stripe, marked))
+        return 0;
+    marked[disk] = 0;
+    memcpy(work, map, disks_of(g));
+    count = repair_these(g, work, marked, sheet) + 1;
+    add_record(sheet, count, disk, stripe);
+    return may_repair(g, work, disk, stripe) ? count : 0;
+}
+
+size_t plan_for_disk(struct grid g, const uint8_t *map, size_t disk,
+                     uint8_t *sheet)
+{
+    uint8_t by_column[SHEET_BYTES];
+    size_t rows = list_by(g, map, disk, row_of(g, disk), sheet);
+    size_t columns = list_by(g, map, disk, column_of(g, disk), by_column);
+
+    if (columns == 0 || (rows > 0 && rows <= columns))
+        return rows;
+    memcpy(sheet, by_column, SHEET_BYTES);
+    return columns;
 }
 
 /* How many records a loop has that stand in the order 1, 2, 3 and so on, with
@@ -378,12 +443,35 @@ static const char *judge_loop(const struct planned *p)
 static const char *judge_refusal(const struct planned *p, uint32_t status)
 {
     if (p->status != status)
-        return "plan's refusal is another one";
+        return "the refusal of plan or plan_disk is another one";
     if (p->count != p->count_before)
-        return "plan refused and changed the count";
+        return "plan or plan_disk refused and changed the count";
     if (memcmp(p->sheet, p->sheet_before, p->sheet_len) != 0)
-        return "plan refused and changed the sheet";
+        return "plan or plan_disk refused and changed the sheet";
     return NULL;
+}
+
+/* A list of so many repairs. */
+static const char *judge_list(const struct planned *p, const uint8_t *sheet,
+                              size_t repairs)
+{
+    if (p->status != DONE)
+        return "a list of repairs is refused";
+    if (p->count != repairs)
+        return "the count of repairs is another one";
+    if (memcmp(p->sheet, sheet, SHEET_BYTES) != 0)
+        return "the list of repairs is another one";
+    return NULL;
+}
+
+/* A fatal loss, with so many lost disks. */
+static const char *judge_fatal(const struct planned *p, size_t lost)
+{
+    if (p->status != FATAL)
+        return "a fatal loss is not refused";
+    if (p->count != lost)
+        return "the count of lost disks is another one";
+    return judge_loop(p);
 }
 
 static const char *judge_outcome(const struct planned *p)
@@ -396,26 +484,48 @@ static const char *judge_outcome(const struct planned *p)
     lost = find_lost(p->grid, p->map, is_lost);
     if ((lost > 0) != (count_erased(work, p->map_len) > 0))
         return "the model contradicts itself";
-    if (p->status != (lost > 0 ? FATAL : DONE))
-        return "plan and the model differ on whether the loss is fatal";
-    if (p->count != (lost > 0 ? lost : repairs))
-        return "plan's count is another one";
-    if (lost > 0)
-        return judge_loop(p);
-    if (memcmp(p->sheet, sheet, SHEET_BYTES) != 0)
-        return "plan's list of repairs is another one";
-    return NULL;
+    return lost > 0 ? judge_fatal(p, lost) : judge_list(p, sheet, repairs);
+}
+
+/* A disk that plan reaches has a list, and no other. */
+static const char *judge_disk(const struct planned *p, size_t disk)
+{
+    uint8_t work[DISKS_MAX], is_lost[DISKS_MAX], sheet[SHEET_BYTES];
+    size_t repairs;
+
+    memcpy(work, p->map, p->map_len);
+    plan_repairs(p->grid, work, sheet);
+    repairs = plan_for_disk(p->grid, p->map, disk, sheet);
+    if ((repairs == 0) != (work[disk] == 1))
+        return "the model contradicts itself about a disk";
+    return repairs > 0 ? judge_list(p, sheet, repairs)
+                       : judge_fatal(p, find_lost(p->grid, p->map, is_lost));
+}
+
+/* The refusals with which both begin. */
+static uint32_t plan_refusal(const struct planned *p)
+{
+    if (!grid_fits(p->grid))
+        return WRONG_SIDE;
+    if (!map_fits(p->grid, p->map, p->map_len))
+        return WRONG_MAP;
+    return p->sheet_len != SHEET_BYTES ? WRONG_SHEET : DONE;
 }
 
 const char *judge_plan(const struct planned *p)
 {
-    if (!grid_fits(p->grid))
-        return judge_refusal(p, WRONG_SIDE);
-    if (!map_fits(p->grid, p->map, p->map_len))
-        return judge_refusal(p, WRONG_MAP);
-    if (p->sheet_len != SHEET_BYTES)
-        return judge_refusal(p, WRONG_SHEET);
-    return judge_outcome(p);
+    uint32_t refused = plan_refusal(p);
+
+    return refused != DONE ? judge_refusal(p, refused) : judge_outcome(p);
+}
+
+const char *judge_plan_disk(const struct planned *p, size_t disk)
+{
+    uint32_t refused = plan_refusal(p);
+
+    if (refused == DONE && (disk >= p->map_len || p->map[disk] != 1))
+        refused = NOT_WANTED;
+    return refused != DONE ? judge_refusal(p, refused) : judge_disk(p, disk);
 }
 
 /* ---- follow, rebuild, save and tidy */

@@ -1,7 +1,8 @@
 /*
- * What plan, follow, rebuild, save and tidy must answer, in plain C, written
- * from the order alone: its rules, its numbers and its formats. Only the words
- * are those of include/raid2d.h. It goes disk by disk and byte by byte.
+ * What plan, plan_disk, follow, rebuild, save and tidy must answer, in plain C,
+ * written from the order alone: its rules, its numbers and its formats. Only
+ * the words are those of include/raid2d.h. It goes disk by disk and byte by
+ * byte.
  */
 #ifndef MODEL_H
 #define MODEL_H
@@ -54,6 +55,14 @@ int may_repair(struct grid g, const uint8_t *work, size_t disk, size_t stripe);
  */
 size_t plan_repairs(struct grid g, uint8_t *work, uint8_t *sheet);
 
+/*
+ * The shortest list of allowed repairs that ends with an erased disk, the row's
+ * if it is as short as the column's, in a sheet. Returns the number of repairs,
+ * 0 if no list reaches the disk.
+ */
+size_t plan_for_disk(struct grid g, const uint8_t *map, size_t disk,
+                     uint8_t *sheet);
+
 /* How many disks a map says are erased. */
 size_t count_erased(const uint8_t *map, size_t disks);
 
@@ -103,7 +112,8 @@ uint32_t model_save(struct grid g, size_t block,
                     uint8_t *array, size_t array_len,
                     const uint8_t *map, size_t map_len, size_t *count);
 
-/* A call of raid2d_plan: what it was lent, and what it left and returned. */
+/* A call of raid2d_plan or raid2d_plan_disk: what it was lent, and what it left
+   and returned. */
 struct planned {
     struct grid grid;
     const uint8_t *map;
@@ -116,5 +126,6 @@ struct planned {
 
 /* What is wrong with the answer, in words; NULL if nothing. */
 const char *judge_plan(const struct planned *p);
+const char *judge_plan_disk(const struct planned *p, size_t disk);
 
 #endif

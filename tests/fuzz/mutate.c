@@ -1,8 +1,8 @@
 /*
  * Changes inputs in ways that keep most of them near to a valid call: a loss
- * that can be repaired or just not, with a sheet that lists its repairs or a
- * limit for its turns, and from there one small fault or another. The general
- * mutator of the fuzzer has its turn too.
+ * that can be repaired or just not, with a sheet that lists its repairs, with a
+ * limit for its turns or a disk that is wanted, and from there one small fault
+ * or another. The general mutator of the fuzzer has its turn too.
  */
 #include <string.h>
 
@@ -490,28 +490,38 @@ static uint8_t draw_limit(struct draft *d)
     }
 }
 
-static int is_tidy(const struct draft *d)
+/* ---- a wanted disk */
+
+/* Mostly an erased one, looked for from an arbitrary disk on; else any, or the
+   first number behind the grid, or one that is far off. */
+static void draw_wanted(struct draft *d)
 {
-    return (d->bytes[AT_FLAGS] & FLAG_TIDY) != 0;
+    size_t disk = draw(&d->random, (uint32_t)d->disks), i;
+    uint32_t how = draw(&d->random, 16);
+
+    for (i = 0; how > 2 && i < d->disks && d->map[disk] != 1; i++)
+        disk = (disk + 1) % d->disks;
+    if (how == 0)
+        disk = d->disks;
+    d->bytes[AT_DISK] = (uint8_t)disk;
+    d->bytes[AT_APART] = (uint8_t)(how == 3 ? draw(&d->random, 256) : 0);
 }
 
-static int is_save(const struct draft *d)
+/* ---- what matters to each call */
+
+static int is_call(const struct draft *d, enum call call)
 {
-    return !is_tidy(d) && (d->bytes[AT_FLAGS] & FLAG_SAVE) != 0;
+    return call_of(d->bytes[AT_FLAGS]) == call;
 }
 
-static int is_rebuild(const struct draft *d)
-{
-    return !is_tidy(d) && !is_save(d) &&
-           (d->bytes[AT_FLAGS] & FLAG_REBUILD) != 0;
-}
-
-/* What a call needs beside the loss: rebuild a limit, others plan's sheet. Save
-   does not look at it. */
+/* What a call needs beside the loss: rebuild a limit, plan_disk a disk, others
+   plan's sheet. Save does not look at it. */
 static void fit_to_loss(struct draft *d)
 {
-    if (is_rebuild(d))
+    if (is_call(d, REBUILD))
         d->bytes[AT_LIMIT] = draw_limit(d);
+    else if (is_call(d, PLAN_DISK))
+        draw_wanted(d);
     else
         plan_sheet(d);
 }
@@ -519,7 +529,7 @@ static void fit_to_loss(struct draft *d)
 /* To tidy any list is as good as one of allowed repairs. */
 static void draw_any_sheet(struct draft *d)
 {
-    if (one_in(d, is_tidy(d) ? 2 : 8))
+    if (one_in(d, is_call(d, TIDY) ? 2 : 8))
         draw_list(d);
     else
         draw_sheet(d);
@@ -567,7 +577,8 @@ static uint8_t draw_length(struct draft *d)
 /* Follow mostly, or another call; what is lent on either side of a page. */
 static uint8_t draw_flags(struct draft *d)
 {
-    static const uint8_t others[] = {FLAG_REBUILD, FLAG_SAVE, FLAG_TIDY};
+    static const uint8_t others[] = {FLAG_REBUILD, FLAG_SAVE, FLAG_TIDY,
+                                     FLAG_PLAN_DISK};
     uint8_t flags = (uint8_t)draw(&d->random, 4) | !one_in(d, 4);
 
     if (one_in(d, 2))
@@ -610,7 +621,7 @@ static uint8_t draw_side(struct draft *d)
     return (uint8_t)(2 + draw(&d->random, one_in(d, 2) ? 3 : 14));
 }
 
-/* A new input: right lengths, a loss, and a sheet or a limit for it. */
+/* A new input: right lengths, a loss, and a sheet, a limit or a disk for it. */
 static void draw_input(struct draft *d)
 {
     size_t i;
@@ -625,19 +636,22 @@ static void draw_input(struct draft *d)
         d->bytes[i] = (uint8_t)draw(&d->random, 256);
     read_grid(d);
     draw_loss(d);
-    if (!is_rebuild(d) && one_in(d, 2))
+    if (!is_call(d, REBUILD) && !is_call(d, PLAN_DISK) && one_in(d, 2))
         draw_any_sheet(d);
     else
         fit_to_loss(d);
 }
 
-/* What matters to the call beside the loss: survivors, a limit, a sheet. */
+/* What matters to the call beside the loss: survivors, a limit, a disk, a
+   sheet. */
 static void change_rest(struct draft *d)
 {
-    if (is_save(d))
+    if (is_call(d, SAVE))
         change_survivors(d);
-    else if (is_rebuild(d))
+    else if (is_call(d, REBUILD))
         change_turns(d);
+    else if (is_call(d, PLAN_DISK))
+        draw_wanted(d);
     else
         change_sheet(d);
 }

@@ -174,16 +174,16 @@ static uint32_t call_plan(const struct input *in)
     return status;
 }
 
-/* The sheet of plan or rebuild holds arbitrary bytes before a call, and the
-   model's the same. */
+/* The sheet of plan, plan_disk or rebuild holds arbitrary bytes before a call,
+   and the model's the same. */
 static void fill_sheets(const struct input *in, uint32_t turn)
 {
     fill_arbitrary(in->seed + turn, model_sheet, in->sheet_len);
     memcpy(sheet.bytes, model_sheet, in->sheet_len);
 }
 
-/* What is wrong with a status, a count and a sheet that are to be plan's. */
-static const char *judge_as_plan(const struct input *in, uint32_t status)
+/* A status, with the count and the sheet that came with it. */
+static struct planned answer(const struct input *in, uint32_t status)
 {
     struct planned p;
 
@@ -196,16 +196,59 @@ static const char *judge_as_plan(const struct input *in, uint32_t status)
     p.count_before = COUNT_BEFORE;
     p.count = count_now();
     p.status = status;
-    return judge_plan(&p);
+    return p;
 }
 
 /* What is wrong with plan. */
 static const char *try_plan(const struct input *in)
 {
+    struct planned p;
+
     lend_all(in);
     lend(&array, 0, in->behind);
     fill_sheets(in, 0);
-    return judge_as_plan(in, call_plan(in));
+    p = answer(in, call_plan(in));
+    return judge_plan(&p);
+}
+
+static uint32_t call_plan_disk(const struct input *in)
+{
+    uint32_t status;
+
+    forbid_writes(&map.memory);
+    status = raid2d_plan_disk(in->grid.rows, in->grid.columns,
+                              passed(in, &map), in->map_len,
+                              passed(in, &sheet), in->sheet_len,
+                              in->wanted, (size_t *)(void *)count.bytes);
+    allow_writes(&map.memory);
+    return status;
+}
+
+/* The sheet of a fatal loss is that of plan. */
+static int is_plans_sheet(const struct input *in)
+{
+    uint8_t planned[SHEET_BYTES];
+    size_t lost;
+
+    raid2d_plan(in->grid.rows, in->grid.columns, in->map, in->map_len,
+                planned, sizeof planned, &lost);
+    return memcmp(sheet.bytes, planned, sizeof planned) == 0;
+}
+
+/* What is wrong with plan_disk. */
+static const char *try_plan_disk(const struct input *in)
+{
+    const char *wrong;
+    struct planned p;
+
+    lend_all(in);
+    lend(&array, 0, in->behind);
+    fill_sheets(in, 0);
+    p = answer(in, call_plan_disk(in));
+    wrong = judge_plan_disk(&p, in->wanted);
+    if (wrong == NULL && p.status == RAID2D_FATAL && !is_plans_sheet(in))
+        return "plan_disk's loop is not that of plan";
+    return wrong;
 }
 
 static uint32_t call_rebuild(const struct input *in)
@@ -220,14 +263,11 @@ static uint32_t call_rebuild(const struct input *in)
 /* What is wrong with the sheet of a fatal loss. */
 static const char *try_loop(const struct input *in)
 {
-    uint8_t planned[SHEET_BYTES];
-    size_t lost;
+    struct planned p = answer(in, RAID2D_FATAL);
 
-    raid2d_plan(in->grid.rows, in->grid.columns, in->map, in->map_len,
-                planned, sizeof planned, &lost);
-    if (memcmp(sheet.bytes, planned, sizeof planned) != 0)
+    if (!is_plans_sheet(in))
         return "rebuild's loop is not that of plan";
-    return judge_as_plan(in, RAID2D_FATAL);
+    return judge_plan(&p);
 }
 
 /* What is wrong with one turn of rebuild, which should end with *status. */
@@ -275,6 +315,8 @@ static const char *try_rebuild(const struct input *in)
 static const char *try_call(const struct input *in)
 {
     switch (in->call) {
+    case PLAN_DISK:
+        return try_plan_disk(in);
     case TIDY:
         return try_tidy(in);
     case SAVE:

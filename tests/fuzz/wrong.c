@@ -1,13 +1,15 @@
 /*
  * A stand-in for the archive that is wrong on purpose: the model's plan, follow
  * and rebuild, with the one fault that the environment variable WRONG names, or
- * none. wrong_save.c has save, ../wrong_tidy.c tidy and what follow makes of a
- * sheet. tests/fuzz/wrong sees that the fuzzer finds each fault. It takes their
- * names from the calls of `wrong` below and in these two files.
+ * none. wrong_save.c has save, ../wrong_disk.c plan_disk, ../wrong_tidy.c tidy
+ * and what follow makes of a sheet. tests/fuzz/wrong sees that the fuzzer finds
+ * each fault. It takes their names from the calls of `wrong` below and in these
+ * three files.
  */
 #include <stdlib.h>
 #include <string.h>
 
+#include "../wrong_disk.h"
 #include "../wrong_tidy.h"
 #include "model.h"
 #include "raid2d.h"
@@ -516,6 +518,66 @@ uint32_t raid2d_plan(size_t rows, size_t columns,
     if (sheet_len != SHEET_BYTES)
         return 5;
     return plan_with_fault(grid_to_plan_in(g), map, map_len, sheet, count);
+}
+
+/* ---- plan_disk */
+
+/* What ../wrong_disk.c stands before: plan refuses first, and then the model
+   says more. */
+uint32_t right_plan_disk(size_t rows, size_t columns,
+                         const uint8_t *map, size_t map_len,
+                         uint8_t *sheet, size_t sheet_len,
+                         size_t disk, size_t *count)
+{
+    struct grid g = {rows, columns};
+    uint8_t unused[SHEET_BYTES];
+    size_t repairs;
+    uint32_t status = raid2d_plan(rows, columns, map, map_len, unused,
+                                  sheet_len, &repairs);
+
+    if (status != 0 && status != 6)
+        return status;
+    if (disk >= map_len || map[disk] == 0)
+        return 15;
+    repairs = plan_for_disk(g, map, disk, sheet);
+    if (repairs == 0)
+        return raid2d_plan(rows, columns, map, map_len, sheet, sheet_len,
+                           count);
+    *count = repairs;
+    return 0;
+}
+
+/* The size as plan_disk takes it. */
+static struct grid grid_of_plan_disk(size_t rows, size_t columns)
+{
+    struct grid g = half_tested(rows, columns,
+                                wrong("plan_disk tests the columns only"),
+                                wrong("plan_disk tests the rows only"));
+
+    return wrong("plan_disk swaps rows and columns") ? swapped(g) : g;
+}
+
+uint32_t raid2d_plan_disk(size_t rows, size_t columns,
+                          const uint8_t *map, size_t map_len,
+                          uint8_t *sheet, size_t sheet_len,
+                          size_t disk, size_t *count)
+{
+    struct grid g = grid_of_plan_disk(rows, columns);
+    volatile uint8_t *own = (volatile uint8_t *)(size_t)map;
+    uint32_t status = plan_disk_wrongly(g.rows, g.columns, map, map_len, sheet,
+                                        sheet_len, disk, count);
+
+    if (status != 0)
+        return status;
+    if (wrong("plan_disk writes the map, the same bytes"))
+        own[0] = own[0];
+    if (wrong("plan_disk reads a byte behind the map"))
+        (void)own[map_len];
+    if (wrong("plan_disk reads a byte before the map"))
+        (void)own[-1];
+    if (wrong("plan_disk writes a byte behind the sheet"))
+        sheet[sheet_len] ^= 1;
+    return 0;
 }
 
 /* ---- rebuild */

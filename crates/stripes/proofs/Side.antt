@@ -5,18 +5,19 @@ use mathlib.Core.Path.{_≡_, refl, sym, _∙_, ap}
 use mathlib.Core.Bool.{Bool, true, false, cond, _&&_, true≢false}
 use mathlib.Core.Logic.{⊎-elim}
 use mathlib.Core.List.{List, _∷_, []}
-use Prim.Native.Nat.{ℕ, _≤_, _<_}
+use Prim.Native.Nat.{ℕ, _+_, _≤_, _<_}
+use native.Mathlib.Nat.{zero-add}
 use native.Mathlib.Omega.{arith}
 use borrow.Author.Tests.{eq-eqb, ne-eqb, eqb-true, eqb-false}
 use lib.Dec.{eqb}
 use lib.ListN.{length}
-use Rattle.stripes.specs.Fold.{count}
+use Rattle.stripes.specs.Fold.{count, bit}
 use Rattle.stripes.specs.System.{Layout, TwoStripes, lower, higher, on}
 use Rattle.stripes.specs.Erased.{without}
-use Rattle.stripes.specs.Repair.{Entry, allowed, Peels, peel, anyDisk, after}
+use Rattle.stripes.specs.Repair.{Entry, allowed, Peels, after}
 use Rattle.stripes.specs.Joined.{joined}
 use Rattle.stripes.specs.Wanted.{onSide, sideRepairs, serves, endingWith}
-use Rattle.stripes.proofs.Fold.{same-test, and-left, and-right, and-both, by-cases, fails-with, count-le, count-mono, count-without}
+use Rattle.stripes.proofs.Fold.{and-left, and-right, and-both, by-cases, fails-with, count-le, count-mono, count-without, count-split}
 use Rattle.stripes.proofs.Peel.{Within, Ended, Allowed, allowed-is, allowed-of, without-at, without-other, without-sub, without-apart, after-sub, peel-peels, peel-others, peel-ends, peel-count}
 use Rattle.stripes.proofs.Degree.{on-low, on-high, on-which}
 use Rattle.stripes.proofs.Joined.{lower-is, higher-is, joined-self, joined-back, joined-chain, joined-disk, joined-least}
@@ -127,20 +128,20 @@ module _ (L : Layout) (two : TwoStripes L) (d s : ℕ) where
 
 -- ---- what the list repairs
 module _ (L : Layout) (two : TwoStripes L) (e : ℕ → Bool) (d s : ℕ) where
-  side-erased : (i : ℕ) → onSide L e d s i ≡ true → without e d i ≡ true
+  pub side-erased : (i : ℕ) → onSide L e d s i ≡ true → without e d i ≡ true
   unfolding onSide
   side-erased i h = and-left (without e d i) _ h
 
-  side-joined : (i : ℕ) → onSide L e d s i ≡ true → joined L (without e d) (lower L i) s ≡ true
+  pub side-joined : (i : ℕ) → onSide L e d s i ≡ true → joined L (without e d) (lower L i) s ≡ true
   unfolding onSide
   side-joined i h = and-right (without e d i) _ h
 
   -- The wanted disk itself is not on its side.
-  side-waits : onSide L e d s d ≡ false
+  pub side-waits : onSide L e d s d ≡ false
   side-waits = fails-with (onSide L e d s d) (without e d d) (side-erased d) (without-at e d)
 
   -- Another erased disk is, if it lies on the stripe, or on a stripe of a disk that is.
-  on-side : (i t : ℕ) → i < L .disks → without e d i ≡ true → on L i t ≡ true → joined L (without e d) t s ≡ true → onSide L e d s i ≡ true
+  pub on-side : (i t : ℕ) → i < L .disks → without e d i ≡ true → on L i t ≡ true → joined L (without e d) t s ≡ true → onSide L e d s i ≡ true
   unfolding onSide
   on-side i t l h k w = and-both h (joined-chain L (without e d) (lower L i) t s (on-joined L two i l (without e d) h t k) w)
 
@@ -282,15 +283,18 @@ module _ (L : Layout) (two : TwoStripes L) (e : ℕ → Bool) (d s : ℕ) where
   serves-peels h =
       peels-append L e (sideRepairs L e d s) (record { disk = d; stripe = s } ∷ []) (peel-peels L (onSide L e d s) (L .disks) e) (h, tt)
 
-  -- Repairs of all disks while the wanted one is held back tell the same.
-  pub held-serves : serves L e d s ≡ allowed L (after e (peel L (without anyDisk d) (L .disks) e)) d s
-  held-serves =
-      let c : ℕ → Bool = without anyDisk d in
-      let w : List Entry = peel L c (L .disks) e in
-      same-test _ _
-      (λ h.
-      side-opens L two e d s w
-      (λ i u k. peel-ends L c (L .disks) e (count-le (L .disks) e) i u (without-other anyDisk d i (without-apart e d i (side-erased L two e d s i k))))
-      (peel-others L c (L .disks) e d (without-at anyDisk d))
-      (sideRepairs L e d s) (serves-peels h))
-      (λ h. side-serves w (peels-append L e w (record { disk = d; stripe = s } ∷ []) (peel-peels L c (L .disks) e) (h, tt)))
+  -- Then they are as many as the side has disks.
+  pub serves-count : serves L e d s ≡ true → length (sideRepairs L e d s) ≡ count (L .disks) (onSide L e d s)
+  unfolding sideRepairs bit
+  serves-count h =
+      let c : ℕ → Bool = onSide L e d s in
+      let w : List Entry = sideRepairs L e d s in
+      let all = peel-count L e w (peel-peels L c (L .disks) e) in
+      let repaired : (i : ℕ) → i < L .disks → c i ≡ true → after e w i ≡ false =
+      side-repaired L two e d s w (peel-ends L c (L .disks) e (count-le (L .disks) e)) (peel-others L c (L .disks) e d (side-waits L two e d s))
+      w (serves-peels h) in
+      let split = count-split (L .disks) e c (after e w) (λ i l.
+      by-cases (λ (b : Bool). c i ≡ b → bit b + bit (after e w i) ≡ bit (e i)) (c i)
+      (λ q k. rw (repaired i l k, without-sub e d i (side-erased L two e d s i k)) refl)
+      (λ q k. rw (peel-others L c (L .disks) e i k) (zero-add (bit (e i)))) refl) in
+      omega arith

@@ -1,6 +1,5 @@
 pub mod Answers
-pub mod Chosen
-pub mod Kept
 pub mod Loaded
-pub mod Moved
+pub mod Near
 pub mod Reached
+pub mod Sided

@@ -1,52 +1,97 @@
-// One side of a wanted disk: of the repairs in a list those by stripes of one part.
+// One side of a wanted disk: of the other erased disks those in one part.
 ghost use mathlib.Core.Path.{_≡_};
-ghost use Prim.Native.Nat.{ℕ, _≤_, _<_};
-ghost use lib.Dec.{eqb};
-ghost use lib.ListN.{length, getD};
-ghost use Rattle.entries.specs.Listed.{entryStripe, listed};
-ghost use Rattle.wanted.specs.Kept.{keptIn};
+ghost use mathlib.Core.Bool.{true};
+ghost use Prim.Native.Nat.{ℕ, _≤_};
+ghost use lib.ListN.{length};
+ghost use Rattle.stripes.specs.Fold.{count};
+ghost use Rattle.stripes.specs.Erased.{erasures};
+ghost use Rattle.model.specs.Grid.{disks, layoutOf};
+ghost use Rattle.layout.specs.Stripe.{Numbered};
+ghost use Rattle.tally.specs.Tally.{Table};
+ghost use Rattle.wanted.specs.Side.{inPart, otherIn, sideIn};
+use model::Size;
 
-// Entry number k goes by a stripe of the part.
-fn is_in(parts: &[u8], name: u8, list: &[u32], k: usize) -> bool
-    requires { ⌜ k < length (now list) ⌝ }
-    requires { ⌜ entryStripe (now list) k < length (now parts) ⌝ }
-    ensures { λ r. ⌜ r ≡ eqb (getD (now (parts .entry)) (entryStripe (now (list .entry)) k) 0) name ⌝ }
+// An erased disk lies in the part.
+fn is_in(
+    size: Size,
+    base: usize,
+    others: &[u8],
+    stripes: &[u8],
+    parts: &[u8],
+    name: u8,
+    disk: usize,
+) -> bool
+    requires { ⌜ Numbered size base ⌝ }
+    requires { ⌜ Table (layoutOf size base) (now others) (now stripes) ⌝ }
+    requires { ⌜ erasures (now others) disk ≡ true ⌝ }
+    requires { ⌜ layoutOf size base .stripeBound ≤ length (now parts) ⌝ }
+    ensures { λ r. ⌜ r ≡ inPart (layoutOf size base) (now (parts .entry)) name disk ⌝ }
 {
-    let stripe = entries::stripe_of(list, k);
-    parts[stripe] == name
+    let pair = tally::table::stripes_of(size, base, others, stripes, disk);
+    let low = pair.low;
+    parts[low] == name
 }
 
-// How many of the first `count` entries do.
-pub fn number(parts: &[u8], name: u8, list: &[u32], count: usize) -> usize
-    requires { ⌜ count ≤ length (now list) ⌝ }
-    requires { ⌜ ((i : ℕ) → i < count → entryStripe (now list) i < length (now parts)) ⌝ }
-    ensures { λ r. ⌜ r ≡ length (keptIn (now (parts .entry)) name (now (list .entry)) count) ⌝ }
+// How many of the others do.
+pub fn number(
+    size: Size,
+    base: usize,
+    others: &[u8],
+    stripes: &[u8],
+    parts: &[u8],
+    name: u8,
+) -> usize
+    requires { ⌜ Numbered size base ⌝ }
+    requires { ⌜ Table (layoutOf size base) (now others) (now stripes) ⌝ }
+    requires { ⌜ layoutOf size base .stripeBound ≤ length (now parts) ⌝ }
+    ensures { λ r. ⌜ r ≡ count (disks size) (otherIn (layoutOf size base) (now (others .entry)) (now (parts .entry)) name) ⌝ }
 {
     let mut number = 0;
-    let mut k = 0;
-    while k < count {
-        if is_in(parts, name, list, k) {
+    let mut from = 0;
+    loop {
+        let d = tally::scan::next_erased(others, from);
+        if others.len() <= d {
+            return number;
+        }
+        if is_in(size, base, others, stripes, parts, name, d) {
             number += 1;
         }
-        k += 1;
+        from = d + 1;
     }
-    number
 }
 
-// Moves these to the front of the list, in their order, and says how many they are.
-pub fn keep(parts: &[u8], name: u8, list: &mut [u32], count: usize) -> usize
-    requires { ⌜ count ≤ length (now list) ⌝ }
-    requires { ⌜ ((i : ℕ) → i < count → entryStripe (now list) i < length (now parts)) ⌝ }
-    ensures { λ r. ⌜ listed (now (list .exit)) r ≡ keptIn (now (parts .entry)) name (now (list .entry)) count ⌝ }
+// `work` becomes the map with no other erased disks than those in the part. What it held does not matter.
+pub fn load(
+    size: Size,
+    base: usize,
+    map: &[u8],
+    others: &[u8],
+    stripes: &[u8],
+    parts: &[u8],
+    name: u8,
+    work: &mut [u8],
+)
+    requires { ⌜ Numbered size base ⌝ }
+    requires { ⌜ Table (layoutOf size base) (now others) (now stripes) ⌝ }
+    requires { ⌜ layoutOf size base .stripeBound ≤ length (now parts) ⌝ }
+    requires { ⌜ length (now map) ≤ length (now work) ⌝ }
+    requires { ⌜ length (now others) ≤ length (now work) ⌝ }
+    requires { ⌜ ((i : ℕ) → erasures (now others) i ≡ true → erasures (now map) i ≡ true) ⌝ }
+    ensures { λ r. ⌜
+        ((i : ℕ) → erasures (now (work .exit)) i
+        ≡ sideIn (layoutOf size base) (now (map .entry)) (now (others .entry)) (now (parts .entry)) name i)
+        ⌝ }
 {
-    let mut kept = 0;
-    let mut k = 0;
-    while k < count {
-        if is_in(parts, name, list, k) {
-            list[kept] = list[k];
-            kept += 1;
+    tally::load::copy(map, map.len(), work);
+    let mut from = 0;
+    loop {
+        let d = tally::scan::next_erased(others, from);
+        if others.len() <= d {
+            return;
         }
-        k += 1;
+        if !is_in(size, base, others, stripes, parts, name, d) {
+            work[d] = 0;
+        }
+        from = d + 1;
     }
-    kept
 }
