@@ -23,49 +23,49 @@ use Rattle.wanted.specs.Side.{inPart, otherIn, sideIn}
 -- ---- how many of the others are in the part
 
 -- `number` of the others below k are.
-pub record Found (L : Layout) (others parts : List ℕ) (name k number : ℕ) : Type 0 where
+pub record Told (L : Layout) (others parts : List ℕ) (name k number : ℕ) : Type 0 where
   pub counted : number ≡ count k (otherIn L others parts name)
 
-pub found-none : (L : Layout) (others parts : List ℕ) (name : ℕ) → Found L others parts name 0 0
+pub told-none : (L : Layout) (others parts : List ℕ) (name : ℕ) → Told L others parts name 0 0
 unfolding count
-found-none L others parts name = record { counted = refl }
+told-none L others parts name = record { counted = refl }
 
 -- A disk that is present is none of the others.
 other-present : (L : Layout) (others parts : List ℕ) (name i : ℕ) → erasures others i ≡ false → otherIn L others parts name i ≡ false
 other-present L others parts name i h = ap (λ (b : Bool). b && inPart L parts name i) h
 
-module _ {L : Layout} {others parts : List ℕ} {name k number : ℕ} (found : Found L others parts name k number) where
+module _ {L : Layout} {others parts : List ℕ} {name k number : ℕ} (told : Told L others parts name k number) where
   -- They are disks.
-  pub found-few : number ≤ k
-  found-few = let few = count-le k (otherIn L others parts name) in omega (arith, found .counted)
+  pub told-few : number ≤ k
+  told-few = let few = count-le k (otherIn L others parts name) in omega (arith, told .counted)
 
   -- An erased disk is looked up, and counted if it is in the part.
-  pub found-next : erasures others k ≡ true → {r : Bool} → r ≡ inPart L parts name k
-      → {next : ℕ} → ((r ≡ true) × (next ≡ number + 1)) ⊎ ((r ≡ false) × (next ≡ number)) → Found L others parts name (k + 1) next
+  pub told-next : erasures others k ≡ true → {r : Bool} → r ≡ inPart L parts name k
+      → {next : ℕ} → ((r ≡ true) × (next ≡ number + 1)) ⊎ ((r ≡ false) × (next ≡ number)) → Told L others parts name (k + 1) next
   unfolding count bit
-  found-next erased e came =
+  told-next erased e came =
       let same : otherIn L others parts name k ≡ inPart L parts name k = ap (λ (b : Bool). b && inPart L parts name k) erased in
       record {
         counted =
             rw add-one
-            (⊎-elim (λ w. let now = ap bit (same ∙ sym e ∙ w .0) in let more = w .1 in omega (arith, found .counted))
-            (λ w. let now = ap bit (same ∙ sym e ∙ w .0) in let less = w .1 in omega (arith, found .counted)) came);
+            (⊎-elim (λ w. let now = ap bit (same ∙ sym e ∙ w .0) in let more = w .1 in omega (arith, told .counted))
+            (λ w. let now = ap bit (same ∙ sym e ∙ w .0) in let less = w .1 in omega (arith, told .counted)) came);
       }
 
   -- Disks that are present are passed over.
-  pub found-over : {d : ℕ} → Passed others k d → Found L others parts name d number
-  found-over {d} p =
+  pub told-over : {d : ℕ} → Passed others k d → Told L others parts name d number
+  told-over {d} p =
       record {
         counted =
-            found .counted
+            told .counted
             ∙ sym (count-over (otherIn L others parts name) k d (p .after) (λ i l w. other-present L others parts name i (p .none i l w)));
       }
 
   -- In the end all are counted.
-  pub found-all : {stripes : List ℕ} → Table L others stripes → length others ≤ k
+  pub told-all : {stripes : List ℕ} → Table L others stripes → length others ≤ k
       → number ≡ count (L .disks) (otherIn L others parts name)
-  found-all t end =
-      found .counted
+  told-all t end =
+      told .counted
       ∙ count-over (otherIn L others parts name) (L .disks) k (let fits = t .disksFit in omega arith)
       (λ i l w. other-present L others parts name i (t .inside i l))
 

@@ -124,9 +124,9 @@ returns c =
     let s = start p in
     tried-none (numbered-two (s .pre .0)) (erasures (s .args .map .now)) (s .args .disk) (s .pre .1 .1 .0) (inside s) (s .args .stripe) (s .pre .1 .1 .1 .0) _ (side (loaded p)) _ _ (p .peel .ensures) (counted p) (c .if1 .taken)
 
-put-requires : tie.Need-put-requires
-put-requires c κs =
-    let p = c .before .before .before .before .before .before .before .before .before in
+-- So there is room for the disk, and it fits a word with its stripe.
+placed : (p : tie.After-peel) → (p .peel .result < length (p .peel .last .1 .1 .1 .1 .1 .1 .1 .0)) × ((start p .args .disk < 65536) × (start p .args .stripe < 65536))
+placed p =
     let s = start p in
     let less = few p in
     let room = s .pre .1 .1 .1 .1 .1 .0 .listFits in
@@ -137,6 +137,9 @@ put-requires c κs =
     let disks = disks-bound (s .args .size) (size-fits (s .args .size) (s .pre .0 .fits)) in
     let all = layout-disks (s .args .size) (s .args .base) in
     (omega arith, (omega arith, omega arith))
+
+put-requires : tie.Need-put-requires
+put-requires c κs = placed (c .before .before .before .before .before .before .before .before .before)
 
 add-result : tie.Need-add-result
 add-result c = let less = few (c .before .before .before .before .before .before .before .before .before .before .before .before) in omega arith
@@ -158,15 +161,8 @@ returns-2 c =
     let u = c .before .before in
     let p = u .before .before .before .before .before .before .before .before .before .before in
     let s = start p in
-    let less = few p in
-    let room = s .pre .1 .1 .1 .1 .1 .0 .listFits in
-    let same = p .peel .kept .1 .1 .1 .1 .1 .1 .1 .0 in
-    let most = stripes-few (s .pre .0) in
-    let low = bound s in
-    let here = inside s in
-    let disks = disks-bound (s .args .size) (size-fits (s .args .size) (s .pre .0 .fits)) in
-    let all = layout-disks (s .args .size) (s .args .base) in
-    tried-list (numbered-two (s .pre .0)) (erasures (s .args .map .now)) (s .args .disk) (s .pre .1 .1 .0) here (s .args .stripe) (s .pre .1 .1 .1 .0) _ (side (loaded p)) _ _ (p .peel .ensures) (counted p) (u .before .before .if1 .left) (omega arith) (omega arith) (omega arith) (u .put .ensures)
+    let (room, (low, high)) = placed p in
+    tried-list (numbered-two (s .pre .0)) (erasures (s .args .map .now)) (s .args .disk) (s .pre .1 .1 .0) (inside s) (s .args .stripe) (s .pre .1 .1 .1 .0) _ (side (loaded p)) _ _ (p .peel .ensures) (counted p) (u .before .before .if1 .left) room low high (u .put .ensures)
 
 pub try-stripe-spec : {M : Type 1} → statement M
 try-stripe-spec =

@@ -15,19 +15,19 @@ use Rattle.tally.specs.Tally.{Passed}
 use Rattle.tally.proofs.Scanned.{next-passed, next-erased}
 use Rattle.tally.proofs.Counted.{erased-inside}
 use Rattle.wanted.specs.Side.{otherIn}
-use Rattle.wanted.proofs.Sided.{Found, found-none, found-few, found-next, found-over, found-all}
+use Rattle.wanted.proofs.Sided.{Told, told-none, told-few, told-next, told-over, told-all}
 use Rattle.wanted.proofs.side.number.Statement.{statement}
 use Rattle.wanted.proofs.side.number.Tie as tie
 
 abbrev Inv-loop : tie.InvT-loop
 Inv-loop size base others stripes parts name number₀ from₀ number from =
-    Found (layoutOf size base) others parts name from number × (from ≤ length others)
+    Told (layoutOf size base) others parts name from number × (from ≤ length others)
 
 abbrev μ-loop : tie.MeasureT-loop
 μ-loop size base others stripes parts name number₀ from₀ number from = length others - from
 
 loop-holds : tie.Need-loop-holds Inv-loop μ-loop
-loop-holds c = (found-none _ _ _ _, omega arith)
+loop-holds c = (told-none _ _ _ _, omega arith)
 
 next-erased-requires : tie.Need-next-erased-requires Inv-loop μ-loop
 next-erased-requires c κs = search needs
@@ -43,14 +43,14 @@ passed c = next-passed _ _ (c .next-erased .ensures) (c .before .loop .inv .1)
 over : (c : tie.After-next-erased Inv-loop μ-loop) →
     let l = c .before in
     let a = start l .args in
-    Found (layoutOf (a .size) (a .base)) (a .others .now) (a .parts .now) (a .name) (c .next-erased .result) (l .loop .number)
-over c = found-over (c .before .loop .inv .0) (passed c)
+    Told (layoutOf (a .size) (a .base)) (a .others .now) (a .parts .now) (a .name) (c .next-erased .result) (l .loop .number)
+over c = told-over (c .before .loop .inv .0) (passed c)
 
 returns : tie.Need-returns Inv-loop μ-loop
 returns c =
     let s = start (c .before .before) in
     let a = s .args in
-    found-all (over (c .before)) (s .pre .1 .0) (c .if1 .taken)
+    told-all (over (c .before)) (s .pre .1 .0) (c .if1 .taken)
     ∙ ap (λ (n : ℕ). count n (otherIn (layoutOf (a .size) (a .base)) (a .others .now) (a .parts .now) (a .name))) (layout-disks (a .size) (a .base))
 
 -- The disk of a turn is erased.
@@ -69,7 +69,7 @@ add-number c =
     let inside = erased-inside (s .pre .1 .0) _ (erased t) in
     let same = layout-disks (s .args .size) (s .args .base) in
     let most = disks-bound (s .args .size) (size-fits (s .args .size) (s .pre .0 .fits)) in
-    omega (arith, found-few (over (t .before)))
+    omega (arith, told-few (over (t .before)))
 
 add-from : tie.Need-add-from Inv-loop μ-loop
 add-from c = omega (arith, c .before .before .if1 .left)
@@ -80,7 +80,7 @@ loop-less c = let t = c .before .before in omega (arith, t .if1 .left, passed (t
 loop-again : tie.Need-loop-again Inv-loop μ-loop
 loop-again c =
     let t = c .before .before in (
-      found-next (over (t .before)) (erased t) (c .before .is-in .ensures)
+      told-next (over (t .before)) (erased t) (c .before .is-in .ensures)
           (⊎-elim (λ w. inl (w .0 .taken, w .1)) (λ w. inr (w .0 .left, w .1)) (c .if2 .came)),
       omega (arith, t .if1 .left),
     )
