@@ -486,26 +486,35 @@ uint32_t raid2d_plan(size_t rows, size_t columns,
  * The sheet has the shortest list of allowed repairs that ends with the disk,
  * whatever else is erased, also where the loss is fatal: no shorter one
  * exists. Where a list that ends by the disk's row and one that ends by its
- * column are equally short, it is the one by the row. The repairs before the
- * last go by lowest number: at each step the lowest-numbered disk still to
- * come in this list that can be repaired then, which just one of its stripes
- * allows. With 2 rows and 2 columns, the disks 1, 2, 3, 4 and 6 erased and
- * disk 4 wanted, these are 6 by stripe 2, 3 by stripe 16 and 4 by stripe 1.
+ * column are equally short, it is the one by the row. All shortest lists by
+ * one stripe repair the same disks. Those before the last go by lowest number:
+ * each step has the lowest-numbered disk still to come in this list that can
+ * be repaired then. Just one of its stripes allows that. With 2 rows and 2
+ * columns, the disks 1, 2, 3, 4 and 6 erased and disk 4 wanted, these are 6 by
+ * stripe 2, 3 by stripe 16 and 4 by stripe 1.
  *
- * raid2d_follow takes such a sheet only if its repairs leave no disk erased.
- * Otherwise the host makes them: for each record it sets the block of the disk
- * to the sum of the other disks of the stripe, and then the disk's byte of the
- * map to 0. After the last one raid2d_look hands the disk out. These repairs
- * check nothing, so the host keeps a copy of the map from before them, and
- * goes on with the map that they leave:
+ * The host makes the repairs: for each record it sets the block of the disk to
+ * the sum of the other disks of the stripe, and then the disk's byte of the
+ * map to 0. Row s has the disks s * (columns + 1) + k with k up to columns,
+ * and column c, which is stripe RAID2D_COLUMN_STRIPE + c, the disks
+ * k * (columns + 1) + c with k up to rows. After the last repair raid2d_look
+ * hands the disk out. raid2d_follow takes such a sheet only if no other disk
+ * is erased, and leaves the map as it is.
  *
- *   - A loss that is not fatal goes to raid2d_rebuild, in turns if need be, and
- *     also if no disk is left erased, since the last turn checks all stripes.
- *     With RAID2D_OK and a map without a byte 1 the array is the only sealed
- *     one with the survivors from before these repairs. After
- *     RAID2D_ERR_SURVIVORS the disks repaired may be wrong, the wanted one
- *     too, and the host copies the first map back.
- *   - A fatal loss stays fatal, and raid2d_save restores what is determined.
+ * These repairs check nothing. They may come before the turns of
+ * raid2d_rebuild or between them, and for one disk after another. The host
+ * keeps a copy of the map from before the first repair or turn. In the end it
+ * calls raid2d_rebuild, also if no disk is left erased:
+ *
+ *   - With RAID2D_OK and a map without a byte 1 the array is the only sealed
+ *     one with the survivors that there were at first. A damaged survivor
+ *     shows as far as raid2d_rebuild says.
+ *   - With RAID2D_FATAL array and map are as they were. A loss that is fatal
+ *     at first stays fatal, and raid2d_save restores what is determined.
+ *   - After RAID2D_ERR_SURVIVORS from either of them the disks repaired may be
+ *     wrong, the wanted one too, and the host copies the first map back.
+ *
+ * As with turns, raid2d_write before the end is not part of this.
  *
  *   sheet      receives the repairs or the cycle
  *   disk       the number of the disk that is wanted
@@ -527,7 +536,8 @@ uint32_t raid2d_plan(size_t rows, size_t columns,
  *   RAID2D_FATAL             no list of allowed repairs reaches the disk: it
  *                            is in the residual; the sheet and *count are
  *                            those of raid2d_plan for this map; the cycle need
- *                            not hold the disk, which raid2d_save may restore
+ *                            not hold the disk; raid2d_save restores the disk
+ *                            if it is determined
  *   RAID2D_OK                the sheet lists the repairs, that of the disk
  *                            last; *count is their number
  */
