@@ -48,7 +48,7 @@ fn turn(what: &[u8], array: &mut [u8], map: &mut [u8]) {
     let mut sheet = [0u8; 98];
     say::outcome(
         what,
-        rebuild::rebuild(size, 4096, array, map, &mut sheet, 16),
+        rebuild::rebuild(size, 4096, array, 4096, map, &mut sheet, 16),
     );
 }
 
@@ -76,7 +76,7 @@ pub fn run() {
     let mut sheet = [0u8; 98];
     say::outcome(
         b"plan the loss of a row and a column",
-        plan::plan(size, &map, &mut sheet),
+        plan::plan(size, 1, &map, &mut sheet),
     );
     turn(b"rebuild 16 disks", &mut array, &mut map);
     turn(b"rebuild the others", &mut array, &mut map);

@@ -20,12 +20,15 @@ fn parities(size: Size, block: usize, array: &mut [u8], new: &[u8]) {
 // What look, rebuild and follow answer. Look has no number: an empty part has length 0.
 fn losses(size: Size, block: usize, array: &mut [u8], map: &mut [u8]) {
     let mut sheet = [0u8; 98];
-    say::number(b"look", look::look(size, block, array, map, 0).len());
+    say::number(b"look", look::look(size, block, array, block, map, 0).len());
     say::outcome(
         b"rebuild",
-        rebuild::rebuild(size, block, array, map, &mut sheet, 31),
+        rebuild::rebuild(size, block, array, block, map, &mut sheet, 31),
     );
-    say::outcome(b"follow", follow::follow(size, block, array, map, &sheet));
+    say::outcome(
+        b"follow",
+        follow::follow(size, block, array, block, map, &sheet),
+    );
 }
 
 // Each call on an array.
@@ -38,7 +41,7 @@ fn calls(size: Size, block: usize, array: &mut [u8], map: &mut [u8], new: &[u8])
 // What plan answers, which takes no block.
 fn planned(what: &[u8], size: Size, map: &[u8]) {
     let mut sheet = [0u8; 98];
-    say::outcome(what, plan::plan(size, map, &mut sheet));
+    say::outcome(what, plan::plan(size, 1, map, &mut sheet));
 }
 
 // Every call for a size, with blocks of one byte.
@@ -116,11 +119,11 @@ fn map_byte() {
     planned(b"plan with 2 at the map's end", size, &last);
     say::outcome(
         b"rebuild with 2 in the map",
-        rebuild::rebuild(size, 1, &mut array, &mut first, &mut sheet, 31),
+        rebuild::rebuild(size, 1, &mut array, 1, &mut first, &mut sheet, 31),
     );
     say::outcome(
         b"follow with 2 in the map",
-        follow::follow(size, 1, &mut array, &first, &sheet),
+        follow::follow(size, 1, &mut array, 1, &first, &sheet),
     );
 }
 

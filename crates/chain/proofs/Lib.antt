@@ -1,3 +1,4 @@
 pub mod Listed
 pub mod Groups
 pub mod Clean
+pub mod Place

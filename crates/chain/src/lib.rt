@@ -121,3 +121,19 @@ pub fn read_clean(sheet: &[u8], list: &mut [u32]) -> Chain
     }
     Chain::Records(count)
 }
+
+// Reads the records of a chain that is known to be one of repairs, and says how many they are.
+pub fn list(sheet: &[u8], list: &mut [u32]) -> usize
+    requires { ⌜ length (now sheet) ≡ sheetBytes narrow ⌝ }
+    requires { ⌜ narrow .records ≤ length (now list) ⌝ }
+    requires { ⌜ chainRefusal narrow (now sheet) ≡ 0 ⌝ }
+    ensures number { λ r. ⌜ r ≡ length (chainEntries narrow (now (sheet .entry))) ⌝ }
+    ensures list { λ r. ⌜ listed (now (list .exit)) r ≡ chainEntries narrow (now (sheet .entry)) ⌝ }
+{
+    let mut marks = [0u8; MARKS];
+    let chain = read(sheet, list, &mut marks);
+    let Chain::Records(count) = chain else {
+        return 0;
+    };
+    count
+}

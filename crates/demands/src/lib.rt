@@ -11,21 +11,24 @@ ghost use Rattle.stripes.specs.Fold.{count};
 ghost use Rattle.stripes.specs.System.{whole};
 ghost use Rattle.stripes.specs.Erased.{erasures, Belongs};
 ghost use Rattle.stripes.specs.Repair.{fatal, mapAfter, rebuilt};
-ghost use Rattle.model.specs.Grid.{columnBase, disks};
+ghost use Rattle.stripes.specs.Sectors.{sectored};
+ghost use Rattle.model.specs.Grid.{columnBase, mapBytes};
 ghost use Rattle.model.specs.Refusal.{refusal, arrayTests};
 ghost use Rattle.model.specs.Array.{sealStatus, sealArray, checked, checkStatus, writeStatus, writeArray, canLook};
-ghost use Rattle.model.specs.Sheet.{narrow, sheetBytes, sheetsIn};
-ghost use Rattle.model.specs.Plan.{planTests, sheetLayout, planOutcome, planSheet, outcomeStatus};
+ghost use Rattle.model.specs.Sheet.{narrow, sheetsBytes, sheetAt, partsIn};
+ghost use Rattle.model.specs.Plan.{planTests, sheetLayout, planOutcome, planSheets, outcomeStatus};
 ghost use Rattle.model.specs.PlanDisk.{planDiskTests, planDiskOutcome, planDiskSheet, DiskDemand};
 ghost use Rattle.model.specs.Rebuild.{bufferRefusal, rebuildRefusal, rebuildTurn};
-ghost use Rattle.model.specs.Chain.{Leftover, chainEntries, cleanRefusal};
-ghost use Rattle.model.specs.Follow.{Usable, listOutcome, listArray, followOutcome, followArray, looseStatus};
-ghost use Rattle.model.specs.Tidy.{tidyStatus, tidySheet, Tidy, TidyDemand};
+ghost use Rattle.model.specs.Chain.{Leftover, chainEntries, chainRefusal, cleanRefusal};
+ghost use Rattle.model.specs.Follow.{Usable, sheetsEntries, listOutcome, listArray, followOutcome, followArray, looseStatus};
+ghost use Rattle.model.specs.Tidy.{tidyStatus, tidySheet, Tidy, TidyDemand, tidySheets};
 ghost use Rattle.model.specs.Save.{saveLayout, mapTests, saveAnswer, saveArray, AsTurn, SaveDemand};
 ghost use Rattle.model.specs.Edition.{superparity};
 ghost use Rattle.model.specs.Demand2.{SealDemand, CheckDemand, WriteDemand};
-ghost use Rattle.model.specs.Demand3.{Planned, Demand3};
-ghost use Rattle.series.specs.Total.{start, turnsIn, endOf, totalOf, Written};
+ghost use Rattle.model.specs.Demand3.{Planned, Demand3, Restorable, TurnKeeps};
+ghost use Rattle.model.specs.Turn.{Turn};
+ghost use Rattle.model.specs.Single.{planWhole, planWholeSheet, rebuildWhole, followWhole, followWholeArray, saveWhole, saveWholeArray};
+ghost use Rattle.series.specs.Total.{turnBytes, start, turnsIn, endOf, totalOf, Written};
 use model::Checked;
 use model::Outcome;
 use model::Saving;
@@ -70,62 +73,100 @@ pub struct Answers {
     pub rebuilt: Turns,
 }
 
-// Plans the repair of a loss into one sheet, the draft, and rebuilds the array in turns of at most `limit` repairs, each with the
-// next sheet of a buffer, until the map is clear, a turn is refused or no sheet is left. Demand 3 holds for every input that the
+// Plans the repair of a loss into one buffer of sheets, the draft, and rebuilds the array in turns of at most `limit` repairs, each with the
+// next sheets of a buffer, until the map is clear, a turn is refused or no sheets are left. Demand 3 holds for every input that the
 // refusals before 6 let through, if a loss that is not fatal has sheets for its repairs; what it says of plan alone, under plan's
-// own refusals and for every block length.
+// own refusals and for every sector length.
 pub fn plan_and_rebuild(
     size: Size,
     block: usize,
     array: &mut [u8],
+    sector: usize,
     map: &mut [u8],
+    sectors: usize,
     draft: &mut [u8],
     sheets: &mut [u8],
     limit: usize,
 ) -> Answers
-    ensures planned { λ r. ⌜ r .planned ≡ planOutcome size (now (map .entry)) (now (draft .entry)) ⌝ }
-    ensures draft { λ r. ⌜ now (draft .exit) ≡ planSheet size (now (map .entry)) (now (draft .entry)) ⌝ }
+    ensures planned { λ r. ⌜ r .planned ≡ planOutcome size sectors (now (map .entry)) (now (draft .entry)) ⌝ }
+    ensures draft { λ r. ⌜ now (draft .exit) ≡ planSheets size sectors (now (map .entry)) (now (draft .entry)) ⌝ }
     ensures rebuilt { λ r. ⌜
         r .rebuilt ≡ totalOf (start (now (array .entry)) (now (map .entry)))
-        (turnsIn size block limit (now (sheets .entry)) (now (array .entry)) (now (map .entry)))
+        (turnsIn size block sector limit (now (sheets .entry)) (now (array .entry)) (now (map .entry)))
         ⌝ }
     ensures array { λ r. ⌜
-        now (array .exit) ≡ endOf size block limit (now (sheets .entry)) (now (array .entry)) (now (map .entry)) .array
+        now (array .exit) ≡ endOf size block sector limit (now (sheets .entry)) (now (array .entry)) (now (map .entry)) .array
         ⌝ }
     ensures map { λ r. ⌜
-        now (map .exit) ≡ endOf size block limit (now (sheets .entry)) (now (array .entry)) (now (map .entry)) .map
+        now (map .exit) ≡ endOf size block sector limit (now (sheets .entry)) (now (array .entry)) (now (map .entry)) .map
         ⌝ }
     ensures sheets { λ r. ⌜
-        Written narrow (now (sheets .entry)) (now (sheets .exit))
-        (turnsIn size block limit (now (sheets .entry)) (now (array .entry)) (now (map .entry)))
+        Written (turnBytes block sector) (now (sheets .entry)) (now (sheets .exit))
+        (turnsIn size block sector limit (now (sheets .entry)) (now (array .entry)) (now (map .entry)))
         ⌝ }
     ensures plan { λ r. ⌜
-        (refusal (planTests size (now (map .entry)) (length (now (draft .entry)))) ≡ 0
-        → Planned (superparity size (narrow .base)) narrow (erasures (now (map .entry))) (r .planned) (now (draft .exit)))
+        (refusal (planTests size sectors (now (map .entry)) (length (now (draft .entry)))) ≡ 0
+        → Planned sectors (superparity size (narrow .base)) narrow (erasures (now (map .entry))) (r .planned) (now (draft .exit)))
         ⌝ }
     ensures demand3 { λ r. ⌜
-        (refusal (planTests size (now (map .entry)) (length (now (draft .entry)))) ≡ 0
-        → rebuildRefusal size block (now (array .entry)) (now (map .entry)) (take (sheetBytes narrow) (now (sheets .entry))) limit ≡ 0
-        → (fatal (sheetLayout size) (erasures (now (map .entry))) ≡ false
-        → count (disks size) (erasures (now (map .entry))) ≤ length (now (sheets .entry)) / sheetBytes narrow * limit)
-        → Demand3 (superparity size (narrow .base)) narrow block limit (now (array .entry)) (now (map .entry))
+        (sectors ≡ block / sector
+        → refusal (planTests size sectors (now (map .entry)) (length (now (draft .entry)))) ≡ 0
+        → rebuildRefusal size block sector (now (array .entry)) (now (map .entry)) (take (turnBytes block sector) (now (sheets .entry))) limit ≡ 0
+        → (fatal (sectored sectors (sheetLayout size)) (erasures (now (map .entry))) ≡ false
+        → count (mapBytes size sectors) (erasures (now (map .entry))) ≤ length (now (sheets .entry)) / turnBytes block sector * limit)
+        → Demand3 sectors (superparity size (narrow .base)) narrow sector limit (now (array .entry)) (now (map .entry))
         (record {
           planned = r .planned;
-          planSheet = now (draft .exit);
+          planSheets = now (draft .exit);
           last = r .rebuilt .last;
           made = r .rebuilt .made;
           array = now (array .exit);
           map = now (map .exit);
-          sheets = sheetsIn narrow (r .rebuilt .turns) (now (sheets .exit));
+          sheets = partsIn (turnBytes block sector) (r .rebuilt .turns) (now (sheets .exit));
         }))
         ⌝ }
+    ensures single { λ r. ⌜
+        (sectors ≡ 1
+        → (r .planned ≡ planWhole size (now (map .entry)) (now (draft .entry)))
+        × (now (draft .exit) ≡ planWholeSheet size (now (map .entry)) (now (draft .entry))))
+        ⌝ }
 {
-    let planned = plan::plan(size, map, draft);
-    let rebuilt = series::rebuild_in_turns(size, block, array, map, sheets, limit);
+    let planned = plan::plan(size, sectors, map, draft);
+    let rebuilt = series::rebuild_in_turns(size, block, array, sector, map, sheets, limit);
     Answers {
         planned: planned,
         rebuilt: rebuilt,
     }
+}
+
+// Makes one turn. Whatever the limits of other turns are, it makes the next repairs of plan's order and leaves a loss that is restorable again,
+// if it was; with a single sector a block it is a turn without sectors.
+pub fn rebuild_once(
+    size: Size,
+    block: usize,
+    array: &mut [u8],
+    sector: usize,
+    map: &mut [u8],
+    sheets: &mut [u8],
+    limit: usize,
+) -> Outcome
+    ensures outcome { λ r. ⌜ r ≡ rebuildTurn size block sector (now (array .entry)) (now (map .entry)) (now (sheets .entry)) limit .answer ⌝ }
+    ensures array { λ r. ⌜ now (array .exit) ≡ rebuildTurn size block sector (now (array .entry)) (now (map .entry)) (now (sheets .entry)) limit .array ⌝ }
+    ensures map { λ r. ⌜ now (map .exit) ≡ rebuildTurn size block sector (now (array .entry)) (now (map .entry)) (now (sheets .entry)) limit .map ⌝ }
+    ensures sheets { λ r. ⌜ now (sheets .exit) ≡ rebuildTurn size block sector (now (array .entry)) (now (map .entry)) (now (sheets .entry)) limit .sheets ⌝ }
+    ensures keeps { λ r. ⌜
+        (rebuildRefusal size block sector (now (array .entry)) (now (map .entry)) (now (sheets .entry)) limit ≡ 0
+        → (b : List ℕ) → Restorable (sectored (block / sector) (sheetLayout size)) sector b (now (array .entry)) (now (map .entry))
+        → TurnKeeps (block / sector) (sheetLayout size) narrow sector limit b (now (map .entry))
+        (record { answer = r; array = now (array .exit); map = now (map .exit); sheets = now (sheets .exit) }))
+        ⌝ }
+    ensures single { λ r. ⌜
+        (sector ≡ block
+        → _≡_ {A = Turn} (record { answer = r; array = now (array .exit); map = now (map .exit); sheets = now (sheets .exit) })
+        (rebuildWhole size block (now (array .entry)) (now (map .entry)) (now (sheets .entry)) limit))
+        ⌝ }
+{
+    rebuild::rebuild(size, block, array, sector, map, sheets, limit)
 }
 
 // What plan answers for a loss, and what the plan for one disk of it does.
@@ -134,7 +175,7 @@ pub struct Plans {
     pub wanted: Outcome,
 }
 
-// Plans the repair of a loss into one sheet, the draft, and that of one wanted disk into another. Where neither is refused before 6, the
+// Plans the repair of a loss at one position into one sheet, the draft, and that of one wanted disk into another. Where neither is refused before 6, the
 // second sheet has the shortest list that ends with the disk, as paper 02 orders it, or where no list reaches the disk what the draft
 // has. A list is tidy, and with its repairs made look hands the block of the disk out.
 pub fn plan_and_plan_disk(
@@ -144,12 +185,12 @@ pub fn plan_and_plan_disk(
     sheet: &mut [u8],
     disk: usize,
 ) -> Plans
-    ensures planned { λ r. ⌜ r .planned ≡ planOutcome size (now (map .entry)) (now (draft .entry)) ⌝ }
-    ensures draft { λ r. ⌜ now (draft .exit) ≡ planSheet size (now (map .entry)) (now (draft .entry)) ⌝ }
+    ensures planned { λ r. ⌜ r .planned ≡ planOutcome size 1 (now (map .entry)) (now (draft .entry)) ⌝ }
+    ensures draft { λ r. ⌜ now (draft .exit) ≡ planSheets size 1 (now (map .entry)) (now (draft .entry)) ⌝ }
     ensures wanted { λ r. ⌜ r .wanted ≡ planDiskOutcome size (now (map .entry)) (now (sheet .entry)) disk ⌝ }
     ensures sheet { λ r. ⌜ now (sheet .exit) ≡ planDiskSheet size (now (map .entry)) (now (sheet .entry)) disk ⌝ }
     ensures demand { λ r. ⌜
-        (refusal (planTests size (now (map .entry)) (length (now (draft .entry)))) ≡ 0
+        (refusal (planTests size 1 (now (map .entry)) (length (now (draft .entry)))) ≡ 0
         → refusal (planDiskTests size (now (map .entry)) (length (now (sheet .entry))) disk) ≡ 0
         → DiskDemand (superparity size (narrow .base)) narrow (erasures (now (map .entry))) disk (r .planned) (now (draft .exit)) (r .wanted)
         (now (sheet .exit)))
@@ -157,12 +198,12 @@ pub fn plan_and_plan_disk(
     ensures tidy { λ r. ⌜ (outcomeStatus (r .wanted) ≡ 0 → Tidy narrow (now (sheet .exit)) × (cleanRefusal narrow (now (sheet .exit)) ≡ 0)) ⌝ }
     ensures look { λ r. ⌜
         (outcomeStatus (r .wanted) ≡ 0 → (B : ℕ) (a : List ℕ) → refusal (arrayTests size B (length a)) ≡ 0
-        → canLook size B (rebuilt (sheetLayout size) (whole B) a (chainEntries narrow (now (sheet .exit))))
+        → canLook size B B (rebuilt (sheetLayout size) (whole B) a (chainEntries narrow (now (sheet .exit))))
         (mapAfter (now (map .entry)) (chainEntries narrow (now (sheet .exit)))) disk
         ≡ true)
         ⌝ }
 {
-    let planned = plan::plan(size, map, draft);
+    let planned = plan::plan(size, 1, map, draft);
     let wanted = wanted::plan_disk(size, map, sheet, disk);
     Plans {
         planned: planned,
@@ -170,34 +211,52 @@ pub fn plan_and_plan_disk(
     }
 }
 
-// Follows a sheet from elsewhere. With a usable sheet it answers what rebuild would in one turn and leaves the same array, whatever
-// the order of the repairs; it refuses by 7 exactly if such a sheet meets survivors that belong to no sealed array; and where the loss is
-// fatal, no sheet makes it change anything.
-pub fn follow_sheet(size: Size, block: usize, array: &mut [u8], map: &[u8], sheet: &[u8]) -> Outcome
-    ensures outcome { λ r. ⌜ r ≡ followOutcome size block (now (array .entry)) (now (map .entry)) (now (sheet .entry)) ⌝ }
+// Follows sheets from elsewhere. With usable sheets it answers what rebuild would in one turn and leaves the same array, whatever
+// the order of the repairs; it refuses by 7 exactly if such sheets meet survivors that belong to no sealed array; and where the loss is
+// fatal, no sheets make it change anything.
+pub fn follow_sheets(
+    size: Size,
+    block: usize,
+    array: &mut [u8],
+    sector: usize,
+    map: &[u8],
+    sheets: &[u8],
+) -> Outcome
+    ensures outcome { λ r. ⌜
+        r ≡ followOutcome size block sector (now (array .entry)) (now (map .entry)) (now (sheets .entry))
+        ⌝ }
     ensures array { λ r. ⌜
-        now (array .exit) ≡ followArray size block (now (array .entry)) (now (map .entry)) (now (sheet .entry))
+        now (array .exit) ≡ followArray size block sector (now (array .entry)) (now (map .entry)) (now (sheets .entry))
         ⌝ }
     ensures rebuilt { λ r. ⌜
-        (Usable size (now (map .entry)) (now (sheet .entry))
-        → (k : ℕ) → 0 < k → count (disks size) (erasures (now (map .entry))) ≤ k
-        → (r ≡ rebuildTurn size block (now (array .entry)) (now (map .entry)) (now (sheet .entry)) k .answer)
-        × (now (array .exit) ≡ rebuildTurn size block (now (array .entry)) (now (map .entry)) (now (sheet .entry)) k .array))
+        (Usable size (block / sector) (now (map .entry)) (now (sheets .entry))
+        → (k : ℕ) → 0 < k → count (mapBytes size (block / sector)) (erasures (now (map .entry))) ≤ k
+        → (r ≡ rebuildTurn size block sector (now (array .entry)) (now (map .entry)) (now (sheets .entry)) k .answer)
+        × (now (array .exit) ≡ rebuildTurn size block sector (now (array .entry)) (now (map .entry)) (now (sheets .entry)) k .array))
         ⌝ }
     ensures contradicted { λ r. ⌜
-        (bufferRefusal size block (now (array .entry)) (now (map .entry)) (now (sheet .entry)) ≡ 0
+        (bufferRefusal size block sector (now (array .entry)) (now (map .entry)) (now (sheets .entry)) ≡ 0
         → ((outcomeStatus r ≡ 7)
-        ↔ (Usable size (now (map .entry)) (now (sheet .entry))
-        × (Belongs (sheetLayout size) (whole block) (erasures (now (map .entry))) (now (array .entry)) → ⊥))))
+        ↔ (Usable size (block / sector) (now (map .entry)) (now (sheets .entry))
+        × (Belongs (sectored (block / sector) (sheetLayout size)) (whole sector) (erasures (now (map .entry))) (now (array .entry)) → ⊥))))
         ⌝ }
     ensures leftovers { λ r. ⌜
-        (bufferRefusal size block (now (array .entry)) (now (map .entry)) (now (sheet .entry)) ≡ 0
-        → tidyStatus narrow (now (sheet .entry)) ≡ 0
-        → ((outcomeStatus r ≡ 14) ↔ ((i : ℕ) × Leftover narrow (now (sheet .entry)) i)))
+        (bufferRefusal size block sector (now (array .entry)) (now (map .entry)) (now (sheets .entry)) ≡ 0
+        → ((outcomeStatus r ≡ 14)
+        ↔ (((p : ℕ) → p < block / sector → chainRefusal narrow (sheetAt narrow p (now (sheets .entry))) ≡ 0)
+        × ((p : ℕ) × (p < block / sector) × ((i : ℕ) × Leftover narrow (sheetAt narrow p (now (sheets .entry))) i)))))
         ⌝ }
-    ensures kept { λ r. ⌜ (fatal (sheetLayout size) (erasures (now (map .entry))) ≡ true → now (array .exit) ≡ now (array .entry)) ⌝ }
+    ensures kept { λ r. ⌜
+        (fatal (sectored (block / sector) (sheetLayout size)) (erasures (now (map .entry))) ≡ true
+        → now (array .exit) ≡ now (array .entry))
+        ⌝ }
+    ensures single { λ r. ⌜
+        (sector ≡ block
+        → (r ≡ followWhole size block (now (array .entry)) (now (map .entry)) (now (sheets .entry)))
+        × (now (array .exit) ≡ followWholeArray size block (now (array .entry)) (now (map .entry)) (now (sheets .entry))))
+        ⌝ }
 {
-    follow::follow(size, block, array, map, sheet)
+    follow::follow(size, block, array, sector, map, sheets)
 }
 
 // What tidy answers for two sheets.
@@ -232,45 +291,65 @@ pub fn tidy_sheets(one: &mut [u8], other: &mut [u8]) -> Tidied
     }
 }
 
-// Tidies a sheet and follows it. The answer and the array are those of follow where leftovers are ignored.
+// Tidies each of some sheets that stand one after another; those that are refused stay.
+fn tidy_each(sheets: &mut [u8])
+    ensures { λ r. ⌜ now (sheets .exit) ≡ tidySheets narrow (now (sheets .entry)) ⌝ }
+{
+    let number = sheets.len() / sheet::BYTES;
+    let mut p = 0;
+    while p < number {
+        let at = sheet::BYTES * p;
+        tidy::tidy(&mut sheets[at..at + sheet::BYTES]);
+        p += 1;
+    }
+}
+
+// Tidies sheets and follows them. The answer and the array are those of follow where leftovers are ignored.
 pub fn tidy_and_follow(
     size: Size,
     block: usize,
     array: &mut [u8],
+    sector: usize,
     map: &[u8],
-    sheet: &mut [u8],
+    sheets: &mut [u8],
 ) -> Outcome
-    ensures sheet { λ r. ⌜ now (sheet .exit) ≡ tidySheet narrow (now (sheet .entry)) ⌝ }
+    ensures sheets { λ r. ⌜ now (sheets .exit) ≡ tidySheets narrow (now (sheets .entry)) ⌝ }
     ensures outcome { λ r. ⌜
-        r ≡ listOutcome (looseStatus size block (now (array .entry)) (now (map .entry)) (now (sheet .entry)))
-        (chainEntries narrow (now (sheet .entry)))
+        r ≡ listOutcome (looseStatus size block sector (now (array .entry)) (now (map .entry)) (now (sheets .entry)))
+        (sheetsEntries narrow (block / sector) (now (sheets .entry)))
         ⌝ }
     ensures array { λ r. ⌜
-        now (array .exit) ≡ listArray (sheetLayout size) (whole block) (now (array .entry)) (now (map .entry))
-        (looseStatus size block (now (array .entry)) (now (map .entry)) (now (sheet .entry)))
-        (chainEntries narrow (now (sheet .entry)))
+        now (array .exit)
+        ≡ listArray (sectored (block / sector) (sheetLayout size)) (whole sector) (now (array .entry)) (now (map .entry))
+        (looseStatus size block sector (now (array .entry)) (now (map .entry)) (now (sheets .entry)))
+        (sheetsEntries narrow (block / sector) (now (sheets .entry)))
         ⌝ }
 {
-    tidy::tidy(sheet);
-    let followed = follow::follow(size, block, array, map, sheet);
+    tidy_each(sheets);
+    let followed = follow::follow(size, block, array, sector, map, sheets);
     followed
 }
 
 // Saves what the survivors determine. Where the refusals before 7 let the input through, the promise of paper 02 holds; where the loss is
 // not fatal, the answer and the array are those of rebuild in one turn, refusals included.
-pub fn save_disks(size: Size, block: usize, array: &mut [u8], map: &[u8]) -> Saving
-    ensures answer { λ r. ⌜ r ≡ saveAnswer size block (now (array .entry)) (now (map .entry)) ⌝ }
-    ensures array { λ r. ⌜ now (array .exit) ≡ saveArray size block (now (array .entry)) (now (map .entry)) ⌝ }
+pub fn save_sectors(size: Size, block: usize, array: &mut [u8], sector: usize, map: &[u8]) -> Saving
+    ensures answer { λ r. ⌜ r ≡ saveAnswer size block sector (now (array .entry)) (now (map .entry)) ⌝ }
+    ensures array { λ r. ⌜ now (array .exit) ≡ saveArray size block sector (now (array .entry)) (now (map .entry)) ⌝ }
     ensures demand { λ r. ⌜
-        (refusal (mapTests size block (length (now (array .entry))) (now (map .entry))) ≡ 0
-        → SaveDemand (superparity size (columnBase size)) block (now (array .entry)) (now (map .entry)) r (now (array .exit)))
+        (refusal (mapTests size block sector (length (now (array .entry))) (now (map .entry))) ≡ 0
+        → SaveDemand (superparity size (columnBase size)) (block / sector) sector (now (array .entry)) (now (map .entry)) r (now (array .exit)))
         ⌝ }
     ensures rebuilt { λ r. ⌜
-        (fatal (saveLayout size) (erasures (now (map .entry))) ≡ false
-        → (sheet : List ℕ) → length sheet ≡ sheetBytes narrow
-        → (k : ℕ) → 0 < k → count (disks size) (erasures (now (map .entry))) ≤ k
-        → AsTurn r (now (array .exit)) (rebuildTurn size block (now (array .entry)) (now (map .entry)) sheet k))
+        (fatal (saveLayout size (block / sector)) (erasures (now (map .entry))) ≡ false
+        → (sheets : List ℕ) → length sheets ≡ sheetsBytes narrow (block / sector)
+        → (k : ℕ) → 0 < k → count (mapBytes size (block / sector)) (erasures (now (map .entry))) ≤ k
+        → AsTurn r (now (array .exit)) (rebuildTurn size block sector (now (array .entry)) (now (map .entry)) sheets k))
+        ⌝ }
+    ensures single { λ r. ⌜
+        (sector ≡ block
+        → (r ≡ saveWhole size block (now (array .entry)) (now (map .entry)))
+        × (now (array .exit) ≡ saveWholeArray size block (now (array .entry)) (now (map .entry))))
         ⌝ }
 {
-    save::save(size, block, array, map)
+    save::save(size, block, array, sector, map)
 }

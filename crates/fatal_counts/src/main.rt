@@ -59,8 +59,12 @@ fn fatal(size: Size, map: &[u8]) -> usize
     ensures { λ r. ⌜ r ≤ 1 ⌝ }
 {
     let mut sheet = [0u8; 98];
-    let answer = plan::plan(size, map, &mut sheet);
-    let Outcome::Fatal(_) = answer else {
+    let answer = plan::plan(size, 1, map, &mut sheet);
+    let Outcome::Fatal {
+        lost: _lost,
+        position: _position,
+    } = answer
+    else {
         return 0;
     };
     1

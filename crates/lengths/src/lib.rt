@@ -1,9 +1,9 @@
-// How long the map and the array of a size are, 0 for numbers that the calls refuse.
+// How many disks an array of a size has and how long it is, 0 for numbers that the calls refuse.
 ghost use mathlib.Core.Path.{_≡_};
 ghost use Rattle.model.specs.Grid.{disksOrZero, arrayBytesOrZero};
 use model::Size;
 
-// Disks of an array, and bytes of a map.
+// Disks of an array.
 pub fn disks(size: Size) -> usize
     ensures { λ r. ⌜ r ≡ disksOrZero size ⌝ }
 {

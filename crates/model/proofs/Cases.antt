@@ -1,10 +1,11 @@
 -- The worked cases of paper 01, with two data rows and two data columns, and others, with sides of 2 and 3, as one list; blocks of
--- one byte. What the definitions give, and what the paper says or what its rules come to by hand: they agree.
+-- one byte; and cases with blocks of two sectors of one byte, as another list. What the definitions give, and what the paper says or what
+-- its rules come to by hand: they agree.
 -- Assumes nothing.
 use mathlib.Core.Path.{_≡_, refl}
 use mathlib.Core.Bool.{Bool, true, false}
 use mathlib.Core.List.{List, [], _∷_, _++_, map}
-use Prim.Native.Nat.{ℕ}
+use Prim.Native.Nat.{ℕ, _*_}
 use lib.ListN.{replicate}
 use Rattle.stripes.specs.Fold.{xsum, gate, every, bit, count, lowest, tabulate, _⊕_}
 use Rattle.stripes.specs.System.{among, on, whole, byte, sumOver, stripeSum, sumsToZero, changed, consistent, firstOf, otherThan}
@@ -13,20 +14,21 @@ use Rattle.stripes.specs.Repair.{mapAfter, alone, allowed, firstAllowed, someAl
 use Rattle.stripes.specs.Joined.{united, partBy, part, joined}
 use Rattle.stripes.specs.Undetermined.{undetermined, determined, lost, survivorSum, partSum, partsCancel, savedByte, saved}
 use Rattle.stripes.specs.Wanted.{onSide, sideRepairs, serves, takesLower, wantedStripe, wantedRepairs}
+use Rattle.stripes.specs.Sectors.{sectorAt, sectored, atPosition, sectorEntry, rising, sectorRepairs, ofPosition, fatalPosition}
 use Rattle.stripes.specs.Cycle.{closing, core, partner, trace, lowestOf, cycleOf, shownCycle}
-use Rattle.model.specs.Grid.{grid, layoutOf, rectangle, rows, columns, across, disks, diskAt, isData, arrayBytes, arrayOf, sideFits, sizeFits, blockFits, mapFits, down}
+use Rattle.model.specs.Grid.{grid, layoutOf, rectangle, rows, columns, across, disks, diskAt, isData, arrayBytes, arrayOf, sideFits, sizeFits, blockFits, sectorFits, sectorsFit, mapBytes, mapFits, down}
 use Rattle.model.specs.Equations.{cell, rowData, columnData}
-use Rattle.model.specs.Refusal.{refusal, arrayTests}
-use Rattle.model.specs.Array.{encodedByte, encoded, sealStatus, sealArray, writeTests, isParityOf, writtenByte, written, writeStatus, writeArray}
-use Rattle.model.specs.Sheet.{narrow, chainBytes, sheetOf, blankSheet, numberBytes, numberAt}
-use Rattle.model.specs.Chain.{entryAt, nextNumber, visited, chainNumbers, within, different, chainTests, onChain, noLeftovers, cleanTests, entriesAt, chainEntries}
+use Rattle.model.specs.Refusal.{refusal, arrayTests, sectorTests}
+use Rattle.model.specs.Array.{encodedByte, encoded, sealStatus, sealArray, writeTests, isParityOf, writtenByte, written, writeStatus, writeArray, allPresent, canLook, lookOffset, lookLength}
+use Rattle.model.specs.Sheet.{narrow, chainBytes, sheetOf, blankSheet, numberBytes, numberAt, sheetsOf, sheetAt, repairSheets, blankSheets}
+use Rattle.model.specs.Chain.{entryAt, nextNumber, visited, chainNumbers, within, different, chainTests, onChain, noLeftovers, entriesAt, chainEntries}
 use Rattle.model.specs.Tidy.{tidyTests, tidyStatus, tidyForm, tidySheet}
-use Rattle.model.specs.Plan.{sheetTests, planTests, planOutcome, outcomeStatus, outcomeCount, lossOutcome, lossSheet, planSheet}
+use Rattle.model.specs.Plan.{sheetTests, planTests, oneTests, planOutcome, outcomeStatus, outcomeCount, outcomePosition, lossOutcome, cycleSheets, lossSheets, planSheets}
 use Rattle.model.specs.PlanDisk.{canBeWanted, planDiskTests, diskOutcome, diskSheet, planDiskOutcome, planDiskSheet}
 use Rattle.model.specs.Turn.{clear, lossTold, contradiction, repairsMade, turnRepairs, contradicts, turnOf}
 use Rattle.model.specs.Rebuild.{bufferTests, rebuildTests, rebuildRefusal, rebuildTurn}
 use Rattle.model.specs.Save.{mapTests, saveTests, saveStatus, saveAnswer, saveArray, savingStatus, savingCount}
-use Rattle.model.specs.Follow.{listTests, followTests, followStatus, followOutcome, followArray}
+use Rattle.model.specs.Follow.{sheetsEntries, chainsTests, sheetsTests, listTests, followTests, followStatus, followOutcome, followArray}
 use Rattle.model.specs.Listing.{digit, decimal, repairWord, fatalWord, refusedWord, entryLines, listed, listing}
 use Rattle.model.specs.declared.Size.{Size}
 
@@ -60,31 +62,34 @@ W = 1 ∷ 2 ∷ 4 ∷ 7 ∷ 8 ∷ 16 ∷ 32 ∷ 56 ∷ 9 ∷ 18 ∷ 36 ∷ 63 �
 H : List ℕ
 H = 1 ∷ 2 ∷ 3 ∷ 4 ∷ 8 ∷ 12 ∷ 16 ∷ 32 ∷ 48 ∷ 21 ∷ 42 ∷ 63 ∷ []
 
--- Whatever stands in the sheet beforehand.
-before : List ℕ
-before = replicate 98 7
+-- Whatever stands in n sheets beforehand.
+before : ℕ → List ℕ
+before n = replicate (98 * n) 7
 
--- What plan gives for a map: the number, the count, the sheet.
-planned : Size → List ℕ → List ℕ
+-- What plan gives for a map with n sectors a block: the number, the count, the position, the sheets.
+planned : Size → (n : ℕ) → List ℕ → List ℕ
 unfolding before
-planned z m = outcomeStatus (planOutcome z m before) ∷ outcomeCount (planOutcome z m before) 99 ∷ planSheet z m before
+planned z n m =
+    outcomeStatus (planOutcome z n m (before n)) ∷ outcomeCount (planOutcome z n m (before n)) 99
+    ∷ outcomePosition (planOutcome z n m (before n)) 99 ∷ planSheets z n m (before n)
 
--- What a turn of at most k repairs gives for an array and a map: the number, the count, the array, the map, the sheet.
-turned : Size → (k : ℕ) → (a m : List ℕ) → List ℕ
+-- What a turn of at most k repairs gives for an array with n sectors a block and a map: the number, the count, the array, the map, the
+-- sheets.
+turned : Size → (n k : ℕ) → (a m : List ℕ) → List ℕ
 unfolding before
-turned z k a m =
-    let t = rebuildTurn z 1 a m before k in
-    outcomeStatus (t .answer) ∷ outcomeCount (t .answer) 99 ∷ t .array ++ t .map ++ t .sheet
+turned z n k a m =
+    let t = rebuildTurn z n 1 a m (before n) k in
+    outcomeStatus (t .answer) ∷ outcomeCount (t .answer) 99 ∷ t .array ++ t .map ++ t .sheets
 
 -- The same without a limit to speak of.
-restored : Size → (a m : List ℕ) → List ℕ
+restored : Size → (n : ℕ) → (a m : List ℕ) → List ℕ
 unfolding turned
-restored z a m = turned z 256 a m
+restored z n a m = turned z n 256 a m
 
--- What follow gives for an array, a map and a sheet: the number, the count, the array.
-followed : Size → (a m sheet : List ℕ) → List ℕ
-followed z a m sheet =
-    outcomeStatus (followOutcome z 1 a m sheet) ∷ outcomeCount (followOutcome z 1 a m sheet) 99 ∷ followArray z 1 a m sheet
+-- What follow gives for an array, a map and sheets: the number, the count, the array.
+followed : Size → (n : ℕ) → (a m sheets : List ℕ) → List ℕ
+followed z n a m sheets =
+    outcomeStatus (followOutcome z n 1 a m sheets) ∷ outcomeCount (followOutcome z n 1 a m sheets) 99 ∷ followArray z n 1 a m sheets
 
 -- What the plan for one disk gives, where 99 stood for the count and 9 all over the sheet: the number, the count, the sheet.
 plannedFor : Size → (m : List ℕ) → (d : ℕ) → List ℕ
@@ -98,7 +103,7 @@ tidied sheet = tidyStatus narrow sheet ∷ tidySheet narrow sheet
 
 -- What save gives for an array and a map: the number, the count, the array.
 rescued : Size → (a m : List ℕ) → List ℕ
-rescued z a m = savingStatus (saveAnswer z 1 a m) ∷ savingCount (saveAnswer z 1 a m) 99 ∷ saveArray z 1 a m
+rescued z a m = savingStatus (saveAnswer z 1 1 a m) ∷ savingCount (saveAnswer z 1 1 a m) 99 ∷ saveArray z 1 1 a m
 
 unfoldable pub cases : List Case
 unfolding two wide high A W H D planned turned restored followed tidied plannedFor rescued
@@ -113,7 +118,7 @@ cases =
     -- No disk erased: restored, no repairs; byte 0 of the sheet is 1, the rest zero.
     ∷ record {
       number = 2;
-      computed = restored two A (0 ∷ 0 ∷ 0 ∷ 0 ∷ 0 ∷ 0 ∷ 0 ∷ 0 ∷ 0 ∷ []);
+      computed = restored two 1 A (0 ∷ 0 ∷ 0 ∷ 0 ∷ 0 ∷ 0 ∷ 0 ∷ 0 ∷ 0 ∷ []);
       expected = 0 ∷ 0 ∷ A ++ replicate 9 0 ++ 1 ∷ replicate 97 0;
     }
     -- Disks 0, 2, 6 erased: the sheet, and A is restored whatever stands on them; the listing has the lines `repair 3`, `2 18`,
@@ -121,7 +126,7 @@ cases =
     ∷ record {
       number = 3;
       computed =
-          restored two (7 ∷ 2 ∷ 7 ∷ 4 ∷ 8 ∷ 12 ∷ 7 ∷ 10 ∷ 15 ∷ []) (1 ∷ 0 ∷ 1 ∷ 0 ∷ 0 ∷ 0 ∷ 1 ∷ 0 ∷ 0 ∷ [])
+          restored two 1 (7 ∷ 2 ∷ 7 ∷ 4 ∷ 8 ∷ 12 ∷ 7 ∷ 10 ∷ 15 ∷ []) (1 ∷ 0 ∷ 1 ∷ 0 ∷ 0 ∷ 0 ∷ 1 ∷ 0 ∷ 0 ∷ [])
           ++ listing (2 ∷ 2 ∷ 1 ∷ 0 ∷ 1 ∷ 0 ∷ 0 ∷ 0 ∷ 1 ∷ 0 ∷ 0 ∷ []);
       expected =
           0 ∷ 3 ∷ A ++ replicate 9 0 ++ 1 ∷ 1 ∷ 2 ∷ 18 ∷ 2 ∷ 0 ∷ 0 ∷ 3 ∷ 6 ∷ 2 ∷ 0 ∷ replicate 87 0
@@ -132,35 +137,35 @@ cases =
     ∷ record {
       number = 4;
       computed =
-          planned two (1 ∷ 0 ∷ 1 ∷ 0 ∷ 0 ∷ 0 ∷ 1 ∷ 0 ∷ 1 ∷ []) ++ restored two A (1 ∷ 0 ∷ 1 ∷ 0 ∷ 0 ∷ 0 ∷ 1 ∷ 0 ∷ 1 ∷ [])
+          planned two 1 (1 ∷ 0 ∷ 1 ∷ 0 ∷ 0 ∷ 0 ∷ 1 ∷ 0 ∷ 1 ∷ []) ++ restored two 1 A (1 ∷ 0 ∷ 1 ∷ 0 ∷ 0 ∷ 0 ∷ 1 ∷ 0 ∷ 1 ∷ [])
           ++ listing (2 ∷ 2 ∷ 1 ∷ 0 ∷ 1 ∷ 0 ∷ 0 ∷ 0 ∷ 1 ∷ 0 ∷ 1 ∷ []);
       expected =
-          6 ∷ 4 ∷ 2 ∷ 1 ∷ 0 ∷ 0 ∷ 2 ∷ 2 ∷ 18 ∷ 3 ∷ 8 ∷ 2 ∷ 4 ∷ 6 ∷ 16 ∷ 0 ∷ replicate 84 0
+          6 ∷ 4 ∷ 0 ∷ 2 ∷ 1 ∷ 0 ∷ 0 ∷ 2 ∷ 2 ∷ 18 ∷ 3 ∷ 8 ∷ 2 ∷ 4 ∷ 6 ∷ 16 ∷ 0 ∷ replicate 84 0
           ++ 6 ∷ 4 ∷ A ++ 1 ∷ 0 ∷ 1 ∷ 0 ∷ 0 ∷ 0 ∷ 1 ∷ 0 ∷ 1 ∷ 2 ∷ 1 ∷ 0 ∷ 0 ∷ 2 ∷ 2 ∷ 18 ∷ 3 ∷ 8 ∷ 2 ∷ 4 ∷ 6 ∷ 16 ∷ 0 ∷ replicate 84 0
           ++ 102 ∷ 97 ∷ 116 ∷ 97 ∷ 108 ∷ 32 ∷ 52 ∷ 10 ∷ 48 ∷ 32 ∷ 48 ∷ 10 ∷ 50 ∷ 32 ∷ 49 ∷ 56 ∷ 10 ∷ 56 ∷ 32 ∷ 50 ∷ 10 ∷ 54 ∷ 32 ∷ 49 ∷ 54 ∷ 10 ∷ [];
     }
     -- Disks 0, 1, 3, 4 erased: fatal.
     ∷ record {
       number = 5;
-      computed = planned two (1 ∷ 1 ∷ 0 ∷ 1 ∷ 1 ∷ 0 ∷ 0 ∷ 0 ∷ 0 ∷ []);
-      expected = 6 ∷ 4 ∷ 2 ∷ 1 ∷ 0 ∷ 0 ∷ 2 ∷ 1 ∷ 17 ∷ 3 ∷ 4 ∷ 1 ∷ 4 ∷ 3 ∷ 16 ∷ 0 ∷ replicate 84 0;
+      computed = planned two 1 (1 ∷ 1 ∷ 0 ∷ 1 ∷ 1 ∷ 0 ∷ 0 ∷ 0 ∷ 0 ∷ []);
+      expected = 6 ∷ 4 ∷ 0 ∷ 2 ∷ 1 ∷ 0 ∷ 0 ∷ 2 ∷ 1 ∷ 17 ∷ 3 ∷ 4 ∷ 1 ∷ 4 ∷ 3 ∷ 16 ∷ 0 ∷ replicate 84 0;
     }
     -- Disks 0, 4, 8 erased: repairs 0, 4, 8, on stripes 0, 1, 2.
     ∷ record {
       number = 6;
-      computed = restored two (7 ∷ 2 ∷ 3 ∷ 4 ∷ 7 ∷ 12 ∷ 5 ∷ 10 ∷ 7 ∷ []) (1 ∷ 0 ∷ 0 ∷ 0 ∷ 1 ∷ 0 ∷ 0 ∷ 0 ∷ 1 ∷ []);
+      computed = restored two 1 (7 ∷ 2 ∷ 3 ∷ 4 ∷ 7 ∷ 12 ∷ 5 ∷ 10 ∷ 7 ∷ []) (1 ∷ 0 ∷ 0 ∷ 0 ∷ 1 ∷ 0 ∷ 0 ∷ 0 ∷ 1 ∷ []);
       expected = 0 ∷ 3 ∷ A ++ replicate 9 0 ++ 1 ∷ 1 ∷ 0 ∷ 0 ∷ 2 ∷ 4 ∷ 1 ∷ 3 ∷ 8 ∷ 2 ∷ 0 ∷ replicate 87 0;
     }
     -- Disks 0, 1, 2, 3, 6 erased: restored, the full five.
     ∷ record {
       number = 7;
-      computed = restored two (7 ∷ 7 ∷ 7 ∷ 7 ∷ 8 ∷ 12 ∷ 7 ∷ 10 ∷ 15 ∷ []) (1 ∷ 1 ∷ 1 ∷ 1 ∷ 0 ∷ 0 ∷ 1 ∷ 0 ∷ 0 ∷ []);
+      computed = restored two 1 (7 ∷ 7 ∷ 7 ∷ 7 ∷ 8 ∷ 12 ∷ 7 ∷ 10 ∷ 15 ∷ []) (1 ∷ 1 ∷ 1 ∷ 1 ∷ 0 ∷ 0 ∷ 1 ∷ 0 ∷ 0 ∷ []);
       expected = 0 ∷ 5 ∷ A ++ replicate 9 0 ++ 1 ∷ 1 ∷ 1 ∷ 17 ∷ 2 ∷ 2 ∷ 18 ∷ 3 ∷ 0 ∷ 0 ∷ 4 ∷ 3 ∷ 1 ∷ 5 ∷ 6 ∷ 2 ∷ 0 ∷ replicate 81 0;
     }
     -- A with disk 8 holding 14, disk 0 erased: refusal 7, disk 0 becomes 0, and the sheet is zero.
     ∷ record {
       number = 8;
-      computed = restored two (1 ∷ 2 ∷ 3 ∷ 4 ∷ 8 ∷ 12 ∷ 5 ∷ 10 ∷ 14 ∷ []) (1 ∷ 0 ∷ 0 ∷ 0 ∷ 0 ∷ 0 ∷ 0 ∷ 0 ∷ 0 ∷ []);
+      computed = restored two 1 (1 ∷ 2 ∷ 3 ∷ 4 ∷ 8 ∷ 12 ∷ 5 ∷ 10 ∷ 14 ∷ []) (1 ∷ 0 ∷ 0 ∷ 0 ∷ 0 ∷ 0 ∷ 0 ∷ 0 ∷ 0 ∷ []);
       expected = 7 ∷ 99 ∷ 0 ∷ 2 ∷ 3 ∷ 4 ∷ 8 ∷ 12 ∷ 5 ∷ 10 ∷ 14 ∷ 1 ∷ replicate 106 0;
     }
     -- Write 9 to disk 0 of A: disks 0, 2, 6, 8 become 9, 11, 13, 7.
@@ -181,19 +186,19 @@ cases =
     -- Disks 0 to 5 and 8 erased: fatal. Seven are erased, six of them are lost, for 8 can be repaired, and four are in the loop.
     ∷ record {
       number = 0;
-      computed = planned two (1 ∷ 1 ∷ 1 ∷ 1 ∷ 1 ∷ 1 ∷ 0 ∷ 0 ∷ 1 ∷ []);
-      expected = 6 ∷ 6 ∷ 2 ∷ 1 ∷ 0 ∷ 0 ∷ 2 ∷ 1 ∷ 17 ∷ 3 ∷ 4 ∷ 1 ∷ 4 ∷ 3 ∷ 16 ∷ 0 ∷ replicate 84 0;
+      computed = planned two 1 (1 ∷ 1 ∷ 1 ∷ 1 ∷ 1 ∷ 1 ∷ 0 ∷ 0 ∷ 1 ∷ []);
+      expected = 6 ∷ 6 ∷ 0 ∷ 2 ∷ 1 ∷ 0 ∷ 0 ∷ 2 ∷ 1 ∷ 17 ∷ 3 ∷ 4 ∷ 1 ∷ 4 ∷ 3 ∷ 16 ∷ 0 ∷ replicate 84 0;
     }
     -- Case 3's repairs from a sheet whose chain visits records 3, 1 and 2; the same with other bytes behind them, with a ring, with a
     -- number that no record has, and with a disk left over.
     ∷ record {
       number = 0;
       computed =
-          followed two D (1 ∷ 0 ∷ 1 ∷ 0 ∷ 0 ∷ 0 ∷ 1 ∷ 0 ∷ 0 ∷ []) (1 ∷ 3 ∷ 0 ∷ 0 ∷ 2 ∷ 6 ∷ 2 ∷ 0 ∷ 2 ∷ 18 ∷ 1 ∷ replicate 87 0)
-          ++ followed two D (1 ∷ 0 ∷ 1 ∷ 0 ∷ 0 ∷ 0 ∷ 1 ∷ 0 ∷ 0 ∷ []) (1 ∷ 3 ∷ 0 ∷ 0 ∷ 2 ∷ 6 ∷ 2 ∷ 0 ∷ 2 ∷ 18 ∷ 1 ∷ replicate 87 99)
-          ++ followed two D (1 ∷ 0 ∷ 1 ∷ 0 ∷ 0 ∷ 0 ∷ 1 ∷ 0 ∷ 0 ∷ []) (1 ∷ 3 ∷ 0 ∷ 0 ∷ 2 ∷ 6 ∷ 2 ∷ 3 ∷ 2 ∷ 18 ∷ 1 ∷ replicate 87 99)
-          ++ followed two D (1 ∷ 0 ∷ 1 ∷ 0 ∷ 0 ∷ 0 ∷ 1 ∷ 0 ∷ 0 ∷ []) (1 ∷ 3 ∷ 0 ∷ 0 ∷ 2 ∷ 6 ∷ 2 ∷ 33 ∷ 2 ∷ 18 ∷ 1 ∷ replicate 87 99)
-          ++ followed two D (1 ∷ 0 ∷ 1 ∷ 0 ∷ 0 ∷ 0 ∷ 1 ∷ 0 ∷ 0 ∷ []) (1 ∷ 3 ∷ 0 ∷ 0 ∷ 0 ∷ 0 ∷ 0 ∷ 0 ∷ 2 ∷ 18 ∷ 1 ∷ replicate 87 0);
+          followed two 1 D (1 ∷ 0 ∷ 1 ∷ 0 ∷ 0 ∷ 0 ∷ 1 ∷ 0 ∷ 0 ∷ []) (1 ∷ 3 ∷ 0 ∷ 0 ∷ 2 ∷ 6 ∷ 2 ∷ 0 ∷ 2 ∷ 18 ∷ 1 ∷ replicate 87 0)
+          ++ followed two 1 D (1 ∷ 0 ∷ 1 ∷ 0 ∷ 0 ∷ 0 ∷ 1 ∷ 0 ∷ 0 ∷ []) (1 ∷ 3 ∷ 0 ∷ 0 ∷ 2 ∷ 6 ∷ 2 ∷ 0 ∷ 2 ∷ 18 ∷ 1 ∷ replicate 87 99)
+          ++ followed two 1 D (1 ∷ 0 ∷ 1 ∷ 0 ∷ 0 ∷ 0 ∷ 1 ∷ 0 ∷ 0 ∷ []) (1 ∷ 3 ∷ 0 ∷ 0 ∷ 2 ∷ 6 ∷ 2 ∷ 3 ∷ 2 ∷ 18 ∷ 1 ∷ replicate 87 99)
+          ++ followed two 1 D (1 ∷ 0 ∷ 1 ∷ 0 ∷ 0 ∷ 0 ∷ 1 ∷ 0 ∷ 0 ∷ []) (1 ∷ 3 ∷ 0 ∷ 0 ∷ 2 ∷ 6 ∷ 2 ∷ 33 ∷ 2 ∷ 18 ∷ 1 ∷ replicate 87 99)
+          ++ followed two 1 D (1 ∷ 0 ∷ 1 ∷ 0 ∷ 0 ∷ 0 ∷ 1 ∷ 0 ∷ 0 ∷ []) (1 ∷ 3 ∷ 0 ∷ 0 ∷ 0 ∷ 0 ∷ 0 ∷ 0 ∷ 2 ∷ 18 ∷ 1 ∷ replicate 87 0);
       expected = 0 ∷ 3 ∷ A ++ 14 ∷ 99 ∷ D ++ 13 ∷ 99 ∷ D ++ 10 ∷ 99 ∷ D ++ 11 ∷ 99 ∷ D;
     }
     -- Tidy on the sheets of these that have other bytes behind the records: taken, and refused by 13 and 10; refused too with the
@@ -214,8 +219,8 @@ cases =
     ∷ record {
       number = 0;
       computed =
-          turned two 2 (7 ∷ 2 ∷ 7 ∷ 4 ∷ 8 ∷ 12 ∷ 7 ∷ 10 ∷ 15 ∷ []) (1 ∷ 0 ∷ 1 ∷ 0 ∷ 0 ∷ 0 ∷ 1 ∷ 0 ∷ 0 ∷ [])
-          ++ turned two 2 (1 ∷ 2 ∷ 3 ∷ 4 ∷ 8 ∷ 12 ∷ 7 ∷ 10 ∷ 15 ∷ []) (0 ∷ 0 ∷ 0 ∷ 0 ∷ 0 ∷ 0 ∷ 1 ∷ 0 ∷ 0 ∷ []);
+          turned two 1 2 (7 ∷ 2 ∷ 7 ∷ 4 ∷ 8 ∷ 12 ∷ 7 ∷ 10 ∷ 15 ∷ []) (1 ∷ 0 ∷ 1 ∷ 0 ∷ 0 ∷ 0 ∷ 1 ∷ 0 ∷ 0 ∷ [])
+          ++ turned two 1 2 (1 ∷ 2 ∷ 3 ∷ 4 ∷ 8 ∷ 12 ∷ 7 ∷ 10 ∷ 15 ∷ []) (0 ∷ 0 ∷ 0 ∷ 0 ∷ 0 ∷ 0 ∷ 1 ∷ 0 ∷ 0 ∷ []);
       expected =
           0 ∷ 2 ∷ 1 ∷ 2 ∷ 3 ∷ 4 ∷ 8 ∷ 12 ∷ 7 ∷ 10 ∷ 15 ∷ 0 ∷ 0 ∷ 0 ∷ 0 ∷ 0 ∷ 0 ∷ 1 ∷ 0 ∷ 0 ∷ 1 ∷ 1 ∷ 2 ∷ 18 ∷ 2 ∷ 0 ∷ 0 ∷ 0 ∷ replicate 90 0
           ++ 0 ∷ 1 ∷ A ++ replicate 9 0 ++ 1 ∷ 1 ∷ 6 ∷ 2 ∷ 0 ∷ replicate 93 0;
@@ -225,10 +230,10 @@ cases =
     ∷ record {
       number = 0;
       computed =
-          turned two 1 (7 ∷ 2 ∷ 3 ∷ 4 ∷ 7 ∷ 12 ∷ 5 ∷ 10 ∷ 14 ∷ []) (1 ∷ 0 ∷ 0 ∷ 0 ∷ 1 ∷ 0 ∷ 0 ∷ 0 ∷ 0 ∷ [])
-          ++ turned two 1 (1 ∷ 2 ∷ 3 ∷ 4 ∷ 7 ∷ 12 ∷ 5 ∷ 10 ∷ 14 ∷ []) (0 ∷ 0 ∷ 0 ∷ 0 ∷ 1 ∷ 0 ∷ 0 ∷ 0 ∷ 0 ∷ [])
-          ++ turned two 0 A (1 ∷ 0 ∷ 1 ∷ 0 ∷ 0 ∷ 0 ∷ 1 ∷ 0 ∷ 1 ∷ [])
-          ++ turned two 1 (1 ∷ 2 ∷ 3 ∷ 4 ∷ 8 ∷ 12 ∷ 5 ∷ 10 ∷ 14 ∷ []) (replicate 9 0);
+          turned two 1 1 (7 ∷ 2 ∷ 3 ∷ 4 ∷ 7 ∷ 12 ∷ 5 ∷ 10 ∷ 14 ∷ []) (1 ∷ 0 ∷ 0 ∷ 0 ∷ 1 ∷ 0 ∷ 0 ∷ 0 ∷ 0 ∷ [])
+          ++ turned two 1 1 (1 ∷ 2 ∷ 3 ∷ 4 ∷ 7 ∷ 12 ∷ 5 ∷ 10 ∷ 14 ∷ []) (0 ∷ 0 ∷ 0 ∷ 0 ∷ 1 ∷ 0 ∷ 0 ∷ 0 ∷ 0 ∷ [])
+          ++ turned two 1 0 A (1 ∷ 0 ∷ 1 ∷ 0 ∷ 0 ∷ 0 ∷ 1 ∷ 0 ∷ 1 ∷ [])
+          ++ turned two 1 1 (1 ∷ 2 ∷ 3 ∷ 4 ∷ 8 ∷ 12 ∷ 5 ∷ 10 ∷ 14 ∷ []) (replicate 9 0);
       expected =
           0 ∷ 1 ∷ 1 ∷ 2 ∷ 3 ∷ 4 ∷ 7 ∷ 12 ∷ 5 ∷ 10 ∷ 14 ∷ 0 ∷ 0 ∷ 0 ∷ 0 ∷ 1 ∷ 0 ∷ 0 ∷ 0 ∷ 0 ∷ 1 ∷ 1 ∷ 0 ∷ 0 ∷ 0 ∷ replicate 93 0
           ++ 7 ∷ 99 ∷ 1 ∷ 2 ∷ 3 ∷ 4 ∷ 0 ∷ 12 ∷ 5 ∷ 10 ∷ 14 ∷ 0 ∷ 0 ∷ 0 ∷ 0 ∷ 1 ∷ 0 ∷ 0 ∷ 0 ∷ 0 ∷ replicate 98 0
@@ -240,7 +245,7 @@ cases =
       number = 0;
       computed =
           sealArray wide 1 (1 ∷ 2 ∷ 4 ∷ 99 ∷ 8 ∷ 16 ∷ 32 ∷ 9 ∷ 8 ∷ 7 ∷ 6 ∷ 5 ∷ [])
-          ++ restored wide (7 ∷ 7 ∷ 7 ∷ 7 ∷ 7 ∷ 16 ∷ 32 ∷ 56 ∷ 7 ∷ 18 ∷ 36 ∷ 63 ∷ []) (1 ∷ 1 ∷ 1 ∷ 1 ∷ 1 ∷ 0 ∷ 0 ∷ 0 ∷ 1 ∷ 0 ∷ 0 ∷ 0 ∷ []);
+          ++ restored wide 1 (7 ∷ 7 ∷ 7 ∷ 7 ∷ 7 ∷ 16 ∷ 32 ∷ 56 ∷ 7 ∷ 18 ∷ 36 ∷ 63 ∷ []) (1 ∷ 1 ∷ 1 ∷ 1 ∷ 1 ∷ 0 ∷ 0 ∷ 0 ∷ 1 ∷ 0 ∷ 0 ∷ 0 ∷ []);
       expected =
           W ++ 0 ∷ 6 ∷ W ++ replicate 12 0 ++ 1 ∷ 1 ∷ 1 ∷ 17 ∷ 2 ∷ 2 ∷ 18 ∷ 3 ∷ 3 ∷ 19 ∷ 4 ∷ 0 ∷ 0 ∷ 5 ∷ 4 ∷ 1 ∷ 6 ∷ 8 ∷ 2 ∷ 0 ∷ replicate 78 0;
     }
@@ -248,10 +253,10 @@ cases =
     ∷ record {
       number = 0;
       computed =
-          planned wide (1 ∷ 0 ∷ 0 ∷ 1 ∷ 0 ∷ 0 ∷ 0 ∷ 0 ∷ 1 ∷ 0 ∷ 0 ∷ 1 ∷ [])
+          planned wide 1 (1 ∷ 0 ∷ 0 ∷ 1 ∷ 0 ∷ 0 ∷ 0 ∷ 0 ∷ 1 ∷ 0 ∷ 0 ∷ 1 ∷ [])
           ++ writeStatus wide 1 W 2 (9 ∷ []) ∷ writeStatus wide 1 W 3 (9 ∷ []) ∷ writeArray wide 1 W 2 (9 ∷ []);
       expected =
-          6 ∷ 4 ∷ 2 ∷ 1 ∷ 0 ∷ 0 ∷ 2 ∷ 3 ∷ 19 ∷ 3 ∷ 11 ∷ 2 ∷ 4 ∷ 8 ∷ 16 ∷ 0 ∷ replicate 84 0
+          6 ∷ 4 ∷ 0 ∷ 2 ∷ 1 ∷ 0 ∷ 0 ∷ 2 ∷ 3 ∷ 19 ∷ 3 ∷ 11 ∷ 2 ∷ 4 ∷ 8 ∷ 16 ∷ 0 ∷ replicate 84 0
           ++ 0 ∷ 8 ∷ 1 ∷ 2 ∷ 9 ∷ 10 ∷ 8 ∷ 16 ∷ 32 ∷ 56 ∷ 9 ∷ 18 ∷ 41 ∷ 50 ∷ [];
     }
     -- Three data rows, two data columns: data 1 2 / 4 8 / 16 32 seals to H; disks 0, 3, 8, 11 are restored, each by its row. Disk 3
@@ -260,7 +265,7 @@ cases =
       number = 0;
       computed =
           sealArray high 1 (1 ∷ 2 ∷ 99 ∷ 4 ∷ 8 ∷ 9 ∷ 16 ∷ 32 ∷ 8 ∷ 7 ∷ 6 ∷ 5 ∷ [])
-          ++ restored high (7 ∷ 2 ∷ 3 ∷ 7 ∷ 8 ∷ 12 ∷ 16 ∷ 32 ∷ 7 ∷ 21 ∷ 42 ∷ 7 ∷ []) (1 ∷ 0 ∷ 0 ∷ 1 ∷ 0 ∷ 0 ∷ 0 ∷ 0 ∷ 1 ∷ 0 ∷ 0 ∷ 1 ∷ [])
+          ++ restored high 1 (7 ∷ 2 ∷ 3 ∷ 7 ∷ 8 ∷ 12 ∷ 16 ∷ 32 ∷ 7 ∷ 21 ∷ 42 ∷ 7 ∷ []) (1 ∷ 0 ∷ 0 ∷ 1 ∷ 0 ∷ 0 ∷ 0 ∷ 0 ∷ 1 ∷ 0 ∷ 0 ∷ 1 ∷ [])
           ++ writeStatus high 1 H 2 (9 ∷ []) ∷ writeStatus high 1 H 3 (9 ∷ []) ∷ [];
       expected =
           H ++ 0 ∷ 4 ∷ H ++ replicate 12 0 ++ 1 ∷ 1 ∷ 0 ∷ 0 ∷ 2 ∷ 3 ∷ 1 ∷ 3 ∷ 8 ∷ 2 ∷ 4 ∷ 11 ∷ 3 ∷ 0 ∷ replicate 84 0 ++ 8 ∷ 0 ∷ [];
@@ -271,7 +276,7 @@ cases =
       number = 0;
       computed =
           listing (2 ∷ 3 ∷ 1 ∷ 0 ∷ 0 ∷ 1 ∷ 0 ∷ 0 ∷ 0 ∷ 0 ∷ 1 ∷ 0 ∷ 0 ∷ 0 ∷ []) ++ listing (3 ∷ 2 ∷ 1 ∷ 0 ∷ 0 ∷ 1 ∷ 0 ∷ 0 ∷ 0 ∷ 0 ∷ 1 ∷ 0 ∷ 0 ∷ 0 ∷ [])
-          ++ followed wide (7 ∷ 2 ∷ 4 ∷ 7 ∷ 8 ∷ 16 ∷ 32 ∷ 56 ∷ 7 ∷ 18 ∷ 36 ∷ 63 ∷ []) (1 ∷ 0 ∷ 0 ∷ 1 ∷ 0 ∷ 0 ∷ 0 ∷ 0 ∷ 1 ∷ 0 ∷ 0 ∷ 0 ∷ [])
+          ++ followed wide 1 (7 ∷ 2 ∷ 4 ∷ 7 ∷ 8 ∷ 16 ∷ 32 ∷ 56 ∷ 7 ∷ 18 ∷ 36 ∷ 63 ∷ []) (1 ∷ 0 ∷ 0 ∷ 1 ∷ 0 ∷ 0 ∷ 0 ∷ 0 ∷ 1 ∷ 0 ∷ 0 ∷ 0 ∷ [])
           (1 ∷ 1 ∷ 8 ∷ 2 ∷ 2 ∷ 0 ∷ 16 ∷ 3 ∷ 3 ∷ 0 ∷ 0 ∷ replicate 87 0);
       expected =
           114 ∷ 101 ∷ 112 ∷ 97 ∷ 105 ∷ 114 ∷ 32 ∷ 51 ∷ 10 ∷ 51 ∷ 32 ∷ 49 ∷ 57 ∷ 10 ∷ 48 ∷ 32 ∷ 48 ∷ 10 ∷ 56 ∷ 32 ∷ 50 ∷ 10
@@ -315,8 +320,89 @@ cases =
 -- Every case holds, and the paper's nine are there.
 pub cases-hold : (map (λ (c : Case). c .computed) cases ≡ map (λ (c : Case). c .expected) cases)
     × (map (λ (c : Case). c .number) cases ≡ 1 ∷ 2 ∷ 3 ∷ 4 ∷ 5 ∷ 6 ∷ 7 ∷ 8 ∷ 9 ∷ replicate 13 0)
-unfolding cases onSide sideRepairs serves takesLower wantedStripe wantedRepairs canBeWanted planDiskTests diskOutcome diskSheet planDiskOutcome planDiskSheet sealStatus sealArray encoded encodedByte writeStatus writeArray writeTests written writtenByte isParityOf refusal arrayTests sideFits sizeFits blockFits arrayBytes arrayOf disks across down rows columns diskAt isData rowData columnData cell byte whole xsum _⊕_ tabulate gate every bit count lowest among on sumOver stripeSum sumsToZero grid layoutOf mapFits erasures without alone allowed firstAllowed someAllowed nextDisk repairOf peel repairs after residual residualCount lost fatal changed sumOfOthers repaired rebuilt zeroed consistent below closing core partner firstOf otherThan trace lowestOf cycleOf shownCycle numberBytes numberAt chainBytes sheetOf blankSheet sheetTests planTests lossOutcome lossSheet planOutcome planSheet outcomeStatus outcomeCount mapAfter clear lossTold contradiction repairsMade turnRepairs contradicts turnOf bufferTests rebuildTests rebuildRefusal rebuildTurn entryAt nextNumber visited chainNumbers within different chainTests onChain noLeftovers cleanTests entriesAt chainEntries tidyTests tidyStatus tidyForm tidySheet allAllowed clears listTests followTests followStatus followOutcome followArray united partBy part joined undetermined determined survivorSum partSum partsCancel savedByte saved mapTests saveTests saveStatus saveAnswer saveArray savingStatus savingCount rectangle digit decimal repairWord fatalWord refusedWord entryLines listed listing
+unfolding cases sectorAt sectored atPosition sectorEntry rising sectorRepairs ofPosition fatalPosition sectorTests sectorFits sectorsFit mapBytes oneTests sheetsOf sheetAt repairSheets blankSheets cycleSheets outcomePosition sheetsEntries chainsTests sheetsTests onSide sideRepairs serves takesLower wantedStripe wantedRepairs canBeWanted planDiskTests diskOutcome diskSheet planDiskOutcome planDiskSheet sealStatus sealArray encoded encodedByte writeStatus writeArray writeTests written writtenByte isParityOf refusal arrayTests sideFits sizeFits blockFits arrayBytes arrayOf disks across down rows columns diskAt isData rowData columnData cell byte whole xsum _⊕_ tabulate gate every bit count lowest among on sumOver stripeSum sumsToZero grid layoutOf mapFits erasures without alone allowed firstAllowed someAllowed nextDisk repairOf peel repairs after residual residualCount lost fatal changed sumOfOthers repaired rebuilt zeroed consistent below closing core partner firstOf otherThan trace lowestOf cycleOf shownCycle numberBytes numberAt chainBytes sheetOf blankSheet sheetTests planTests lossOutcome lossSheets planOutcome planSheets outcomeStatus outcomeCount mapAfter clear lossTold contradiction repairsMade turnRepairs contradicts turnOf bufferTests rebuildTests rebuildRefusal rebuildTurn entryAt nextNumber visited chainNumbers within different chainTests onChain noLeftovers entriesAt chainEntries tidyTests tidyStatus tidyForm tidySheet allAllowed clears listTests followTests followStatus followOutcome followArray united partBy part joined undetermined determined survivorSum partSum partsCancel savedByte saved mapTests saveTests saveStatus saveAnswer saveArray savingStatus savingCount rectangle digit decimal repairWord fatalWord refusedWord entryLines listed listing
 cases-hold = (refl, refl)
+
+-- ---- blocks of two sectors
+
+-- The sealed array that has A's bytes at position 0 and at position 1 those of the data 1 0 / 0 0, both sectors of disk 0 first.
+T : List ℕ
+T = 1 ∷ 1 ∷ 2 ∷ 0 ∷ 3 ∷ 1 ∷ 4 ∷ 0 ∷ 8 ∷ 0 ∷ 12 ∷ 0 ∷ 5 ∷ 1 ∷ 10 ∷ 0 ∷ 15 ∷ 1 ∷ []
+
+-- Disks 0, 2 and 6 erased at position 0, as in case 3, and disks 0, 4 and 8 at position 1, as in case 6; T with other bytes there, and the
+-- sheets of the two positions.
+lossT : List ℕ
+lossT = 1 ∷ 1 ∷ 0 ∷ 0 ∷ 1 ∷ 0 ∷ 0 ∷ 0 ∷ 0 ∷ 1 ∷ 0 ∷ 0 ∷ 1 ∷ 0 ∷ 0 ∷ 0 ∷ 0 ∷ 1 ∷ []
+
+spotsT : List ℕ
+spotsT = 7 ∷ 7 ∷ 2 ∷ 0 ∷ 7 ∷ 1 ∷ 4 ∷ 0 ∷ 8 ∷ 7 ∷ 12 ∷ 0 ∷ 7 ∷ 1 ∷ 10 ∷ 0 ∷ 15 ∷ 7 ∷ []
+
+sheet0 : List ℕ
+sheet0 = 1 ∷ 1 ∷ 2 ∷ 18 ∷ 2 ∷ 0 ∷ 0 ∷ 3 ∷ 6 ∷ 2 ∷ 0 ∷ replicate 87 0
+
+sheet1 : List ℕ
+sheet1 = 1 ∷ 1 ∷ 0 ∷ 0 ∷ 2 ∷ 4 ∷ 1 ∷ 3 ∷ 8 ∷ 2 ∷ 0 ∷ replicate 87 0
+
+-- Disk 4 erased at position 0, and disks 0, 2, 6 and 8 at position 1, as in case 4; T with other bytes there, and the sheets, of which that
+-- of position 0 is zero and that of position 1 shows the loop.
+fatalT : List ℕ
+fatalT = 0 ∷ 1 ∷ 0 ∷ 0 ∷ 0 ∷ 1 ∷ 0 ∷ 0 ∷ 1 ∷ 0 ∷ 0 ∷ 0 ∷ 0 ∷ 1 ∷ 0 ∷ 0 ∷ 0 ∷ 1 ∷ []
+
+goneT : List ℕ
+goneT = 1 ∷ 7 ∷ 2 ∷ 0 ∷ 3 ∷ 7 ∷ 4 ∷ 0 ∷ 7 ∷ 0 ∷ 12 ∷ 0 ∷ 5 ∷ 7 ∷ 10 ∷ 0 ∷ 15 ∷ 7 ∷ []
+
+loopSheets : List ℕ
+loopSheets = replicate 98 0 ++ 2 ∷ 1 ∷ 0 ∷ 0 ∷ 2 ∷ 2 ∷ 18 ∷ 3 ∷ 8 ∷ 2 ∷ 4 ∷ 6 ∷ 16 ∷ 0 ∷ replicate 84 0
+
+unfoldable pub sectorCases : List Case
+unfolding two T lossT spotsT sheet0 sheet1 fatalT goneT loopSheets planned turned restored followed
+sectorCases =
+    -- No position is fatal: T is restored by six repairs, and each position has its own sheet.
+    record {
+      number = 0;
+      computed = planned two 2 lossT ++ restored two 2 spotsT lossT;
+      expected = 0 ∷ 6 ∷ 99 ∷ sheet0 ++ sheet1 ++ 0 ∷ 6 ∷ T ++ replicate 18 0 ++ sheet0 ++ sheet1;
+    }
+    -- Position 1 is fatal: 4 are lost there. Nothing else changes, though position 0 is not fatal.
+    ∷ record {
+      number = 0;
+      computed = planned two 2 fatalT ++ restored two 2 goneT fatalT;
+      expected = 6 ∷ 4 ∷ 1 ∷ loopSheets ++ 6 ∷ 4 ∷ goneT ++ fatalT ++ loopSheets;
+    }
+    -- There look hands out disk 1, at 2 in the array, and not disk 4, of which one sector is erased.
+    ∷ record {
+      number = 0;
+      computed =
+          lookOffset two 2 1 goneT fatalT 1 99 ∷ lookLength two 2 1 goneT fatalT 1
+          ∷ lookOffset two 2 1 goneT fatalT 4 99 ∷ lookLength two 2 1 goneT fatalT 4 ∷ [];
+      expected = 2 ∷ 2 ∷ 99 ∷ 0 ∷ [];
+    }
+    -- The first loss in turns of four: the first takes all of position 0 and disk 0 at position 1, the second disks 4 and 8 at position 1.
+    ∷ record {
+      number = 0;
+      computed =
+          turned two 2 4 spotsT lossT
+          ++ turned two 2 4 (1 ∷ 1 ∷ 2 ∷ 0 ∷ 3 ∷ 1 ∷ 4 ∷ 0 ∷ 8 ∷ 7 ∷ 12 ∷ 0 ∷ 5 ∷ 1 ∷ 10 ∷ 0 ∷ 15 ∷ 7 ∷ [])
+          (replicate 9 0 ++ 1 ∷ replicate 7 0 ++ 1 ∷ []);
+      expected =
+          0 ∷ 4 ∷ 1 ∷ 1 ∷ 2 ∷ 0 ∷ 3 ∷ 1 ∷ 4 ∷ 0 ∷ 8 ∷ 7 ∷ 12 ∷ 0 ∷ 5 ∷ 1 ∷ 10 ∷ 0 ∷ 15 ∷ 7 ∷ replicate 9 0 ++ 1 ∷ replicate 7 0 ++ 1 ∷ sheet0
+          ++ 1 ∷ 1 ∷ 0 ∷ 0 ∷ 0 ∷ replicate 93 0
+          ++ 0 ∷ 2 ∷ T ++ replicate 18 0 ++ 1 ∷ replicate 97 0 ++ 1 ∷ 1 ∷ 4 ∷ 1 ∷ 2 ∷ 8 ∷ 2 ∷ 0 ∷ replicate 90 0;
+    }
+    -- Follow takes its sheets, and refuses them by 11 in the wrong order. Sectors of no bytes, and of three in a block of two, get 16.
+    ∷ record {
+      number = 0;
+      computed =
+          followed two 2 spotsT lossT (sheet0 ++ sheet1) ++ followed two 2 spotsT lossT (sheet1 ++ sheet0)
+          ++ followStatus two 2 0 spotsT lossT [] ∷ followStatus two 2 3 spotsT lossT [] ∷ [];
+      expected = 0 ∷ 6 ∷ T ++ 11 ∷ 99 ∷ spotsT ++ 16 ∷ 16 ∷ [];
+    }
+    ∷ []
+
+-- Every case holds here too.
+pub sectors-hold : map (λ (c : Case). c .computed) sectorCases ≡ map (λ (c : Case). c .expected) sectorCases
+unfolding sectorCases sectorAt sectored atPosition sectorEntry rising sectorRepairs ofPosition fatalPosition sectorTests sectorFits sectorsFit mapBytes sheetsOf sheetAt repairSheets cycleSheets outcomePosition sheetsEntries chainsTests sheetsTests refusal arrayTests sideFits sizeFits blockFits arrayBytes disks across down rows columns byte whole xsum _⊕_ tabulate gate every bit count lowest among on sumOver stripeSum sumsToZero grid layoutOf mapFits erasures without alone allowed firstAllowed someAllowed nextDisk repairOf peel repairs after residual residualCount lost fatal changed sumOfOthers repaired rebuilt consistent below closing core partner firstOf otherThan trace lowestOf cycleOf shownCycle numberBytes numberAt chainBytes sheetOf blankSheet sheetTests planTests lossOutcome lossSheets planOutcome planSheets outcomeStatus outcomeCount mapAfter clear lossTold repairsMade turnRepairs contradicts turnOf bufferTests rebuildTests rebuildRefusal rebuildTurn entryAt nextNumber visited chainNumbers within different onChain noLeftovers entriesAt chainEntries allAllowed clears listTests followTests followStatus followOutcome followArray united partBy part joined undetermined rectangle allPresent canLook lookOffset lookLength
+sectors-hold = refl
 
 -- The example of paper 02, P3, on the sealed array 1 2 4 7 / 8 16 32 56 / 64 128 3 195 / 73 146 39 252. Nine disks are erased: eight are
 -- lost, and disk 6 is not; its byte is 32, whatever the erased blocks hold. No repair reaches it: the plan for it gives 6.

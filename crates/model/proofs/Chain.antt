@@ -2,8 +2,8 @@
 -- Assumes nothing.
 use mathlib.Core.Path.{_≡_, refl, sym, _∙_, ap, ap₂, subst}
 use mathlib.Core.Bool.{Bool, true, false, cond, _||_, or-true, true≢false}
-use mathlib.Core.Logic.{_↔_, _⊎_, ⊎-elim}
-use mathlib.Core.List.{List, [], _∷_, _++_, append-assoc, append-nil}
+use mathlib.Core.Logic.{_↔_, ⊎-elim}
+use mathlib.Core.List.{List, [], _∷_, _++_, append-nil, append-assoc}
 use Prim.Native.Nat.{ℕ, zero, suc, _+_, _*_, _-_, _/_, _≤_, _<_, zero-le}
 use native.Mathlib.Nat.{le-refl, le-of-suc-le-suc, not-suc-le-zero, pos-of-ne-zero, sub-zero, eq-or-lt-of-le, div-lt-iff-lt-mul, div-add-mod, mod-lt, mul-comm}
 use native.Mathlib.Numerals.{add-one}
@@ -20,7 +20,7 @@ use Rattle.model.specs.Refusal.{Test, _unless_, refusal}
 use Rattle.model.specs.Sheet.{Format, recordBytes, recordAt, sheetBytes, sheetOf, SheetBytes}
 use Rattle.model.specs.Chain.{entryAt, nextNumber, visited, chainNumbers, within, different, chainTests, chainRefusal, recordNumber, onChain, noLeftovers, Leftover, cleanTests, cleanRefusal, entriesAt, chainEntries}
 use Rattle.model.proofs.Refusal.{no-tests, fails, passes, by-test, passed, refused-first, first-accepted}
-use Rattle.model.proofs.Sheets.{Fitting, number-same, sheet-kind, sheet-bytes}
+use Rattle.model.proofs.Sheets.{Fitting, number-same, sheet-bytes}
 use Rattle.model.proofs.Visited.{among-here, among-there, among-snoc, within-append, few, entries-length, entries-append, visited-cases, visited-next, visited-end, visited-none, visited-zero, visited-different}
 
 -- ---- the tests
@@ -93,14 +93,6 @@ module _ (f : Format) (s : List ℕ) where
   clean-goes-on e ts =
       let (fit, clean) = clean-exact .0 e in
       ap refusal (append-assoc (chainTests f s) _ ts) ∙ chain-goes-on fit _ ∙ passes 14 (noLeftovers f s) ts clean
-
-  -- A sheet is refused by 10, 13 or 14.
-  pub clean-numbers : (P : ℕ → Type 0) → P 0 → P 10 → P 13 → P 14 → P (cleanRefusal f s)
-  unfolding cleanRefusal cleanTests chainTests
-  clean-numbers P none ten thirteen fourteen =
-      by-test P 10 (eqb (getD s 0 0) (f .repairKind)) _ ten
-      (by-test P 10 (within (f .records) (chainNumbers f s)) _ ten
-      (by-test P 13 (different (chainNumbers f s)) _ thirteen (by-test P 14 (noLeftovers f s) _ fourteen (rw no-tests none))))
 
   -- A chain that has ended within its steps fits if no number is too large.
   ended-fits : getD s 0 0 ≡ f .repairKind → length (chainNumbers f s) ≤ f .records → within (f .records) (chainNumbers f s) ≡ true
@@ -326,13 +318,6 @@ module _ (f : Format) (w : List Entry) (byte : f .repairKind < 256) (fits : Fitt
   pub written-chain : (cleanRefusal f sheet ≡ 0) × (chainEntries f sheet ≡ w)
   unfolding chainEntries
   written-chain = let (fit, is, lists) = written-numbers in (clean-exact f sheet .1 (fit, written-clean), ap (entriesAt f sheet) is ∙ lists)
-
--- A loop's sheet is refused.
-pub clean-loop : (f : Format) (w : List Entry) → (f .loopKind ≡ f .repairKind → ⊥) → cleanRefusal f (sheetOf f (f .loopKind) w) ≡ 10
-clean-loop f w other =
-    let s : List ℕ = sheetOf f (f .loopKind) w in
-    let ten : chainRefusal f s ≡ 10 = kind-refused f s (λ e. other (sym (sheet-kind f (f .loopKind) w) ∙ e)) in
-    clean-first f s (λ none. let clash : _≡_ {A = ℕ} 10 0 = sym ten ∙ none in omega arith) ∙ ten
 
 -- ---- chains that visit any records in any order
 

@@ -4,16 +4,16 @@ use mathlib.Core.Path.{_≡_, refl, sym, _∙_, ap, ap₂, subst}
 use mathlib.Core.Bool.{Bool, true, false, _&&_, _||_, or-false}
 use mathlib.Core.List.{List}
 use Prim.Native.Nat.{ℕ, _+_, _*_, _/_, _%_, _-_, _≤_, _<_}
-use native.Mathlib.Nat.{mul-le-mul, add-sub-of-le, le-of-lt, lt-of-not-le, mod-lt, div-lt-iff-lt-mul, div-add-mod'}
+use native.Mathlib.Nat.{mul-one, zero-mul, mul-le-mul-left, pos-of-ne-zero, mul-le-mul, add-sub-of-le, le-of-lt, lt-of-not-le, mod-lt, div-lt-iff-lt-mul, div-add-mod'}
 use native.Mathlib.Decide.{decLe, decLt}
 use native.Mathlib.Omega.{arith}
-use borrow.Author.Tests.{eq-eqb, ne-eqb, eqb-true, eqb-false, leb-true, ltb-true, lt-ltb}
+use borrow.Author.Tests.{eq-eqb, ne-eqb, eqb-true, eqb-false, leb-true, ltb-true, lt-ltb, le-leb}
 use lib.Arith.{digits-div, digits-mod, digits-lt}
 use lib.Dec.{eqb, leb, ltb}
 use lib.ListN.{length, getD}
 use Rattle.stripes.specs.Fold.{xsum, gate}
 use Rattle.stripes.specs.System.{TwoStripes, among, on, whole, byte, sumOver, stripeSum, Ordered}
-use Rattle.model.specs.Grid.{grid, rows, columns, across, layoutOf, columnBase, disks, diskAt, isData, arrayBytes, arrayOf, sideFits, sizeFits, blockFits, mapFits, down}
+use Rattle.model.specs.Grid.{grid, rows, columns, across, layoutOf, columnBase, disks, diskAt, isData, arrayBytes, arrayOf, sideFits, sizeFits, blockFits, sectorFits, sectorsFit, mapBytes, mapFits, down}
 use Rattle.stripes.specs.declared.Stretch.{Stretch}
 use Rattle.model.specs.declared.Size.{Size}
 use Rattle.stripes.proofs.Fold.{and-left, and-right, and-both, same-test, xsum-ext, xsum-zero, xsum-swap, xsum-mul, xsum-only, length-tabulate, getD-tabulate, list-is}
@@ -287,10 +287,51 @@ module _ (z : Size) (base : ℕ) where
       (λ e. eq-eqb (base + c) (base + d % across z) (ap (λ (k : ℕ). base + k) (eqb-true c (d % across z) e))))
       ∙ or-false (eqb c (d % across z))
 
--- A map that fits has a byte for each disk.
-pub map-length : (z : Size) (m : List ℕ) → mapFits z m ≡ true → length m ≡ disks z
+-- A map that fits has its length.
+pub map-length : (len : ℕ) (m : List ℕ) → mapFits len m ≡ true → length m ≡ len
 unfolding mapFits
-map-length z m e = eqb-true (length m) (disks z) (and-left (eqb (length m) (disks z)) _ e)
+map-length len m e = eqb-true (length m) len (and-left (eqb (length m) len) _ e)
+
+-- With one sector a block it has a byte for each disk.
+pub one-byte : (z : Size) → mapBytes z 1 ≡ disks z
+unfolding mapBytes
+one-byte z = mul-one (disks z)
+
+-- ---- sectors
+
+-- A sector that fits divides the block, into at least one sector and at most as many as the largest block has bytes.
+pub sector-cut : (B w : ℕ) → sectorFits B w ≡ true → B ≡ B / w * w
+unfolding sectorFits
+sector-cut B w e =
+    let none = eqb-true (B % w) 0 (and-right (leb 1 w) (eqb (B % w) 0) e) in
+    let all = div-add-mod' B w in
+    omega arith
+
+pub sector-some : (B w : ℕ) → sectorFits B w ≡ true → 1 ≤ w
+unfolding sectorFits
+sector-some B w e = leb-true 1 w (and-left (leb 1 w) _ e)
+
+-- Both limits of their number.
+pub sectors-bound : (n : ℕ) → sectorsFit n ≡ true → (1 ≤ n) × (n ≤ 4096)
+unfolding sectorsFit
+sectors-bound n e = (leb-true 1 n (and-left (leb 1 n) (leb n 4096) e), leb-true n 4096 (and-right (leb 1 n) (leb n 4096) e))
+
+-- So a map has at most 256 * 4,096 bytes.
+pub map-bound : (z : Size) (n : ℕ) → sizeFits z ≡ true → sectorsFit n ≡ true → mapBytes z n ≤ 1048576
+unfolding mapBytes
+map-bound z n size few = mul-le-mul (disks-bound z (size-fits z size)) (sectors-bound n few .1)
+
+pub sectors-some : (B w : ℕ) → blockFits B ≡ true → sectorFits B w ≡ true → sectorsFit (B / w) ≡ true
+unfolding sectorsFit
+sectors-some B w block e =
+    let fits = block-fits B block in
+    let low = fits .low in
+    let high = fits .high in
+    let cut = sector-cut B w e in
+    let some = sector-some B w e in
+    and-both
+    (le-leb 1 (B / w) (pos-of-ne-zero (λ q. let none : B / w * w ≡ 0 = ap (λ (k : ℕ). k * w) q ∙ zero-mul w in omega arith)))
+    (le-leb (B / w) 4096 (let least : B / w * 1 ≤ B / w * w = mul-le-mul-left (B / w) some in let one = mul-one (B / w) in omega arith))
 
 pub by-byte : (z : Size) (B : ℕ) (P : ℕ → Type 0) → ((d p : ℕ) → d < disks z → p < B → P (d * B + p)) → (i : ℕ) → i < arrayBytes z B → P i
 unfolding arrayBytes

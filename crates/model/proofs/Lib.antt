@@ -12,6 +12,7 @@ pub mod Limits
 pub mod Visited
 pub mod Whole
 pub mod Chain
+pub mod SheetRow
 pub mod Contents
 pub mod Turns
 pub mod Losses
@@ -22,4 +23,5 @@ pub mod Tidy
 pub mod PlanDisk
 pub mod Look
 pub mod Listings
+pub mod Single
 pub mod Cases

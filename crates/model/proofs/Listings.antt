@@ -11,25 +11,27 @@ use lib.Dec.{leb}
 use lib.ListN.{length, getD, take, drop, length-take, length-drop}
 use lib.Seq.{take-all, getD-take}
 use Rattle.stripes.specs.Fold.{every}
-use Rattle.model.specs.Grid.{rectangle, disks, sizeFits, mapFits}
+use Rattle.model.specs.Grid.{rectangle, sizeFits, mapBytes, mapFits}
 use Rattle.model.specs.Refusal.{refusal}
 use Rattle.model.specs.Listing.{decimal, refusedWord, listing}
-use Rattle.model.specs.Plan.{sheetTests, planTests}
+use Rattle.model.specs.Plan.{sheetTests, oneTests}
 use Rattle.model.specs.declared.Size.{Size}
 use Rattle.stripes.proofs.Fold.{lt-or-le}
-use Rattle.model.proofs.Grid.{size-fits, disks-bound}
+use Rattle.model.proofs.Grid.{size-fits, disks-bound, one-byte}
 use Rattle.model.proofs.Refusal.{given-refused, fails, passes}
 
 -- A map of more than 256 bytes is refused by 4, or by 1 together with its size.
-overlong : (z : Size) (m : List ℕ) → 256 < length m → refusal (planTests z m 98) ≡ cond (sizeFits z) 4 1
-unfolding planTests sheetTests mapFits
+overlong : (z : Size) (m : List ℕ) → 256 < length m → refusal (oneTests z m 98) ≡ cond (sizeFits z) 4 1
+unfolding oneTests sheetTests mapFits
 overlong z m h = go (sizeFits z) refl
   where
-    go : (b : Bool) → sizeFits z ≡ b → refusal (planTests z m 98) ≡ cond b 4 1
+    go : (b : Bool) → sizeFits z ≡ b → refusal (oneTests z m 98) ≡ cond b 4 1
     go true e =
         let most = disks-bound z (size-fits z e) in
+        let bytes = one-byte z in
         passes 1 (sizeFits z) _ e
-        ∙ fails 4 (mapFits z m) _ (ap (λ (b : Bool). b && every (length m) (λ d. leb (getD m d 0) 1)) (ne-eqb (length m) (disks z) (λ q. omega arith)))
+        ∙ fails 4 (mapFits (mapBytes z 1) m) _
+        (ap (λ (b : Bool). b && every (length m) (λ d. leb (getD m d 0) 1)) (ne-eqb (length m) (mapBytes z 1) (λ q. omega arith)))
     go false e = fails 1 (sizeFits z) _ e
 
 refused-listing : (input : List ℕ) → 258 < length input
@@ -39,7 +41,7 @@ refused-listing input h =
     let z : Size = rectangle (getD input 0 0) (getD input 1 0) in
     let long = length-drop 2 input in
     let is = overlong z (drop 2 input) (omega arith) in
-    given-refused (refusal (planTests z (drop 2 input) 98)) _ _ (λ e. never (sizeFits z) (sym is ∙ e))
+    given-refused (refusal (oneTests z (drop 2 input) 98)) _ _ (λ e. never (sizeFits z) (sym is ∙ e))
     ∙ ap (λ (k : ℕ). refusedWord ++ decimal k ++ 10 ∷ []) is
   where
     never : (b : Bool) → _≡_ {A = ℕ} (cond b 4 1) 0 → ⊥

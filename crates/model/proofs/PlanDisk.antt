@@ -4,28 +4,29 @@ use mathlib.Core.Path.{_≡_, refl, sym, _∙_, ap, subst}
 use mathlib.Core.Bool.{Bool, true, false}
 use mathlib.Core.Logic.{_↔_}
 use mathlib.Core.List.{List, [], _∷_, _++_}
-use Prim.Native.Nat.{ℕ, zero, suc, _≤_, _<_}
+use Prim.Native.Nat.{ℕ, zero, suc, _+_, _*_, _%_, _≤_, _<_}
+use native.Mathlib.Nat.{div-self, mod-self}
 use native.Mathlib.Omega.{arith}
-use borrow.Author.Tests.{eq-eqb, eqb-true, eqb-false, leb-true, lt-ltb, ltb-true}
+use borrow.Author.Tests.{eq-eqb, eqb-true, eqb-false, le-leb, leb-true, lt-ltb, ltb-true}
 use lib.Dec.{eqb, leb, ltb}
-use lib.ListN.{length, getD, length-append}
+use lib.ListN.{length, getD}
 use Rattle.stripes.specs.System.{Layout, whole, Bytes}
 use Rattle.stripes.specs.Erased.{erasures}
 use Rattle.stripes.specs.Repair.{Entry, repairs, after, residual, fatal, mapAfter, rebuilt}
 use Rattle.stripes.specs.Wanted.{wantedRepairs, Reached, Wanted}
-use Rattle.model.specs.Grid.{disks, sizeFits, mapFits}
+use Rattle.stripes.specs.Sectors.{sectorAt}
+use Rattle.model.specs.Grid.{disks, sizeFits, sectorFits, sectorsFit, mapFits}
 use Rattle.model.specs.Refusal.{refusal, arrayTests, _unless_}
 use Rattle.model.specs.Array.{canLook}
-use Rattle.model.specs.Sheet.{Format, narrow, sheetOf, sheetBytes}
+use Rattle.model.specs.Sheet.{Format, narrow, sheetOf, sheetBytes, sheetsOf, repairSheets}
 use Rattle.model.specs.Chain.{cleanRefusal, chainEntries}
-use Rattle.model.specs.Plan.{planTests, sheetLayout, lossOutcome, lossSheet, planOutcome, planSheet, outcomeStatus}
+use Rattle.model.specs.Plan.{planTests, oneTests, sheetLayout, lossOutcome, lossSheets, planOutcome, planSheets, outcomeStatus}
 use Rattle.model.specs.PlanDisk.{canBeWanted, planDiskTests, diskOutcome, diskSheet, planDiskOutcome, planDiskSheet, WantedList, DiskDemand}
 use Rattle.model.specs.Tidy.{Tidy}
 use Rattle.model.specs.Edition.{Edition, superparity}
 use Rattle.model.specs.declared.Size.{Size}
 use Rattle.model.specs.declared.Outcome.the-variants.{Refused}
 use Rattle.stripes.proofs.Fold.{by-cases, and-left, and-right, and-both, every-at}
-use Rattle.stripes.proofs.Bytes.{whole-inside}
 use Rattle.stripes.proofs.Erased.{is-erased}
 use Rattle.stripes.proofs.Peel.{without-at, after-snoc, is-fatal, repairs-peels}
 use Rattle.stripes.proofs.Degree.{two-ordered}
@@ -33,17 +34,24 @@ use Rattle.stripes.proofs.Restore.{restore, length-rebuilt}
 use Rattle.stripes.proofs.Clears.{rest-clears}
 use Rattle.stripes.proofs.Split.{erasures-after, residual-after}
 use Rattle.stripes.proofs.Wanted.{reached-of, unreached-iff, wanted-is, wanted-unique}
-use Rattle.model.proofs.Refusal.{given-accepted, given-refused, no-tests, passed, passes, fails, first-accepted, refused-first}
+use Rattle.stripes.proofs.Sectors.{one-sector}
+use Rattle.stripes.proofs.Positions.{one-of, one-fatal}
+use Rattle.model.proofs.Refusal.{given-accepted, given-refused, no-tests, passed, passes, fails, first-accepted, refused-first, array-fits, sector-accepted}
 use Rattle.model.proofs.Losses.{Lawful, zero-six, planned}
 use Rattle.model.proofs.Demand3.{superparity-lawful}
-use Rattle.model.proofs.Accept.{plan-fits, plan-passed}
-use Rattle.model.proofs.Grid.{layout-disks}
+use Rattle.model.proofs.Accept.{one-fits, one-passed}
+use Rattle.model.proofs.Grid.{layout-disks, block-fits, one-byte}
 use Rattle.model.proofs.Limits.{peels-fitting}
 use Rattle.model.proofs.Chain.{written-chain}
 use Rattle.model.proofs.Turns.{map-after-fits}
 use Rattle.model.proofs.Tidy.{written-tidy}
 use Rattle.model.proofs.Follow.{AsRebuild, follow-list}
 use Rattle.model.proofs.Look.{look-takes}
+
+-- Of one position there is one sheet.
+one-sheet : (f : Format) (w : List Entry) → repairSheets f 1 w ≡ sheetOf f (f .repairKind) w
+unfolding repairSheets sheetsOf
+one-sheet f w = ap (sheetOf f (f .repairKind)) (one-of w)
 
 -- ---- over any edition of the array
 module _ (E : Edition) (f : Format) (law : Lawful E f) (e : ℕ → Bool) (d : ℕ) where
@@ -74,19 +82,20 @@ module _ (E : Edition) (f : Format) (law : Lawful E f) (e : ℕ → Bool) (d : �
       }
 
   pub edition-disk : d < L .disks → e d ≡ true
-      → DiskDemand E f e d (lossOutcome L e) (lossSheet L f e) (diskOutcome L e d) (diskSheet L f e d)
+      → DiskDemand E f e d (lossOutcome 1 L e) (lossSheets 1 L f e) (diskOutcome L e d) (diskSheet L f e d)
   unfolding diskOutcome diskSheet lossOutcome outcomeStatus residual wantedRepairs
   edition-disk l erased = go (residual L e d) refl
     where
-      go : (b : Bool) → residual L e d ≡ b → DiskDemand E f e d (lossOutcome L e) (lossSheet L f e) (diskOutcome L e d) (diskSheet L f e d)
+      go : (b : Bool) → residual L e d ≡ b → DiskDemand E f e d (lossOutcome 1 L e) (lossSheets 1 L f e) (diskOutcome L e d) (diskSheet L f e d)
       go true q =
           let lossy : fatal L e ≡ true = is-fatal L e .1 (d, l, q) in
+          let six : outcomeStatus (lossOutcome 1 L e) ≡ 6 = rw (one-fatal L e, lossy) in
           rw q
           (record {
-            plan = planned E f law e;
-            unreached = (λ s. unreached-iff L d e erased .0 q, λ none. (rw lossy));
+            plan = planned 1 E f law e;
+            unreached = (λ s. unreached-iff L d e erased .0 q, λ none. six);
             asPlan = λ s. (refl, refl);
-            list = λ no. absurd (no (rw lossy));
+            list = λ no. absurd (no six);
           })
       go false q =
           let reached : Reached L e d = reached-of L d (repairs L e) e (repairs-peels L e) erased q in
@@ -95,13 +104,19 @@ module _ (E : Edition) (f : Format) (law : Lawful E f) (e : ℕ → Bool) (d : �
           let room = law .limitFits in
           rw q
           (record {
-            plan = planned E f law e;
+            plan = planned 1 E f law e;
             unreached = (λ s. absurd (zero-six s), λ none. absurd (none reached));
             asPlan = λ s. absurd (zero-six s);
             list = λ no. (w, refl, refl, omega (arith, most, room), most, x);
           })
 
 -- ---- which arguments are taken
+
+-- Plan itself tests the number of positions, besides: one is taken.
+one-tests : (z : Size) (m : List ℕ) (len : ℕ) → refusal (planTests z 1 m len) ≡ refusal (oneTests z m len)
+unfolding planTests oneTests refusal sectorsFit
+one-tests z m len = refl
+
 module _ (z : Size) (m : List ℕ) (len d : ℕ) where
   -- A disk can be wanted exactly if the grid has it and the map has its byte as 1.
   wanted-exact : (canBeWanted z m d ≡ true) ↔ ((d < disks z) × (getD m d 0 ≡ 1))
@@ -111,35 +126,35 @@ module _ (z : Size) (m : List ℕ) (len d : ℕ) where
     λ (l, q). and-both (lt-ltb d (disks z) l) (eq-eqb (getD m d 0) 1 q),
   )
 
-  -- The tests are plan's, and then 15.
-  disk-passed : refusal (planTests z m len) ≡ 0 → refusal (planDiskTests z m len d) ≡ refusal (15 unless canBeWanted z m d ∷ [])
+  -- The tests are plan's for one position, and then 15.
+  disk-passed : refusal (oneTests z m len) ≡ 0 → refusal (planDiskTests z m len d) ≡ refusal (15 unless canBeWanted z m d ∷ [])
   unfolding planDiskTests
-  disk-passed ok = plan-passed z m len ok _
+  disk-passed ok = one-passed z m len ok _
 
   -- So just these are taken: what plan takes, with a disk of the grid that the map has as erased.
-  pub disk-takes : (refusal (planDiskTests z m len d) ≡ 0) ↔ ((refusal (planTests z m len) ≡ 0) × (d < disks z) × (getD m d 0 ≡ 1))
+  pub disk-takes : (refusal (planDiskTests z m len d) ≡ 0) ↔ ((refusal (oneTests z m len) ≡ 0) × (d < disks z) × (getD m d 0 ≡ 1))
   unfolding planDiskTests
   disk-takes = (
     λ e.
-        let ok = first-accepted (planTests z m len) _ e in
+        let ok = first-accepted (oneTests z m len) _ e in
         let (l, q) = wanted-exact .0 (passed 15 (canBeWanted z m d) _ (omega arith) (sym (disk-passed ok) ∙ e) .0) in
         (ok, l, q),
     λ (ok, l, q). disk-passed ok ∙ passes 15 (canBeWanted z m d) _ (wanted-exact .1 (l, q)) ∙ no-tests,
   )
 
   -- Another disk gets 15, whether the loss is fatal or not, and all that plan refuses before 6 is refused first.
-  pub disk-fifteen : refusal (planTests z m len) ≡ 0 → ((d < disks z) × (getD m d 0 ≡ 1) → ⊥) → refusal (planDiskTests z m len d) ≡ 15
+  pub disk-fifteen : refusal (oneTests z m len) ≡ 0 → ((d < disks z) × (getD m d 0 ≡ 1) → ⊥) → refusal (planDiskTests z m len d) ≡ 15
   disk-fifteen ok unfit =
       disk-passed ok
       ∙ fails 15 (canBeWanted z m d) _
       (by-cases (λ (b : Bool). b ≡ false) (canBeWanted z m d) (λ h. absurd (unfit (wanted-exact .0 h))) (λ h. refl))
 
-  pub disk-first : (refusal (planTests z m len) ≡ 0 → ⊥) → refusal (planDiskTests z m len d) ≡ refusal (planTests z m len)
+  pub disk-first : (refusal (oneTests z m len) ≡ 0 → ⊥) → refusal (planDiskTests z m len d) ≡ refusal (oneTests z m len)
   unfolding planDiskTests
-  disk-first = refused-first (planTests z m len) _
+  disk-first = refused-first (oneTests z m len) _
 
 -- A disk that a map has not as erased has the byte 0 there.
-present-byte : (z : Size) (m : List ℕ) (d : ℕ) → mapFits z m ≡ true → d < disks z → erasures m d ≡ false → getD m d 0 ≡ 0
+present-byte : (z : Size) (m : List ℕ) (d : ℕ) → mapFits (disks z) m ≡ true → d < disks z → erasures m d ≡ false → getD m d 0 ≡ 0
 unfolding mapFits erasures
 present-byte z m d fits l h =
     let long = eqb-true (length m) (disks z) (and-left (eqb (length m) (disks z)) _ fits) in
@@ -152,6 +167,11 @@ present-byte z m d fits l h =
     lt-one zero l h = refl
     lt-one (suc zero) l h = absurd (h refl)
     lt-one (suc (suc n)) l h = omega arith
+
+-- A block can be one sector.
+one-fits-block : (B : ℕ) → 1 ≤ B → sectorFits B B ≡ true
+unfolding sectorFits
+one-fits-block B some = and-both (le-leb 1 B some) (eq-eqb (B % B) 0 (mod-self B))
 
 -- ---- the call
 module _ (z : Size) (m sheet : List ℕ) (d : ℕ) where
@@ -169,13 +189,13 @@ module _ (z : Size) (m sheet : List ℕ) (d : ℕ) where
 
     -- The promise in the paper's words, beside what plan gives for the same map.
     pub disk-demand : (other : List ℕ) → length other ≡ length sheet
-        → DiskDemand (superparity z (narrow .base)) narrow (erasures m) d (planOutcome z m other) (planSheet z m other)
+        → DiskDemand (superparity z (narrow .base)) narrow (erasures m) d (planOutcome z 1 m other) (planSheets z 1 m other)
         (planDiskOutcome z m sheet d) (planDiskSheet z m sheet d)
-    unfolding planOutcome planSheet superparity
+    unfolding planOutcome planSheets superparity
     disk-demand other long =
         let (first, l, q) = disk-takes z m (length sheet) d .0 ok in
-        let planned : refusal (planTests z m (length other)) ≡ 0 = (rw long) ∙ first in
-        let (size, map, sized) = plan-fits z m (length sheet) first in
+        let planned : refusal (planTests z 1 m (length other)) ≡ 0 = one-tests z m (length other) ∙ (rw long) ∙ first in
+        let (size, map, sized) = one-fits z m (length sheet) first in
         let (answer, left) = disk-given in
         rw (answer, left, planned)
         (edition-disk (superparity z (narrow .base)) narrow (superparity-lawful z size) (erasures m) d
@@ -188,7 +208,7 @@ module _ (z : Size) (m sheet : List ℕ) (d : ℕ) where
       its = chainEntries narrow (planDiskSheet z m sheet d)
 
       its-size : sizeFits z ≡ true
-      its-size = plan-fits z m (length sheet) (disk-takes z m (length sheet) d .0 ok .0) .0
+      its-size = one-fits z m (length sheet) (disk-takes z m (length sheet) d .0 ok .0) .0
 
       -- Its sheet is tidy, 10, 13 and 14 let it through, and it lists what was asked for.
       disk-listed : Tidy narrow (planDiskSheet z m sheet d) × (cleanRefusal narrow (planDiskSheet z m sheet d) ≡ 0)
@@ -207,23 +227,37 @@ module _ (z : Size) (m sheet : List ℕ) (d : ℕ) where
       pub disk-tidy : Tidy narrow (planDiskSheet z m sheet d) × (cleanRefusal narrow (planDiskSheet z m sheet d) ≡ 0)
       disk-tidy = let (tidy, clean, x) = disk-listed in (tidy, clean)
 
-      -- Its list and then plan's for what is left, in one sheet, are followed as rebuild would do, if the loss is not fatal.
-      pub disk-followed : fatal (sheetLayout z) (erasures m) ≡ false → (B : ℕ) (a other : List ℕ) → length other ≡ sheetBytes narrow → Bytes a
-          → AsRebuild z B a m (sheetOf narrow (narrow .repairKind) (its ++ repairs (sheetLayout z) (erasures (mapAfter m its)))) other
-      disk-followed fine B a other long small =
+      -- Its list and then plan's for what is left, in one sheet, are followed as rebuild would do with one sector a block, if the loss is not
+      -- fatal.
+      pub disk-followed : fatal (sheetLayout z) (erasures m) ≡ false
+          → (B : ℕ) → 0 < B → (a other : List ℕ) → length other ≡ sheetBytes narrow → Bytes a
+          → AsRebuild z B B a m (sheetOf narrow (narrow .repairKind) (its ++ repairs (sheetLayout z) (erasures (mapAfter m its)))) other
+      disk-followed fine B some a other long small =
           let (tidy, clean, x) = disk-listed in
-          rw (erasures-after m its) (follow-list z its-size B a m other long small _ (x .rest fine))
+          let v : List Entry = its ++ repairs (sheetLayout z) (after (erasures m) its) in
+          let one = div-self some in
+          rw (erasures-after m its)
+          (subst (λ (s : List ℕ). AsRebuild z B B a m s other) (ap (λ (n : ℕ). repairSheets narrow n v) one ∙ one-sheet narrow v)
+          (follow-list z its-size B B a m other (long ∙ (rw one)) small v (rw (one, one-sector) (x .rest fine))))
 
-      -- Its repairs made, look hands the block of the disk out.
+      -- Its repairs made, look hands the block of the disk out, where a block is one sector.
       pub disk-look : (B : ℕ) (a : List ℕ) → refusal (arrayTests z B (length a)) ≡ 0
-          → canLook z B (rebuilt (sheetLayout z) (whole B) a its) (mapAfter m its) d ≡ true
+          → canLook z B B (rebuilt (sheetLayout z) (whole B) a its) (mapAfter m its) d ≡ true
+      unfolding sectorAt
       disk-look B a array =
           let (first, l, q) = disk-takes z m (length sheet) d .0 ok in
-          let (size, map, long) = plan-fits z m (length sheet) first in
+          let (size, map, long) = one-fits z m (length sheet) first in
           let (tidy, clean, x) = disk-listed in
-          look-takes z B (rebuilt (sheetLayout z) (whole B) a its) (mapAfter m its) d .1 (
-            (rw (length-rebuilt (sheetLayout z) (whole B) a its)) ∙ array,
-            map-after-fits z m its map,
+          let fits = array-fits z B (length a) array in
+          let some = block-fits B (fits .block) .low in
+          let kept = map-after-fits (disks z) m its map in
+          look-takes z B B (rebuilt (sheetLayout z) (whole B) a its) (mapAfter m its) d .1
+          (rw (div-self some) (
+            sector-accepted z B _ B (rw (length-rebuilt (sheetLayout z) (whole B) a its) fits) (one-fits-block B some),
+            ap (λ (k : ℕ). mapFits k (mapAfter m its)) (one-byte z) ∙ kept,
             l,
-            present-byte z (mapAfter m its) d (map-after-fits z m its map) l (ap (λ (e : ℕ → Bool). e d) (erasures-after m its) ∙ x .present),
-          )
+            λ p place.
+                let at : d * 1 + p ≡ d = omega arith in
+                ap (λ (i : ℕ). getD (mapAfter m its) i 0) at
+                ∙ present-byte z (mapAfter m its) d kept l (ap (λ (e : ℕ → Bool). e d) (erasures-after m its) ∙ x .present),
+          ))

@@ -1,14 +1,14 @@
 -- The laws of refusals: a call that is not refused has passed each of its tests.
 -- Assumes nothing.
-use mathlib.Core.Path.{_≡_, refl, ap}
+use mathlib.Core.Path.{_≡_, refl, _∙_, ap}
 use mathlib.Core.Bool.{Bool, true, false, cond}
 use mathlib.Core.List.{List, [], _∷_, _++_}
 use Prim.Native.Nat.{ℕ}
 use native.Mathlib.Omega.{arith}
 use borrow.Author.Tests.{eq-eqb, ne-eqb, eqb-true}
 use lib.Dec.{eqb}
-use Rattle.model.specs.Grid.{sizeFits, blockFits, arrayBytes}
-use Rattle.model.specs.Refusal.{Test, _unless_, refusal, arrayTests}
+use Rattle.model.specs.Grid.{sizeFits, blockFits, arrayBytes, sectorFits}
+use Rattle.model.specs.Refusal.{Test, _unless_, refusal, arrayTests, sectorTests}
 use Rattle.model.specs.declared.Size.{Size}
 
 -- What a call gives where it is not refused, and where it is.
@@ -92,3 +92,27 @@ module _ (z : Size) (B len : ℕ) where
   pub array-accepted : ArrayFits z B len → refusal (arrayTests z B len) ≡ 0
   unfolding arrayTests refusal
   array-accepted f = array-passed f []
+
+-- The tests of the sectors, besides.
+module _ (z : Size) (B len w : ℕ) where
+  pub sector-tests : (ts : List Test) → refusal (sectorTests z B len w ++ ts) ≡ 0
+      → ArrayFits z B len × (sectorFits B w ≡ true) × (refusal ts ≡ 0)
+  unfolding sectorTests arrayTests
+  sector-tests ts e =
+      let (array, e₂) = array-tests z B len _ e in
+      let (sector, e₃) = passed 16 (sectorFits B w) _ (omega arith) e₂ in
+      (array, sector, e₃)
+
+  pub sector-fits : refusal (sectorTests z B len w) ≡ 0 → ArrayFits z B len × (sectorFits B w ≡ true)
+  unfolding sectorTests arrayTests
+  sector-fits e =
+      let (array, e₂) = array-tests z B len _ e in
+      (array, passed 16 (sectorFits B w) _ (omega arith) e₂ .0)
+
+  pub sector-passed : ArrayFits z B len → sectorFits B w ≡ true → (ts : List Test) → refusal (sectorTests z B len w ++ ts) ≡ refusal ts
+  unfolding sectorTests arrayTests
+  sector-passed array sector ts = array-passed z B len array _ ∙ passes 16 (sectorFits B w) ts sector
+
+  pub sector-accepted : ArrayFits z B len → sectorFits B w ≡ true → refusal (sectorTests z B len w) ≡ 0
+  unfolding sectorTests arrayTests
+  sector-accepted array sector = array-passed z B len array _ ∙ passes 16 (sectorFits B w) [] sector ∙ no-tests

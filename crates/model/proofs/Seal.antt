@@ -10,7 +10,7 @@ use lib.Dec.{ltb}
 use lib.ListN.{length, getD}
 use Rattle.stripes.specs.Fold.{xsum}
 use Rattle.stripes.specs.System.{whole, byte}
-use Rattle.model.specs.Grid.{rows, columns, across, diskAt, isData, arrayBytes}
+use Rattle.model.specs.Grid.{rows, columns, across, diskAt, isData, arrayBytes, disks}
 use Rattle.model.specs.Equations.{cell, rowData, columnData, Equations}
 use Rattle.model.specs.Array.{encodedByte, encoded, sealStatus, sealArray}
 use Rattle.model.specs.declared.Size.{Size}
@@ -114,6 +114,22 @@ module _ (z : Size) (B : ℕ) (a : List ℕ) where
       encoded-exact e =
           encoded-is (λ p h r w. e .rowParity p h r w ∙ same-row z B a b same r w p h) (λ p h c v. e .columnParity p h c v ∙ same-column z B a b same c v p h)
           (λ p h. e .superparityOfRows p h ∙ xsum-ext (rows z) (λ r w. e .rowParity p h r w ∙ same-row z B a b same r w p h))
+
+  -- Where the equations hold at a place, sealing keeps every byte there.
+  pub encoded-kept : (p : ℕ) → p < B
+      → ((r : ℕ) → r < rows z → cell z (whole B) a p r (columns z) ≡ rowData z (whole B) a p r)
+      → ((c : ℕ) → c < columns z → cell z (whole B) a p (rows z) c ≡ columnData z (whole B) a p c)
+      → cell z (whole B) a p (rows z) (columns z) ≡ xsum (rows z) (rowData z (whole B) a p)
+      → (d : ℕ) → d < disks z → byte (whole B) a d p ≡ byte (whole B) (encoded z B a) d p
+  unfolding encoded cell
+  encoded-kept p h P Q S d l =
+      let Good : ℕ → ℕ → Type 0 = λ r c. cell z (whole B) a p r c ≡ encodedByte z B a r c p in
+      ap (λ (k : ℕ). byte (whole B) a k p) (disk-is z d)
+      ∙ below-suc (λ r. Good r (d % across z)) (rows z)
+      (λ r w. below-suc (Good r) (columns z) (λ c v. sym (byte-data r c p w v)) (P r w ∙ sym (byte-P r p w)) _ (suc-le-suc (column-within z d)))
+      (below-suc (Good (rows z)) (columns z) (λ c v. Q c v ∙ sym (byte-Q c p v)) (S ∙ sym (byte-S p)) _ (suc-le-suc (column-within z d)))
+      (d / across z) (suc-le-suc (row-within z d l))
+      ∙ sym (byte-arrayOf z B _ d p l h)
 
   -- A sealed array has the right length, the data and the equations.
   pub encoded-length : length (encoded z B a) ≡ arrayBytes z B

@@ -2,36 +2,41 @@
 -- asks for `Bytes s`, the sheet's numbers are bytes, as those of a lent buffer are.
 -- Assumes nothing.
 use mathlib.Core.Path.{_≡_, refl, sym, _∙_, ap}
-use mathlib.Core.Bool.{Bool, true, false, cond}
+use mathlib.Core.Bool.{Bool, true, false}
 use mathlib.Core.Logic.{_↔_}
-use mathlib.Core.List.{List, [], _∷_, _++_, append-assoc}
-use Prim.Native.Nat.{ℕ, zero, suc, _+_, _^_, _≤_, _<_}
+use mathlib.Core.List.{List, [], _∷_, _++_, append-nil}
+use Prim.Native.Nat.{ℕ, zero, suc, _+_, _*_, _/_, _^_, _≤_, _<_}
+use native.Mathlib.Nat.{add-zero, mul-comm, mul-suc, mul-le-mul-left, div-add-mod'}
 use native.Mathlib.Omega.{arith}
-use borrow.Author.Tests.{eq-eqb, eqb-true, eqb-false}
+use borrow.Author.Tests.{eq-eqb, ne-eqb, eqb-true, eqb-false}
 use lib.Dec.{eqb}
-use lib.ListN.{length, getD, take}
-use Rattle.stripes.specs.System.{Layout, whole, Bytes, consistent}
+use lib.Arith.{digits-div}
+use lib.ListN.{length, getD, take, drop, length-append, length-drop}
+use lib.Seq.{length-take-le, drop-length}
+use Rattle.stripes.specs.System.{Layout, whole, Bytes}
 use Rattle.stripes.specs.Erased.{erasures}
-use Rattle.stripes.specs.Repair.{Entry, diskOf, stripeOf, repairs, fatal, rebuilt, clears}
-use Rattle.stripes.proofs.Fold.{by-cases}
-use Rattle.stripes.proofs.Peel.{repairs-peels}
-use Rattle.stripes.proofs.Split.{peels-take}
+use Rattle.stripes.specs.Repair.{Entry, Peels, diskOf, stripeOf, fatal}
+use Rattle.stripes.specs.Sectors.{sectored, sectorRepairs, ofPosition}
+use Rattle.stripes.proofs.Fold.{by-cases, below-suc}
+use Rattle.stripes.proofs.Positions.{order-peels, fatal-sectors, rising-ext}
 use Rattle.model.specs.Grid.{sizeFits}
 use Rattle.model.specs.Refusal.{Test, refusal}
-use Rattle.model.specs.Sheet.{Format, narrow, recordAt, sheetBytes, sheetOf}
-use Rattle.model.specs.Chain.{entryAt, chainNumbers, chainTests, chainRefusal, onChain, noLeftovers, Leftover, cleanTests, cleanRefusal, entriesAt, chainEntries}
-use Rattle.model.specs.Tidy.{tidyTests, tidyStatus, tidyForm, tidySheet, Tidy, TidyDemand}
-use Rattle.model.specs.Plan.{planTests, planSheet, outcomeStatus, lossOutcome, lossSheet, sheetLayout}
+use Rattle.model.specs.Sheet.{Format, narrow, recordAt, sheetBytes, sheetOf, sheetsOf, sheetsBytes, sheetAt, repairSheets}
+use Rattle.model.specs.Chain.{entryAt, chainNumbers, chainTests, chainRefusal, onChain, noLeftovers, cleanRefusal, entriesAt, chainEntries}
+use Rattle.model.specs.Tidy.{tidyTests, tidyStatus, tidyForm, tidySheet, Tidy, TidyDemand, tidySheets}
+use Rattle.model.specs.Plan.{planTests, planSheets, outcomeStatus, lossOutcome, lossSheets, sheetLayout}
 use Rattle.model.specs.Turn.{lossTold, contradiction, repairsMade, turnRepairs, contradicts, turnOf}
 use Rattle.model.specs.Rebuild.{bufferTests, bufferRefusal, rebuildRefusal, rebuildTurn}
-use Rattle.model.specs.Follow.{listTests, followStatus, followTests, listOutcome, listArray, followOutcome, looseStatus}
+use Rattle.model.specs.Follow.{sheetsEntries, chainsTests, sheetsTests, listTests, followStatus, followTests, listOutcome, listArray, looseStatus}
 use Rattle.model.specs.declared.Size.{Size}
-use Rattle.model.proofs.Refusal.{given-accepted, given-refused, fails, passes, passed, refused-first, refusal-rest}
-use Rattle.model.proofs.Accept.{buffers-fit, rebuild-fits}
+use Rattle.model.specs.declared.Outcome.the-variants.{Refused}
+use Rattle.model.proofs.Refusal.{given-accepted, given-refused, passes, passed, refused-first}
+use Rattle.model.proofs.Accept.{plan-fits, buffers-fit, buffers-passed, rebuild-fits}
 use Rattle.model.proofs.Sheets.{Fitting, Small, small, number-small, sheet-length, sheet-bytes, sheet-is}
-use Rattle.model.proofs.Limits.{peels-fitting}
-use Rattle.model.proofs.Chain.{chain-few, chain-goes-on, clean-exact, clean-goes-on, leftovers-exact, written-chain, off-chain}
-use Rattle.model.proofs.Follow.{Gives, follow-given, status-is, follow-listed, follow-unclean}
+use Rattle.model.proofs.Chain.{chain-few, clean-first, clean-exact, written-chain, off-chain}
+use Rattle.model.proofs.SheetRow.{length-sheets, sheet-at, whole-sheet, bytes-at, length-sheet-at, repair-sheet-at, sectors-fitting, same-numbers, chains-go-on, sheets-go-on}
+use Rattle.model.proofs.Turns.{first-peels}
+use Rattle.model.proofs.Follow.{sectors, listed, sheetsRefusal, Gives, follow-given, buffers-seven, follow-first}
 
 -- ---- what the call gives
 module _ (f : Format) (s : List ℕ) where
@@ -142,110 +147,181 @@ module _ (f : Format) (kind : f .repairKind < 256) (numbers : f .records < 256) 
 
 -- ---- the library's own sheets
 
--- Where plan does not call a loss fatal, its sheet is tidy, and 10, 13 and 14 let it through,
-pub plan-tidy : (z : Size) (m s : List ℕ) → refusal (planTests z m (length s)) ≡ 0 → fatal (sheetLayout z) (erasures m) ≡ false
-    → Tidy narrow (planSheet z m s) × (cleanRefusal narrow (planSheet z m s) ≡ 0)
-unfolding planSheet lossSheet planTests
-plan-tidy z m s ok fine =
-    let size = passed 1 (sizeFits z) _ (omega arith) ok .0 in
-    let w : List Entry = repairs (sheetLayout z) (erasures m) in
-    rw (ok, fine)
-    (written-tidy narrow (omega arith) (omega arith) w (peels-fitting z size (erasures m) w (repairs-peels (sheetLayout z) (erasures m))))
+-- Sheets of allowed repairs of sectors are tidy, and 10, 13 and 14 let each through.
+repairs-tidy : (z : Size) → sizeFits z ≡ true → (n : ℕ) (e : ℕ → Bool) (v : List Entry) → Peels (sectored n (sheetLayout z)) e v
+    → (p : ℕ) → p < n
+    → Tidy narrow (sheetAt narrow p (repairSheets narrow n v)) × (cleanRefusal narrow (sheetAt narrow p (repairSheets narrow n v)) ≡ 0)
+repairs-tidy z size n e v peels p l =
+    rw (repair-sheet-at narrow n v p l)
+    (written-tidy narrow (omega arith) (omega arith) (ofPosition n p v) (sectors-fitting z size n e v peels p l))
 
--- and so is that of every turn that rebuild does not refuse.
-pub turn-tidy : (z : Size) (B : ℕ) (a m s : List ℕ) (k : ℕ) → outcomeStatus (rebuildTurn z B a m s k .answer) ≡ 0
-    → Tidy narrow (rebuildTurn z B a m s k .sheet) × (cleanRefusal narrow (rebuildTurn z B a m s k .sheet) ≡ 0)
+-- Where plan does not call a loss fatal, each of its sheets is so,
+pub plan-tidy : (z : Size) (n : ℕ) (m s : List ℕ) → refusal (planTests z n m (length s)) ≡ 0
+    → fatal (sectored n (sheetLayout z)) (erasures m) ≡ false → (p : ℕ) → p < n
+    → Tidy narrow (sheetAt narrow p (planSheets z n m s)) × (cleanRefusal narrow (sheetAt narrow p (planSheets z n m s)) ≡ 0)
+unfolding planSheets lossSheets
+plan-tidy z n m s ok fine =
+    let L : Layout = sheetLayout z in
+    rw (ok, sym (fatal-sectors n L (erasures m)) ∙ fine)
+    (repairs-tidy z (plan-fits z n m (length s) ok .0) n (erasures m) (sectorRepairs n L (erasures m)) (order-peels n L (erasures m)))
+
+-- and so is each of every turn that rebuild does not refuse.
+pub turn-tidy : (z : Size) (B w : ℕ) (a m s : List ℕ) (k : ℕ) → outcomeStatus (rebuildTurn z B w a m s k .answer) ≡ 0
+    → (p : ℕ) → p < B / w
+    → let t = sheetAt narrow p (rebuildTurn z B w a m s k .sheets) in Tidy narrow t × (cleanRefusal narrow t ≡ 0)
 unfolding rebuildTurn turnOf repairsMade turnRepairs lossTold lossOutcome contradiction outcomeStatus
-turn-tidy z B a m s k =
-    go (eqb (rebuildRefusal z B a m s k) 0) refl (fatal (sheetLayout z) (erasures m)) refl
-    (contradicts (sheetLayout z) (whole B) a m (turnRepairs (sheetLayout z) k m)) refl
+turn-tidy z B w a m s k accepted p l =
+    go (eqb (rebuildRefusal z B w a m s k) 0) refl (fatal (sectors z B w) (erasures m)) refl
+    (contradicts (sectors z B w) (whole w) a m (turnRepairs (B / w) (sheetLayout z) k m)) refl accepted
   where
-    go : (p : Bool) → eqb (rebuildRefusal z B a m s k) 0 ≡ p → (q : Bool) → fatal (sheetLayout z) (erasures m) ≡ q
-        → (r : Bool) → contradicts (sheetLayout z) (whole B) a m (turnRepairs (sheetLayout z) k m) ≡ r
-        → outcomeStatus (rebuildTurn z B a m s k .answer) ≡ 0
-        → Tidy narrow (rebuildTurn z B a m s k .sheet) × (cleanRefusal narrow (rebuildTurn z B a m s k .sheet) ≡ 0)
-    go false refused q e r i = rw refused (λ none. absurd (eqb-false (rebuildRefusal z B a m s k) 0 refused none))
-    go true passed true lossy r i = rw (passed, lossy) (λ none. absurd (omega arith))
+    go : (q : Bool) → eqb (rebuildRefusal z B w a m s k) 0 ≡ q → (f : Bool) → fatal (sectors z B w) (erasures m) ≡ f
+        → (r : Bool) → contradicts (sectors z B w) (whole w) a m (turnRepairs (B / w) (sheetLayout z) k m) ≡ r
+        → outcomeStatus (rebuildTurn z B w a m s k .answer) ≡ 0
+        → let t = sheetAt narrow p (rebuildTurn z B w a m s k .sheets) in Tidy narrow t × (cleanRefusal narrow t ≡ 0)
+    go false refused f e r i = rw refused (λ none. absurd (eqb-false (rebuildRefusal z B w a m s k) 0 refused none))
+    go true passed true lossy r i =
+        rw (passed, lossy, sym (fatal-sectors (B / w) (sheetLayout z) (erasures m)) ∙ lossy) (λ none. absurd (omega arith))
     go true passed false fine true contradicted = rw (passed, fine, contradicted) (λ none. absurd (omega arith))
     go true passed false fine false agreed =
-        let L : Layout = sheetLayout z in
-        let (buffers, some) = rebuild-fits z B a m s k (eqb-true (rebuildRefusal z B a m s k) 0 passed) in
-        let size = buffers-fit z B a m s buffers .0 .size in
-        let w : List Entry = take k (repairs L (erasures m)) in
-        let peels = peels-take L (erasures m) k (repairs L (erasures m)) (repairs-peels L (erasures m)) in
-        rw (passed, fine, agreed) (λ none. written-tidy narrow (omega arith) (omega arith) w (peels-fitting z size (erasures m) w peels))
+        let (buffers, some) = rebuild-fits z B w a m s k (eqb-true (rebuildRefusal z B w a m s k) 0 passed) in
+        let size = buffers-fit z B w a m s buffers .array .size in
+        let v : List Entry = take k (sectorRepairs (B / w) (sheetLayout z) (erasures m)) in
+        rw (passed, fine, agreed)
+        (λ none. repairs-tidy z size (B / w) (erasures m) v (first-peels (B / w) (sheetLayout z) m k) p l)
 
 -- ---- follow
 
--- A list of repairs is not refused by 14.
-not-fourteen : (p q : Bool) → _≡_ {A = ℕ} (cond p (cond q 0 7) 11) 14 → ⊥
-not-fourteen true true e = omega arith
-not-fourteen true false e = omega arith
-not-fourteen false q e = omega arith
+-- Tidying leaves the length of a sheet, so the tidy forms one after another are such a buffer, and a single one is where there is one sheet.
+tidy-length : (f : Format) (s : List ℕ) → length (tidySheet f s) ≡ length s
+unfolding tidyForm
+tidy-length f s =
+    by-cases (λ (b : Bool). length (tidySheet f s) ≡ length s) (eqb (tidyStatus f s) 0)
+    (λ e.
+    let taken = eqb-true (tidyStatus f s) 0 e in
+    ap length (tidy-taken f s taken) ∙ sheet-length f (f .repairKind) (chainEntries f s) ∙ sym (tidy-takes f s .0 taken .0))
+    (λ e. ap length (tidy-refused f s (eqb-false (tidyStatus f s) 0 e)))
 
--- Of a sheet that tidy takes 14 is given exactly if a byte off the chain is not zero.
-pub follow-fourteen : (z : Size) (B : ℕ) (a m s : List ℕ) → bufferRefusal z B a m s ≡ 0 → tidyStatus narrow s ≡ 0
-    → (outcomeStatus (followOutcome z B a m s) ≡ 14) ↔ ((i : ℕ) × Leftover narrow s i)
-unfolding outcomeStatus cleanRefusal cleanTests
-follow-fourteen z B a m s ok taken =
-    let fit : chainRefusal narrow s ≡ 0 = tidy-takes narrow s .0 taken .1 in
-    let w : List Entry = chainEntries narrow s in (
-      λ e.
-          leftovers-exact narrow s .0
-          (by-cases (λ (b : Bool). b ≡ false) (noLeftovers narrow s)
-          (λ clean.
-          let status = follow-listed z B a m s ok (clean-exact narrow s .1 (fit, clean)) in
-          absurd (not-fourteen (clears (sheetLayout z) (erasures m) w) (consistent (sheetLayout z) (whole B) (rebuilt (sheetLayout z) (whole B) a w)) (sym status ∙ sym (status-is z B a m s) ∙ e)))
-          (λ q. refl)),
-      λ some.
-          let fourteen : cleanRefusal narrow s ≡ 14 = chain-goes-on narrow s fit _ ∙ fails 14 (noLeftovers narrow s) [] (leftovers-exact narrow s .1 some) in
-          ap outcomeStatus (follow-unclean z B a m s ok (λ q. omega arith) .0) ∙ fourteen,
+-- The buffer t has each of the n sheets of s in its tidy form, or as it was where tidy refuses it. Nothing is said of its sheets where s is
+-- not as long as n sheets: follow refuses both then, by 5 or before.
+abbrev pub Tidied : Format → (n : ℕ) → (s t : List ℕ) → Type 0
+Tidied f n s t =
+    (length t ≡ length s) × (length s ≡ sheetsBytes f n → (p : ℕ) → p < n → sheetAt f p t ≡ tidySheet f (sheetAt f p s))
+
+pub tidied-each : (f : Format) (n : ℕ) (s : List ℕ) → length s ≡ sheetsBytes f n
+    → Tidied f n s (sheetsOf n (λ p. tidySheet f (sheetAt f p s)))
+tidied-each f n s long =
+    let each : (p : ℕ) → p < n → length (tidySheet f (sheetAt f p s)) ≡ sheetBytes f =
+    λ p l. tidy-length f (sheetAt f p s) ∙ length-sheet-at f n s long p l in
+    (length-sheets f n _ each ∙ sym long, λ _. sheet-at f n _ each)
+
+-- So are all sheets of a buffer as tidying them one after another leaves it, however long it is.
+pub tidied-sheets : (f : Format) (n : ℕ) (s : List ℕ) → Tidied f n s (tidySheets f s)
+unfolding tidySheets sheetAt
+tidied-sheets f n s =
+    let k : ℕ = length s / sheetBytes f in
+    let whole : sheetBytes f * k ≤ length s = let all = div-add-mod' (length s) (sheetBytes f) in let same = mul-comm k (sheetBytes f) in omega arith in
+    let each : (p : ℕ) → p < k → length (tidySheet f (sheetAt f p s)) ≡ sheetBytes f =
+    λ p l.
+    let next : sheetBytes f * suc p ≤ sheetBytes f * k = mul-le-mul-left (sheetBytes f) l in
+    let sum = mul-suc (sheetBytes f) p in
+    let left = length-drop (sheetBytes f * p) s in
+    tidy-length f (sheetAt f p s) ∙ length-take-le (sheetBytes f) (drop (sheetBytes f * p) s) (omega arith) in
+    let front = length-sheets f k (λ p. tidySheet f (sheetAt f p s)) each in
+    let rest = length-drop (sheetBytes f * k) s in (
+      length-append (sheetsOf k (λ p. tidySheet f (sheetAt f p s))) (drop (sheetBytes f * k) s) ∙ (omega arith),
+      λ long.
+          let number : k ≡ n =
+          ap (λ (i : ℕ). i / sheetBytes f) (long ∙ mul-comm (sheetBytes f) n ∙ sym (add-zero (n * sheetBytes f))) ∙ digits-div n (omega arith) in
+          let none : drop (sheetBytes f * n) s ≡ [] = ap (λ (i : ℕ). drop i s) (sym long) ∙ drop-length s in
+          rw (number, none, append-nil (sheetsOf n (λ p. tidySheet f (sheetAt f p s)))) (tidied-each f n s long .1 long),
     )
 
-module _ (z : Size) (B : ℕ) (a m s : List ℕ) (bytes : Bytes s) where
-  -- Tidy or refused, the sheet lists what it listed.
-  lists-kept : chainEntries narrow (tidySheet narrow s) ≡ chainEntries narrow s
-  lists-kept =
-      by-cases (λ (b : Bool). chainEntries narrow (tidySheet narrow s) ≡ chainEntries narrow s) (eqb (tidyStatus narrow s) 0)
-      (λ e. tidy-demand narrow (omega arith) (omega arith) s bytes (eqb-true (tidyStatus narrow s) 0 e) .lists)
-      (λ e. ap (chainEntries narrow) (tidy-refused narrow s (eqb-false (tidyStatus narrow s) 0 e)))
+pub tidied-one : (f : Format) (s : List ℕ) → Tidied f 1 s (tidySheet f s)
+tidied-one f s = (
+  tidy-length f s,
+  λ long.
+      let all : length s ≡ sheetBytes f = omega arith in
+      let here : sheetAt f 0 (tidySheet f s) ≡ tidySheet f (sheetAt f 0 s) =
+      whole-sheet f (tidySheet f s) (tidy-length f s ∙ all) ∙ ap (tidySheet f) (sym (whole-sheet f s all)) in
+      below-suc (λ p. sheetAt f p (tidySheet f s) ≡ tidySheet f (sheetAt f p s)) 0 (λ p l. absurd (omega arith)) here,
+)
 
-  tidied-status : followStatus z B a m (tidySheet narrow s) ≡ looseStatus z B a m s
-  unfolding followStatus followTests looseStatus cleanTests chainRefusal bufferRefusal
-  tidied-status = go (eqb (chainRefusal narrow s) 0) refl (eqb (length s) 98) refl
-    where
-      t : List ℕ
-      t = tidySheet narrow s
+-- Tidy or refused, a sheet lists what it listed.
+lists-kept : (s : List ℕ) → Bytes s → chainEntries narrow (tidySheet narrow s) ≡ chainEntries narrow s
+lists-kept s bytes =
+    by-cases (λ (b : Bool). chainEntries narrow (tidySheet narrow s) ≡ chainEntries narrow s) (eqb (tidyStatus narrow s) 0)
+    (λ e. tidy-demand narrow (omega arith) (omega arith) s bytes (eqb-true (tidyStatus narrow s) 0 e) .lists)
+    (λ e. ap (chainEntries narrow) (tidy-refused narrow s (eqb-false (tidyStatus narrow s) 0 e)))
 
-      kept : (tidyStatus narrow s ≡ 0 → ⊥) → followStatus z B a m t ≡ followStatus z B a m s
-      kept refused = ap (followStatus z B a m) (tidy-refused narrow s refused)
+-- It gets the number that its chain had.
+number-kept : (s : List ℕ) → Bytes s → length s ≡ sheetBytes narrow → cleanRefusal narrow (tidySheet narrow s) ≡ chainRefusal narrow s
+number-kept s bytes long =
+    by-cases (λ (b : Bool). cleanRefusal narrow (tidySheet narrow s) ≡ chainRefusal narrow s) (eqb (chainRefusal narrow s) 0)
+    (λ e.
+    let fit = eqb-true (chainRefusal narrow s) 0 e in
+    tidy-demand narrow (omega arith) (omega arith) s bytes (tidy-takes narrow s .1 (long, fit)) .clean ∙ sym fit)
+    (λ e.
+    let unfit = eqb-false (chainRefusal narrow s) 0 e in
+    ap (cleanRefusal narrow) (tidy-refused narrow s (λ taken. unfit (tidy-takes narrow s .0 taken .1))) ∙ clean-first narrow s unfit)
 
-      tests : List Test
-      tests = bufferTests z B (length a) m (length s)
+module _ (z : Size) (B w : ℕ) (a m s t : List ℕ) (bytes : Bytes s) (tidied : Tidied narrow (B / w) s t) where
+  -- Where s is as long as its sheets, all of t list what those of s listed, and get the number that their chains had.
+  module _ (long : length s ≡ sheetsBytes narrow (B / w)) where
+    all-lists-kept : listed B w t ≡ listed B w s
+    unfolding sheetsEntries
+    all-lists-kept =
+        rising-ext (B / w) (B / w) (λ p l.
+        ap (chainEntries narrow) (tidied .1 long p l) ∙ lists-kept (sheetAt narrow p s) (bytes-at narrow p s bytes))
 
-      rest : List Test
-      rest = listTests (sheetLayout z) (whole B) a m (chainEntries narrow s)
+    all-numbers-kept : sheetsRefusal B w t ≡ refusal (chainsTests narrow (B / w) s)
+    all-numbers-kept =
+        same-numbers narrow (B / w) s t (λ p l.
+        ap (cleanRefusal narrow) (tidied .1 long p l)
+        ∙ number-kept (sheetAt narrow p s) (bytes-at narrow p s bytes) (length-sheet-at narrow (B / w) s long p l))
 
-      go : (p : Bool) → eqb (chainRefusal narrow s) 0 ≡ p → (q : Bool) → eqb (length s) 98 ≡ q → followStatus z B a m t ≡ looseStatus z B a m s
-      go false unfit q e =
-          let refused = eqb-false (chainRefusal narrow s) 0 unfit in
-          kept (λ taken. refused (tidy-takes narrow s .0 taken .1))
-          ∙ refusal-rest tests _ _
-          (ap refusal (append-assoc (chainTests narrow s) _ rest) ∙ refused-first (chainTests narrow s) _ refused ∙ sym (refused-first (chainTests narrow s) rest refused))
-      go true fit false short =
-          let other = eqb-false (length s) 98 short in
-          let refused : bufferRefusal z B a m s ≡ 0 → ⊥ = λ ok. other (buffers-fit z B a m s ok .2) in
-          kept (λ taken. other (tidy-takes narrow s .0 taken .0)) ∙ refused-first tests _ refused ∙ sym (refused-first tests _ refused)
-      go true fit true long =
-          let accepted = eqb-true (chainRefusal narrow s) 0 fit in
-          let taken = tidy-takes narrow s .1 (eqb-true (length s) 98 long, accepted) in
-          let tidied = tidy-demand narrow (omega arith) (omega arith) s bytes taken in
-          let same : length t ≡ length s = tidied .form .long ∙ sym (eqb-true (length s) 98 long) in
-          ap (λ (n : ℕ). refusal (bufferTests z B (length a) m n ++ (cleanTests narrow t ++ listTests (sheetLayout z) (whole B) a m (chainEntries narrow t)))) same
-          ∙ refusal-rest tests _ _
-          (clean-goes-on narrow t (tidied .clean) _ ∙ ap (λ (w : List Entry). refusal (listTests (sheetLayout z) (whole B) a m w)) lists-kept ∙ sym (chain-goes-on narrow s accepted rest))
+    same-rest : (ts : List Test) → refusal (sheetsTests narrow (B / w) t ++ ts) ≡ refusal (chainsTests narrow (B / w) s ++ ts)
+    same-rest ts =
+        let k : ℕ = refusal (chainsTests narrow (B / w) s) in
+        let same = all-numbers-kept in
+        by-cases (λ (b : Bool). refusal (sheetsTests narrow (B / w) t ++ ts) ≡ refusal (chainsTests narrow (B / w) s ++ ts)) (eqb k 0)
+        (λ e.
+        let none = eqb-true k 0 e in
+        sheets-go-on narrow (B / w) t (same ∙ none) ts ∙ sym (chains-go-on narrow (B / w) s none ts))
+        (λ e.
+        let some = eqb-false k 0 e in
+        refused-first (sheetsTests narrow (B / w) t) ts (λ q. some (sym same ∙ q)) ∙ same
+        ∙ sym (refused-first (chainsTests narrow (B / w) s) ts some))
+
+  -- The buffers are refused alike.
+  same-buffers : bufferRefusal z B w a m t ≡ bufferRefusal z B w a m s
+  unfolding bufferRefusal
+  same-buffers = rw (tidied .0)
+
+  tidied-status : (ok : bufferRefusal z B w a m s ≡ 0) → followStatus z B w a m t ≡ looseStatus z B w a m s
+  unfolding followStatus followTests looseStatus
+  tidied-status ok =
+      let long = buffers-fit z B w a m s ok .long in
+      buffers-passed z B w a m t (same-buffers ∙ ok) _
+      ∙ same-rest long (listTests (sectors z B w) (whole w) a m (listed B w t))
+      ∙ ap (λ (v : List Entry). refusal (chainsTests narrow (B / w) s ++ listTests (sectors z B w) (whole w) a m v)) (all-lists-kept long)
+      ∙ sym (buffers-passed z B w a m s ok _)
+
+  loose-first : (bufferRefusal z B w a m s ≡ 0 → ⊥) → looseStatus z B w a m s ≡ bufferRefusal z B w a m s
+  unfolding looseStatus followTests bufferRefusal
+  loose-first refused = refused-first (bufferTests z B w (length a) m (length s)) _ refused
 
   -- Follow after tidy gives what follow gives where leftovers are ignored.
-  pub follow-tidied : let k = looseStatus z B a m s in
-      Gives z B a m (tidySheet narrow s) (listOutcome k (chainEntries narrow s)) (listArray (sheetLayout z) (whole B) a m k (chainEntries narrow s))
-  follow-tidied = rw lists-kept at (follow-given z B a m (tidySheet narrow s) (looseStatus z B a m s) tidied-status)
+  pub follow-tidied : let k = looseStatus z B w a m s in
+      Gives z B w a m t (listOutcome k (listed B w s)) (listArray (sectors z B w) (whole w) a m k (listed B w s))
+  follow-tidied = go (eqb (bufferRefusal z B w a m s) 0) refl
+    where
+      go : (b : Bool) → eqb (bufferRefusal z B w a m s) 0 ≡ b → let k = looseStatus z B w a m s in
+          Gives z B w a m t (listOutcome k (listed B w s)) (listArray (sectors z B w) (whole w) a m k (listed B w s))
+      go true e =
+          let ok = eqb-true (bufferRefusal z B w a m s) 0 e in
+          rw (all-lists-kept (buffers-fit z B w a m s ok .long)) at (follow-given z B w a m t (looseStatus z B w a m s) (tidied-status ok))
+      go false e =
+          let refused = eqb-false (bufferRefusal z B w a m s) 0 e in
+          let (answer, left) = follow-first z B w a m t (λ q. refused (sym same-buffers ∙ q)) in
+          rw (loose-first refused, e, ne-eqb (bufferRefusal z B w a m s) 7 (buffers-seven z B w a m s))
+          (answer ∙ ap Refused same-buffers, left)

@@ -1,4 +1,4 @@
--- Turns one after another, over any stripe system: what the last one leaves, and what the sheets list.
+-- Turns one after another, over any stripe system and number of sectors: what the last one leaves, and what the sheets list.
 -- Assumes nothing.
 use mathlib.Core.Path.{_≡_, refl, sym, _∙_, ap, ap₂, subst}
 use mathlib.Core.Bool.{Bool, true, false, cond, not, _&&_}
@@ -15,67 +15,73 @@ use lib.Seq.{take-all, take-length, length-take-le, take-add, getD-set-other}
 use Rattle.stripes.specs.Fold.{count}
 use Rattle.stripes.specs.System.{Layout, consistent}
 use Rattle.stripes.specs.Erased.{erasures}
-use Rattle.stripes.specs.Repair.{Entry, repairs, mapAfter, fatal, rebuilt, zeroed}
+use Rattle.stripes.specs.Repair.{Entry, Peels, mapAfter, fatal, rebuilt, zeroed}
+use Rattle.stripes.specs.Sectors.{sectored, sectorRepairs}
 use Rattle.stripes.specs.declared.Stretch.{Stretch}
-use Rattle.model.specs.Grid.{disks, mapFits}
-use Rattle.model.specs.Sheet.{Format, sheetOf, blankSheet}
+use Rattle.model.specs.Grid.{mapFits}
+use Rattle.model.specs.Sheet.{Format, repairSheets, blankSheets}
 use Rattle.model.specs.Turn.{Turn, clear, lossTold, contradiction, repairsMade, turnRepairs, contradicts, turnOf, accepted, unfinished, turnsBy, turnsOf, lastOf, repairCount, madeBy, wholeRebuild}
 use Rattle.model.specs.Demand3.{InTurns, turnsFor}
-use Rattle.model.specs.declared.Size.{Size}
 use Rattle.model.specs.declared.Outcome.the-variants.{Repairs}
 use Rattle.stripes.proofs.Fold.{by-cases, lt-or-le, and-left, and-right, and-both, every-at, every-all}
 use Rattle.stripes.proofs.Bytes.{length-changed}
 use Rattle.stripes.proofs.Erased.{zero-set}
 use Rattle.stripes.proofs.Restore.{length-rebuilt}
-use Rattle.stripes.proofs.Peel.{peel-count, repairs-peels, repairs-count, repairs-left}
-use Rattle.stripes.proofs.Split.{peels-take, rebuilt-append, map-after-append, erasures-after, repairs-rest, fatal-rest}
+use Rattle.stripes.proofs.Peel.{peel-count}
+use Rattle.stripes.proofs.Split.{peels-take, rebuilt-append, map-after-append, erasures-after, fatal-after}
+use Rattle.stripes.proofs.Positions.{order-peels, length-order, order-rest}
 
 -- ---- one turn
-module _ (L : Layout) (m : List ℕ) where
-  -- Plan's repairs of the disks that the map has as erased.
+module _ (n : ℕ) (L : Layout) (m : List ℕ) where
+  -- Plan's repairs of the sectors that the map has as erased. Each of the first k is allowed at its step.
   abbrev planOf : List Entry
-  planOf = repairs L (erasures m)
+  planOf = sectorRepairs n L (erasures m)
 
-  left : (k : ℕ) → fatal L (erasures m) ≡ false
-      → length (take k planOf) + count (L .disks) (erasures (mapAfter m (take k planOf))) ≡ length planOf
+  pub first-peels : (k : ℕ) → Peels (sectored n L) (erasures m) (take k planOf)
+  first-peels k = peels-take (sectored n L) (erasures m) k planOf (order-peels n L (erasures m))
+
+  left : (k : ℕ) → fatal (sectored n L) (erasures m) ≡ false
+      → length (take k planOf) + count (sectored n L .disks) (erasures (mapAfter m (take k planOf))) ≡ length planOf
   left k fine =
-      ap (λ (e : ℕ → Bool). length (take k planOf) + count (L .disks) e) (erasures-after m (take k planOf))
-      ∙ peel-count L (erasures m) (take k planOf) (peels-take L (erasures m) k planOf (repairs-peels L (erasures m)))
-      ∙ sym (repairs-count L (erasures m) fine)
+      ap (λ (e : ℕ → Bool). length (take k planOf) + count (sectored n L .disks) e) (erasures-after m (take k planOf))
+      ∙ peel-count (sectored n L) (erasures m) (take k planOf) (first-peels k)
+      ∙ sym (length-order n L (erasures m) fine)
 
   -- The turn clears the map exactly if it may make all repairs.
-  pub clears-last : (k : ℕ) → fatal L (erasures m) ≡ false → length planOf ≤ k → clear L (mapAfter m (take k planOf)) ≡ true
+  pub clears-last : (k : ℕ) → fatal (sectored n L) (erasures m) ≡ false → length planOf ≤ k
+      → clear (sectored n L) (mapAfter m (take k planOf)) ≡ true
   unfolding clear
   clears-last k fine few =
       let all = left k fine in
       let same = ap length (take-all k planOf few) in
-      eq-eqb (count (L .disks) (erasures (mapAfter m (take k planOf)))) 0 (omega arith)
+      eq-eqb (count (sectored n L .disks) (erasures (mapAfter m (take k planOf)))) 0 (omega arith)
 
-  pub clears-not : (k : ℕ) → fatal L (erasures m) ≡ false → k < length planOf → clear L (mapAfter m (take k planOf)) ≡ false
+  pub clears-not : (k : ℕ) → fatal (sectored n L) (erasures m) ≡ false → k < length planOf
+      → clear (sectored n L) (mapAfter m (take k planOf)) ≡ false
   unfolding clear
   clears-not k fine many =
       let all = left k fine in
       let same = length-take-le k planOf (omega arith) in
-      ne-eqb (count (L .disks) (erasures (mapAfter m (take k planOf)))) 0 (λ e. omega arith)
+      ne-eqb (count (sectored n L .disks) (erasures (mapAfter m (take k planOf)))) 0 (λ e. omega arith)
 
   -- All repairs clear it.
-  pub all-clear : fatal L (erasures m) ≡ false → count (L .disks) (erasures (mapAfter m planOf)) ≡ 0
+  pub all-clear : fatal (sectored n L) (erasures m) ≡ false → count (sectored n L .disks) (erasures (mapAfter m planOf)) ≡ 0
   all-clear fine =
       let all = left (length planOf) fine in
       let full : take (length planOf) planOf ≡ planOf = take-length planOf in
-      let rest : length planOf + count (L .disks) (erasures (mapAfter m planOf)) ≡ length planOf = rw full at all in
+      let rest : length planOf + count (sectored n L .disks) (erasures (mapAfter m planOf)) ≡ length planOf = rw full at all in
       omega arith
 
-  -- There are no more repairs than erased disks.
-  pub few-repairs : length planOf ≤ count (L .disks) (erasures m)
-  few-repairs = let all = repairs-left L (erasures m) in omega arith
+  -- There are no more repairs than erased sectors.
+  pub few-repairs : length planOf ≤ count (sectored n L .disks) (erasures m)
+  few-repairs = let all = peel-count (sectored n L) (erasures m) planOf (order-peels n L (erasures m)) in omega arith
 
 -- A map that fits still fits after repairs.
-set-fits : (z : Size) (m : List ℕ) (d : ℕ) → mapFits z m ≡ true → mapFits z (set m d 0) ≡ true
+set-fits : (len : ℕ) (m : List ℕ) (d : ℕ) → mapFits len m ≡ true → mapFits len (set m d 0) ≡ true
 unfolding mapFits
-set-fits z m d h =
-    let long = and-left (eqb (length m) (disks z)) _ h in
-    let bits = every-at (length m) (λ i. leb (getD m i 0) 1) (and-right (eqb (length m) (disks z)) _ h) in
+set-fits len m d h =
+    let long = and-left (eqb (length m) len) _ h in
+    let bits = every-at (length m) (λ i. leb (getD m i 0) 1) (and-right (eqb (length m) len) _ h) in
     rw (length-set m d 0)
     (and-both long
     (every-all (length m)
@@ -84,226 +90,266 @@ set-fits z m d h =
     (λ q. rw (eqb-true i d q, zero-set m d) refl)
     (λ q. rw (getD-set-other m d i 0 0 (eqb-false i d q)) (bits i l)))))
 
-pub map-after-fits : (z : Size) (m : List ℕ) (w : List Entry) → mapFits z m ≡ true → mapFits z (mapAfter m w) ≡ true
+pub map-after-fits : (len : ℕ) (m : List ℕ) (w : List Entry) → mapFits len m ≡ true → mapFits len (mapAfter m w) ≡ true
 unfolding mapAfter
-map-after-fits z m [] h = h
-map-after-fits z m (r ∷ rs) h = map-after-fits z (set m (r .disk) 0) rs (set-fits z m (r .disk) h)
+map-after-fits len m [] h = h
+map-after-fits len m (r ∷ rs) h = map-after-fits len (set m (r .disk) 0) rs (set-fits len m (r .disk) h)
 
-module _ (L : Layout) (f : Format) (x : Stretch) (k : ℕ) (a m : List ℕ) where
+module _ (n : ℕ) (L : Layout) (f : Format) (x : Stretch) (k : ℕ) (a m : List ℕ) where
   -- What holds of each of its ends holds of a turn.
-  by-ends : (P : Turn → Type 0) → P (lossTold L f a m) → P (contradiction f x a m) → ((w : List Entry) → P (repairsMade L f x a m w))
-      → P (turnOf L f x k a m)
+  by-ends : (P : Turn → Type 0) → P (lossTold n L f a m) → P (contradiction n f x a m)
+      → ((w : List Entry) → P (repairsMade n L f x a m w))
+      → P (turnOf n L f x k a m)
   unfolding turnOf
   by-ends P fatally undoes makes =
-      go (fatal L (erasures m)) (contradicts L x a m (turnRepairs L k m))
+      go (fatal (sectored n L) (erasures m)) (contradicts (sectored n L) x a m (turnRepairs n L k m))
     where
-      go : (s t : Bool) → P (cond s (lossTold L f a m) (cond t (contradiction f x a m) (repairsMade L f x a m (turnRepairs L k m))))
+      go : (s t : Bool) → P (cond s (lossTold n L f a m) (cond t (contradiction n f x a m) (repairsMade n L f x a m (turnRepairs n L k m))))
       go true t = fatally
       go false true = undoes
-      go false false = makes (turnRepairs L k m)
+      go false false = makes (turnRepairs n L k m)
 
   -- The array keeps its length, and the map still fits.
-  pub turn-length : length (turnOf L f x k a m .array) ≡ length a
+  pub turn-length : length (turnOf n L f x k a m .array) ≡ length a
   unfolding lossTold contradiction repairsMade zeroed
-  turn-length = by-ends (λ (t : Turn). length (t .array) ≡ length a) refl (length-changed x a _) (λ w. length-rebuilt L x a w)
+  turn-length = by-ends (λ (t : Turn). length (t .array) ≡ length a) refl (length-changed x a _) (λ w. length-rebuilt (sectored n L) x a w)
 
-  pub turn-map : (z : Size) → mapFits z m ≡ true → mapFits z (turnOf L f x k a m .map) ≡ true
+  pub turn-map : (len : ℕ) → mapFits len m ≡ true → mapFits len (turnOf n L f x k a m .map) ≡ true
   unfolding lossTold contradiction repairsMade
-  turn-map z fits = by-ends (λ (t : Turn). mapFits z (t .map) ≡ true) fits fits (λ w. map-after-fits z m w fits)
+  turn-map len fits = by-ends (λ (t : Turn). mapFits len (t .map) ≡ true) fits fits (λ w. map-after-fits len m w fits)
 
   -- The turn that may make all repairs is a rebuild without turns,
-  pub last-turn : length (planOf L m) ≤ k → turnOf L f x k a m ≡ wholeRebuild L f x a m
+  pub last-turn : length (planOf n L m) ≤ k → turnOf n L f x k a m ≡ wholeRebuild n L f x a m
   unfolding turnOf wholeRebuild turnRepairs contradicts
-  last-turn few = go (fatal L (erasures m)) refl
+  last-turn few = go (fatal (sectored n L) (erasures m)) refl
     where
       w : List Entry
-      w = planOf L m
+      w = planOf n L m
 
       -- There the test for a contradiction is that of all sums.
-      flip : (s : Bool) → cond (true && not s) (contradiction f x a m) (repairsMade L f x a m w) ≡ cond s (repairsMade L f x a m w) (contradiction f x a m)
+      flip : (s : Bool)
+          → cond (true && not s) (contradiction n f x a m) (repairsMade n L f x a m w)
+          ≡ cond s (repairsMade n L f x a m w) (contradiction n f x a m)
       flip true = refl
       flip false = refl
 
-      go : (t : Bool) → fatal L (erasures m) ≡ t → turnOf L f x k a m ≡ wholeRebuild L f x a m
+      go : (t : Bool) → fatal (sectored n L) (erasures m) ≡ t → turnOf n L f x k a m ≡ wholeRebuild n L f x a m
       go true q = rw q refl
       go false q =
           let full : take k w ≡ w = take-all k w few in
-          let done : clear L (mapAfter m w) ≡ true = ap (λ (v : List Entry). clear L (mapAfter m v)) (sym full) ∙ clears-last L m k q few in
-          rw (q, full, done) (flip (consistent L x (rebuilt L x a w)))
+          let done : clear (sectored n L) (mapAfter m w) ≡ true =
+          ap (λ (v : List Entry). clear (sectored n L) (mapAfter m v)) (sym full) ∙ clears-last n L m k q few in
+          rw (q, full, done) (flip (consistent (sectored n L) x (rebuilt (sectored n L) x a w)))
 
-  -- so that the old rebuild is the turn whose limit is no less than the number of erased disks.
-  pub whole-turn : count (L .disks) (erasures m) ≤ k → turnOf L f x k a m ≡ wholeRebuild L f x a m
-  whole-turn enough = let few = few-repairs L m in last-turn (omega arith)
+  -- so that the old rebuild is the turn whose limit is no less than the number of erased sectors.
+  pub whole-turn : count (sectored n L .disks) (erasures m) ≤ k → turnOf n L f x k a m ≡ wholeRebuild n L f x a m
+  whole-turn enough = let few = few-repairs n L m in last-turn (omega arith)
 
   -- A turn that may not make all of them makes as many as it may, and tests nothing.
-  pub early-turn : fatal L (erasures m) ≡ false → k < length (planOf L m)
-      → (turnOf L f x k a m ≡ repairsMade L f x a m (take k (planOf L m))) × (unfinished L (turnOf L f x k a m) ≡ true)
+  pub early-turn : fatal (sectored n L) (erasures m) ≡ false → k < length (planOf n L m)
+      → (turnOf n L f x k a m ≡ repairsMade n L f x a m (take k (planOf n L m))) × (unfinished (sectored n L) (turnOf n L f x k a m) ≡ true)
   unfolding turnOf turnRepairs contradicts repairsMade unfinished accepted
   early-turn fine many =
-      let more = clears-not L m k fine many in
+      let more = clears-not n L m k fine many in
       (rw (fine, more), rw (fine, more, more))
 
   -- Where the survivors fit, a turn makes its repairs, whatever its limit is.
-  pub fitting-turn : fatal L (erasures m) ≡ false → consistent L x (rebuilt L x a (planOf L m)) ≡ true
-      → turnOf L f x k a m ≡ repairsMade L f x a m (take k (planOf L m))
+  pub fitting-turn : fatal (sectored n L) (erasures m) ≡ false
+      → consistent (sectored n L) x (rebuilt (sectored n L) x a (planOf n L m)) ≡ true
+      → turnOf n L f x k a m ≡ repairsMade n L f x a m (take k (planOf n L m))
   unfolding wholeRebuild
   fitting-turn fine fits =
-      ⊎-elim (λ (many : k < length (planOf L m)). early-turn fine many .0)
-      (λ few. last-turn few ∙ (rw (fine, fits, take-all k (planOf L m) few) refl)) (lt-or-le k (length (planOf L m)))
+      ⊎-elim (λ (many : k < length (planOf n L m)). early-turn fine many .0)
+      (λ few. last-turn few ∙ (rw (fine, fits, take-all k (planOf n L m) few) refl)) (lt-or-le k (length (planOf n L m)))
 
 -- ---- turns one after another
-module _ (L : Layout) (f : Format) (x : Stretch) (k : ℕ) (some : 0 < k) where
+module _ (n : ℕ) (L : Layout) (f : Format) (x : Stretch) (k : ℕ) (some : 0 < k) where
   -- How the sheets end: with a list, or with zeros.
   abbrev endingOf : Bool → List Entry → List ℕ
-  endingOf c u = cond c (sheetOf f (f .repairKind) u) (blankSheet f)
+  endingOf c u = cond c (repairSheets f n u) (blankSheets f n)
 
   -- What the turns come to: all but the last make k repairs each, the last does what is left as a rebuild without turns.
   pub record Shape (a m : List ℕ) (before : Turn) (ts : List Turn) : Type 0 where
     pub early : ℕ
     pub number : length ts ≡ suc early
-    pub room : k * early ≤ length (planOf L m)
-    pub sheets : InTurns f k (endingOf (consistent L x (rebuilt L x a (planOf L m)))) (planOf L m) (map (λ (t : Turn). t .sheet) ts)
+    pub room : k * early ≤ length (planOf n L m)
+    pub sheets : InTurns n f k (endingOf (consistent (sectored n L) x (rebuilt (sectored n L) x a (planOf n L m)))) (planOf n L m)
+        (map (λ (t : Turn). t .sheets) ts)
     pub last : lastOf before ts
-        ≡ wholeRebuild L f x (rebuilt L x a (take (k * early) (planOf L m))) (mapAfter m (take (k * early) (planOf L m)))
+        ≡ wholeRebuild n L f x (rebuilt (sectored n L) x a (take (k * early) (planOf n L m))) (mapAfter m (take (k * early) (planOf n L m)))
     pub made : madeBy ts ≡ k * early + repairCount (lastOf before ts .answer)
 
-  module _ (a m : List ℕ) (fine : fatal L (erasures m) ≡ false) where
+  module _ (a m : List ℕ) (fine : fatal (sectored n L) (erasures m) ≡ false) where
     abbrev w : List Entry
-    w = planOf L m
+    w = planOf n L m
 
     -- Whether the survivors fit decides how a rebuild without turns ends.
-    restoring : consistent L x (rebuilt L x a w) ≡ true → wholeRebuild L f x a m ≡ repairsMade L f x a m w
+    restoring : consistent (sectored n L) x (rebuilt (sectored n L) x a w) ≡ true → wholeRebuild n L f x a m ≡ repairsMade n L f x a m w
     unfolding wholeRebuild
     restoring fits = rw (fine, fits)
 
-    undoing : consistent L x (rebuilt L x a w) ≡ false → wholeRebuild L f x a m ≡ contradiction f x a m
+    undoing : consistent (sectored n L) x (rebuilt (sectored n L) x a w) ≡ false → wholeRebuild n L f x a m ≡ contradiction n f x a m
     unfolding wholeRebuild
     undoing unfit = rw (fine, unfit)
 
-    last-sheet : (c : Bool) → consistent L x (rebuilt L x a w) ≡ c → wholeRebuild L f x a m .sheet ≡ endingOf c w
+    last-sheet : (c : Bool) → consistent (sectored n L) x (rebuilt (sectored n L) x a w) ≡ c
+        → wholeRebuild n L f x a m .sheets ≡ endingOf c w
     unfolding repairsMade contradiction
-    last-sheet true q = ap (λ (t : Turn). t .sheet) (restoring q)
-    last-sheet false q = ap (λ (t : Turn). t .sheet) (undoing q)
+    last-sheet true q = ap (λ (t : Turn). t .sheets) (restoring q)
+    last-sheet false q = ap (λ (t : Turn). t .sheets) (undoing q)
 
     -- The last turn, and no turn after it.
-    ends : (c : Bool) → consistent L x (rebuilt L x a w) ≡ c → unfinished L (wholeRebuild L f x a m) ≡ false
+    ends : (c : Bool) → consistent (sectored n L) x (rebuilt (sectored n L) x a w) ≡ c
+        → unfinished (sectored n L) (wholeRebuild n L f x a m) ≡ false
     unfolding repairsMade contradiction unfinished accepted clear
-    ends true q = rw (restoring q, eq-eqb (count (L .disks) (erasures (mapAfter m w))) 0 (all-clear L m fine))
+    ends true q = rw (restoring q, eq-eqb (count (sectored n L .disks) (erasures (mapAfter m w))) 0 (all-clear n L m fine))
     ends false q = rw (undoing q)
 
-    one : (s : List ℕ) (ss : List (List ℕ)) (before : Turn) → length w ≤ k → Shape a m before (turnsOf L f x k (s ∷ ss) a m)
+    one : (s : List ℕ) (ss : List (List ℕ)) (before : Turn) → length w ≤ k → Shape a m before (turnsOf n L f x k (s ∷ ss) a m)
     unfolding turnsBy lastOf madeBy rebuilt mapAfter
     one s ss before few =
-        rw (last-turn L f x k a m few, ends (consistent L x (rebuilt L x a w)) refl)
-        (record { early = 0; number = refl; room = omega arith; sheets = (last-sheet (consistent L x (rebuilt L x a w)) refl, few); last = rw (mul-zero k); made = omega arith })
+        rw (last-turn n L f x k a m few, ends (consistent (sectored n L) x (rebuilt (sectored n L) x a w)) refl)
+        (record {
+          early = 0;
+          number = refl;
+          room = omega arith;
+          sheets = (last-sheet (consistent (sectored n L) x (rebuilt (sectored n L) x a w)) refl, few);
+          last = rw (mul-zero k);
+          made = omega arith;
+        })
 
     -- After the first i repairs plan's order goes on with the rest of them.
     abbrev arrayAt : ℕ → List ℕ
-    arrayAt i = rebuilt L x a (take i w)
+    arrayAt i = rebuilt (sectored n L) x a (take i w)
 
     abbrev mapAt : ℕ → List ℕ
     mapAt i = mapAfter m (take i w)
 
-    rest : (i : ℕ) → planOf L (mapAt i) ≡ drop i w
-    rest i = ap (repairs L) (erasures-after m (take i w)) ∙ repairs-rest L i (erasures m)
+    rest : (i : ℕ) → planOf n L (mapAt i) ≡ drop i w
+    rest i = ap (sectorRepairs n L) (erasures-after m (take i w)) ∙ order-rest n L (erasures m) i
 
-    still-fine : (i : ℕ) → fatal L (erasures (mapAt i)) ≡ false
-    still-fine i = ap (fatal L) (erasures-after m (take i w)) ∙ fatal-rest L i (erasures m) ∙ fine
+    still-fine : (i : ℕ) → fatal (sectored n L) (erasures (mapAt i)) ≡ false
+    still-fine i =
+        ap (fatal (sectored n L)) (erasures-after m (take i w))
+        ∙ fatal-after (sectored n L) (erasures m) (take i w) (first-peels n L m i) ∙ fine
 
-    same-array : (i : ℕ) → rebuilt L x (arrayAt i) (drop i w) ≡ rebuilt L x a w
-    same-array i = sym (rebuilt-append L x a (take i w) (drop i w)) ∙ ap (rebuilt L x a) (take-append-drop i w)
+    same-array : (i : ℕ) → rebuilt (sectored n L) x (arrayAt i) (drop i w) ≡ rebuilt (sectored n L) x a w
+    same-array i = sym (rebuilt-append (sectored n L) x a (take i w) (drop i w)) ∙ ap (rebuilt (sectored n L) x a) (take-append-drop i w)
 
     same-map : (i : ℕ) → mapAfter (mapAt i) (drop i w) ≡ mapAfter m w
     same-map i = sym (map-after-append m (take i w) (drop i w)) ∙ ap (mapAfter m) (take-append-drop i w)
 
-    same-end : (i : ℕ) → rebuilt L x (arrayAt i) (planOf L (mapAt i)) ≡ rebuilt L x a w
-    same-end i = ap (rebuilt L x (arrayAt i)) (rest i) ∙ same-array i
+    same-end : (i : ℕ) → rebuilt (sectored n L) x (arrayAt i) (planOf n L (mapAt i)) ≡ rebuilt (sectored n L) x a w
+    same-end i = ap (rebuilt (sectored n L) x (arrayAt i)) (rest i) ∙ same-array i
 
     -- One turn before others.
     more : (s t : List ℕ) (ss : List (List ℕ)) (before : Turn) → k < length w
-        → Shape (arrayAt k) (mapAt k) (repairsMade L f x a m (take k w)) (turnsOf L f x k (t ∷ ss) (arrayAt k) (mapAt k)) → Shape a m before (turnsOf L f x k (s ∷ (t ∷ ss)) a m)
+        → Shape (arrayAt k) (mapAt k) (repairsMade n L f x a m (take k w)) (turnsOf n L f x k (t ∷ ss) (arrayAt k) (mapAt k))
+        → Shape a m before (turnsOf n L f x k (s ∷ (t ∷ ss)) a m)
     unfolding turnsBy lastOf madeBy repairsMade repairCount
     more s t ss before many up =
-        let (is, goes-on) = early-turn L f x k a m fine many in
+        let (is, goes-on) = early-turn n L f x k a m fine many in
         let j = up .early in
         let more : k * suc j ≡ k + k * j = omega (arith, mul-suc k j) in
-        let both : take (k * suc j) w ≡ take k w ++ take (k * j) (planOf L (mapAt k)) =
+        let both : take (k * suc j) w ≡ take k w ++ take (k * j) (planOf n L (mapAt k)) =
         ap (λ (i : ℕ). take i w) more ∙ take-add k (k * j) w ∙ ap (λ (v : List Entry). take k w ++ take (k * j) v) (sym (rest k)) in
         let sum : (c : ℕ) → k + (k * j + c) ≡ k * suc j + c = λ c. omega arith in
+        let others : List Turn = turnsOf n L f x k (t ∷ ss) (arrayAt k) (mapAt k) in
+        let fits : List ℕ → Bool = consistent (sectored n L) x in
         rw (goes-on, is)
         (record {
           early = suc j;
           number = ap suc (up .number);
-          room = let few = up .room in let less : length (planOf L (mapAt k)) ≡ length w - k = ap length (rest k) ∙ length-drop k w in omega arith;
+          room =
+              let few = up .room in
+              let less : length (planOf n L (mapAt k)) ≡ length w - k = ap length (rest k) ∙ length-drop k w in
+              omega arith;
           sheets = (
             refl,
             many,
-            subst (λ (v : List Entry). InTurns f k (endingOf (consistent L x (rebuilt L x a w))) v (map (λ (t : Turn). t .sheet) (turnsOf L f x k (t ∷ ss) (arrayAt k) (mapAt k))))
-                (rest k) (subst (λ (b : List ℕ). InTurns f k (endingOf (consistent L x b)) (planOf L (mapAt k)) (map (λ (t : Turn). t .sheet) (turnsOf L f x k (t ∷ ss) (arrayAt k) (mapAt k)))) (same-end k) (up .sheets)),
+            subst
+                (λ (v : List Entry). InTurns n f k (endingOf (fits (rebuilt (sectored n L) x a w))) v (map (λ (t : Turn). t .sheets) others))
+                (rest k)
+                (subst
+                (λ (b : List ℕ). InTurns n f k (endingOf (fits b)) (planOf n L (mapAt k)) (map (λ (t : Turn). t .sheets) others))
+                (same-end k) (up .sheets)),
           );
-          last = up .last ∙ ap₂ (wholeRebuild L f x) (sym (rebuilt-append L x a (take k w) _) ∙ ap (rebuilt L x a) (sym both)) (sym (map-after-append m (take k w) _) ∙ ap (mapAfter m) (sym both));
-          made = ap₂ (λ (p q : ℕ). p + q) (length-take-le k w (omega arith)) (up .made) ∙ sum (repairCount (lastOf (repairsMade L f x a m (take k w)) (turnsOf L f x k (t ∷ ss) (arrayAt k) (mapAt k)) .answer));
+          last =
+              up .last
+              ∙ ap₂ (wholeRebuild n L f x)
+              (sym (rebuilt-append (sectored n L) x a (take k w) _) ∙ ap (rebuilt (sectored n L) x a) (sym both))
+              (sym (map-after-append m (take k w) _) ∙ ap (mapAfter m) (sym both));
+          made =
+              ap₂ (λ (p q : ℕ). p + q) (length-take-le k w (omega arith)) (up .made)
+              ∙ sum (repairCount (lastOf (repairsMade n L f x a m (take k w)) others .answer));
         })
 
   -- So it is where the turns are enough.
-  pub shape : (s : List ℕ) (ss : List (List ℕ)) (a m : List ℕ) → fatal L (erasures m) ≡ false → length (planOf L m) ≤ length (s ∷ ss) * k
-      → (before : Turn) → Shape a m before (turnsOf L f x k (s ∷ ss) a m)
+  pub shape : (s : List ℕ) (ss : List (List ℕ)) (a m : List ℕ) → fatal (sectored n L) (erasures m) ≡ false
+      → length (planOf n L m) ≤ length (s ∷ ss) * k
+      → (before : Turn) → Shape a m before (turnsOf n L f x k (s ∷ ss) a m)
   shape s [] a m fine enough before = one a m fine s [] before (omega arith)
   shape s (t ∷ ss) a m fine enough before =
       ⊎-elim
-      (λ (l : k < length (planOf L m)).
+      (λ (l : k < length (planOf n L m)).
       more a m fine s t ss before l
       (shape t ss (arrayAt a m fine k) (mapAt a m fine k) (still-fine a m fine k)
-      (let less : length (planOf L (mapAt a m fine k)) ≡ length (planOf L m) - k = ap length (rest a m fine k) ∙ length-drop k (planOf L m) in
+      (let less : length (planOf n L (mapAt a m fine k)) ≡ length (planOf n L m) - k =
+      ap length (rest a m fine k) ∙ length-drop k (planOf n L m) in
       omega (arith, suc-mul (suc (length ss)) k)) _))
-      (λ l. one a m fine s (t ∷ ss) before l) (lt-or-le k (length (planOf L m)))
+      (λ l. one a m fine s (t ∷ ss) before l) (lt-or-le k (length (planOf n L m)))
 
   -- ---- how the turns end
-  module _ (a m : List ℕ) (fine : fatal L (erasures m) ≡ false) (before : Turn) (ts : List Turn) (s : Shape a m before ts) where
+  module _ (a m : List ℕ) (fine : fatal (sectored n L) (erasures m) ≡ false)
+      (before : Turn) (ts : List Turn) (s : Shape a m before ts) where
     abbrev done : ℕ
     done = k * s .early
 
     -- The survivors fit: the last turn makes what is left of the repairs.
-    module _ (fits : consistent L x (rebuilt L x a (planOf L m)) ≡ true) where
-      at-last : lastOf before ts ≡ repairsMade L f x (arrayAt a m fine done) (mapAt a m fine done) (drop done (planOf L m))
+    module _ (fits : consistent (sectored n L) x (rebuilt (sectored n L) x a (planOf n L m)) ≡ true) where
+      at-last : lastOf before ts ≡ repairsMade n L f x (arrayAt a m fine done) (mapAt a m fine done) (drop done (planOf n L m))
       at-last =
-          s .last ∙ restoring (arrayAt a m fine done) (mapAt a m fine done) (still-fine a m fine done) (ap (consistent L x) (same-end a m fine done) ∙ fits)
-          ∙ ap (repairsMade L f x (arrayAt a m fine done) (mapAt a m fine done)) (rest a m fine done)
+          s .last
+          ∙ restoring (arrayAt a m fine done) (mapAt a m fine done) (still-fine a m fine done)
+          (ap (consistent (sectored n L) x) (same-end a m fine done) ∙ fits)
+          ∙ ap (repairsMade n L f x (arrayAt a m fine done) (mapAt a m fine done)) (rest a m fine done)
 
-      pub last-made : lastOf before ts .answer ≡ Repairs (length (planOf L m) - done)
+      pub last-made : lastOf before ts .answer ≡ Repairs (length (planOf n L m) - done)
       unfolding repairsMade
-      last-made = ap (λ (t : Turn). t .answer) at-last ∙ ap Repairs (length-drop done (planOf L m))
+      last-made = ap (λ (t : Turn). t .answer) at-last ∙ ap Repairs (length-drop done (planOf n L m))
 
-      pub array-restored : lastOf before ts .array ≡ rebuilt L x a (planOf L m)
+      pub array-restored : lastOf before ts .array ≡ rebuilt (sectored n L) x a (planOf n L m)
       unfolding repairsMade
       array-restored = ap (λ (t : Turn). t .array) at-last ∙ same-array a m fine done
 
-      pub map-cleared : lastOf before ts .map ≡ mapAfter m (planOf L m)
+      pub map-cleared : lastOf before ts .map ≡ mapAfter m (planOf n L m)
       unfolding repairsMade
       map-cleared = ap (λ (t : Turn). t .map) at-last ∙ same-map a m fine done
 
       -- That is what a rebuild without turns leaves.
-      pub as-whole : (lastOf before ts .array ≡ wholeRebuild L f x a m .array) × (lastOf before ts .map ≡ wholeRebuild L f x a m .map)
+      pub as-whole : (lastOf before ts .array ≡ wholeRebuild n L f x a m .array) × (lastOf before ts .map ≡ wholeRebuild n L f x a m .map)
       unfolding repairsMade
       as-whole = (
         array-restored ∙ sym (ap (λ (t : Turn). t .array) (restoring a m fine fits)),
         map-cleared ∙ sym (ap (λ (t : Turn). t .map) (restoring a m fine fits)),
       )
 
-      pub all-made : madeBy ts ≡ length (planOf L m)
+      pub all-made : madeBy ts ≡ length (planOf n L m)
       unfolding repairsMade repairCount
       all-made =
           let room = s .room in
-          let rest : repairCount (lastOf before ts .answer) ≡ length (planOf L m) - done =
-          ap (λ (t : Turn). repairCount (t .answer)) at-last ∙ length-drop done (planOf L m) in
+          let rest : repairCount (lastOf before ts .answer) ≡ length (planOf n L m) - done =
+          ap (λ (t : Turn). repairCount (t .answer)) at-last ∙ length-drop done (planOf n L m) in
           let made = s .made in
           omega arith
 
     -- They contradict each other: the last turn undoes itself.
-    module _ (unfit : consistent L x (rebuilt L x a (planOf L m)) ≡ false) where
-      pub undone : lastOf before ts ≡ contradiction f x (arrayAt a m fine done) (mapAt a m fine done)
+    module _ (unfit : consistent (sectored n L) x (rebuilt (sectored n L) x a (planOf n L m)) ≡ false) where
+      pub undone : lastOf before ts ≡ contradiction n f x (arrayAt a m fine done) (mapAt a m fine done)
       undone =
-          s .last ∙ undoing (arrayAt a m fine done) (mapAt a m fine done) (still-fine a m fine done) (ap (consistent L x) (same-end a m fine done) ∙ unfit)
+          s .last
+          ∙ undoing (arrayAt a m fine done) (mapAt a m fine done) (still-fine a m fine done)
+          (ap (consistent (sectored n L) x) (same-end a m fine done) ∙ unfit)
 
       pub made-before : madeBy ts ≡ done
       unfolding contradiction repairCount
@@ -322,8 +368,8 @@ rounded-up n k j above below =
     let small : n - j * k - 1 < k = omega arith in
     rw (ne-eqb n 0 (λ e. omega arith)) (ap (λ (i : ℕ). i / k) split ∙ digits-div (suc j) small)
 
-module _ (f : Format) (k : ℕ) (some : 0 < k) (ending : List Entry → List ℕ) where
-  turns-between : (w : List Entry) (ss : List (List ℕ)) → InTurns f k ending w ss → 0 < length w
+module _ (n : ℕ) (f : Format) (k : ℕ) (some : 0 < k) (ending : List Entry → List ℕ) where
+  turns-between : (w : List Entry) (ss : List (List ℕ)) → InTurns n f k ending w ss → 0 < length w
       → (j : ℕ) × (length ss ≡ suc j) × (j * k < length w) × (length w ≤ j * k + k)
   turns-between w [] h l = absurd h
   turns-between w (s ∷ []) h l = let few = h .1 in (0, refl, omega (arith, zero-mul k), omega (arith, zero-mul k))
@@ -333,13 +379,13 @@ module _ (f : Format) (k : ℕ) (some : 0 < k) (ending : List Entry → List ℕ
       (suc j, ap suc number, omega (arith, suc-mul j k), omega (arith, suc-mul j k))
 
   -- An empty list takes one turn.
-  turns-none : (w : List Entry) (ss : List (List ℕ)) → InTurns f k ending w ss → length w ≡ 0 → length ss ≡ 1
+  turns-none : (w : List Entry) (ss : List (List ℕ)) → InTurns n f k ending w ss → length w ≡ 0 → length ss ≡ 1
   turns-none w [] h e = absurd h
   turns-none w (s ∷ []) h e = refl
   turns-none w (s ∷ (t ∷ ss)) (is, many, h) e = absurd (omega arith)
 
   -- So many turns are made: as many as the repairs take.
-  pub turns-number : (w : List Entry) (ss : List (List ℕ)) → InTurns f k ending w ss → length ss ≡ turnsFor (length w) k
+  pub turns-number : (w : List Entry) (ss : List (List ℕ)) → InTurns n f k ending w ss → length ss ≡ turnsFor (length w) k
   unfolding turnsFor
   turns-number w ss h =
       ⊎-elim

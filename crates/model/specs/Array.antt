@@ -5,11 +5,12 @@ use mathlib.Core.List.{List, [], _∷_, _++_}
 use Prim.Native.Nat.{ℕ, _*_, _/_, _%_}
 use lib.Dec.{eqb, ltb}
 use lib.ListN.{length, getD}
-use Rattle.stripes.specs.Fold.{_⊕_, xsum, lowest}
+use Rattle.stripes.specs.Fold.{_⊕_, xsum, every, lowest}
 use Rattle.stripes.specs.System.{whole, byte, sumsToZero}
-use Rattle.model.specs.Grid.{rows, columns, across, layoutOf, columnBase, disks, diskAt, isData, arrayOf, mapFits}
+use Rattle.stripes.specs.Sectors.{sectorAt}
+use Rattle.model.specs.Grid.{rows, columns, across, layoutOf, columnBase, disks, diskAt, isData, arrayOf, mapBytes, mapFits}
 use Rattle.model.specs.Equations.{rowData, columnData}
-use Rattle.model.specs.Refusal.{Test, _unless_, refusal, arrayTests}
+use Rattle.model.specs.Refusal.{Test, _unless_, refusal, arrayTests, sectorTests}
 use Rattle.model.specs.declared.Size.{Size}
 use Rattle.model.specs.declared.Checked.{Checked}
 use Rattle.model.specs.declared.Checked.the-variants.{Sealed, Unsealed, Refused}
@@ -94,15 +95,20 @@ writeArray z B a d new = cond (eqb (writeStatus z B a d new) 0) (written z B a d
 
 -- ---- Look
 
--- Nothing is wrong with the arguments, and the disk is present.
-unfoldable pub canLook : Size → ℕ → List ℕ → List ℕ → ℕ → Bool
-canLook z B a m d =
-    eqb (refusal (arrayTests z B (length a))) 0 && (mapFits z m && (ltb d (disks z) && eqb (getD m d 0) 0))
+-- All n sectors of disk d are present.
+unfoldable pub allPresent : (n : ℕ) → List ℕ → ℕ → Bool
+allPresent n m d = every n (λ p. eqb (getD m (sectorAt n p d) 0) 0)
+
+-- Nothing is wrong with the arguments, and the disk is present, with all its sectors of w bytes.
+unfoldable pub canLook : Size → (B w : ℕ) → (a m : List ℕ) → ℕ → Bool
+canLook z B w a m d =
+    eqb (refusal (sectorTests z B (length a) w)) 0
+    && (mapFits (mapBytes z (B / w)) m && (ltb d (disks z) && allPresent (B / w) m d))
 
 -- Where the part that look hands back begins in the array, and its length: the block, or an empty part. For an empty part the
 -- place is what the caller gives as `before`: 0, the array's start, or what stood in the place for a number.
-unfoldable pub lookOffset : Size → ℕ → List ℕ → List ℕ → (d before : ℕ) → ℕ
-lookOffset z B a m d before = cond (canLook z B a m d) (d * B) before
+unfoldable pub lookOffset : Size → (B w : ℕ) → (a m : List ℕ) → (d before : ℕ) → ℕ
+lookOffset z B w a m d before = cond (canLook z B w a m d) (d * B) before
 
-unfoldable pub lookLength : Size → ℕ → List ℕ → List ℕ → ℕ → ℕ
-lookLength z B a m d = cond (canLook z B a m d) B 0
+unfoldable pub lookLength : Size → (B w : ℕ) → (a m : List ℕ) → ℕ → ℕ
+lookLength z B w a m d = cond (canLook z B w a m d) B 0

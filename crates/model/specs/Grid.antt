@@ -76,9 +76,21 @@ sizeFits z = sideFits (rows z) && sideFits (columns z)
 unfoldable pub blockFits : ℕ → Bool
 blockFits B = leb 1 B && leb B 4096
 
--- What refusal 4 tests: a map has a byte for each disk, 0 present, 1 erased (paper 01: marked).
-unfoldable pub mapFits : Size → List ℕ → Bool
-mapFits z m = eqb (length m) (disks z) && every (length m) (λ d. leb (getD m d 0) 1)
+-- What refusal 16 tests (paper 02, P6): a sector has bytes, and their number divides that of a block; or where the number of sectors is
+-- given, it is 1 to 4,096.
+unfoldable pub sectorFits : (B w : ℕ) → Bool
+sectorFits B w = leb 1 w && eqb (B % w) 0
+
+unfoldable pub sectorsFit : ℕ → Bool
+sectorsFit n = leb 1 n && leb n 4096
+
+-- The bytes of a map: one for each disk, or one for each of the n sectors of every disk.
+unfoldable pub mapBytes : Size → (n : ℕ) → ℕ
+mapBytes z n = disks z * n
+
+-- What refusal 4 tests: a map has so many bytes, each 0, present, or 1, erased (paper 01: marked).
+unfoldable pub mapFits : (len : ℕ) → List ℕ → Bool
+mapFits len m = eqb (length m) len && every (length m) (λ d. leb (getD m d 0) 1)
 
 -- What C is told of a size: its disks and the bytes of its array, 0 where a number is out of range. No array has 0 of either.
 unfoldable pub disksOrZero : Size → ℕ

@@ -16,3 +16,4 @@ pub mod Save
 pub mod Demand2
 pub mod Demand3
 pub mod PlanDisk
+pub mod Single

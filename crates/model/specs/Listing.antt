@@ -11,7 +11,7 @@ use Rattle.stripes.specs.Cycle.{shownCycle}
 use Rattle.model.specs.Grid.{rectangle}
 use Rattle.model.specs.Refusal.{refusal}
 use Rattle.model.specs.Sheet.{narrow, sheetBytes}
-use Rattle.model.specs.Plan.{planTests, sheetLayout}
+use Rattle.model.specs.Plan.{oneTests, sheetLayout}
 use Rattle.model.specs.declared.Size.{Size}
 
 -- A decimal digit as a character, and a number below 1000 in decimal.
@@ -49,7 +49,7 @@ unfoldable pub listing : List ℕ → List ℕ
 listing input =
     let z : Size = rectangle (getD input 0 0) (getD input 1 0) in
     let m : List ℕ = drop 2 input in
-    let k : ℕ = refusal (planTests z m (sheetBytes narrow)) in
+    let k : ℕ = refusal (oneTests z m (sheetBytes narrow)) in
     cond (eqb k 0)
     (cond (fatal (sheetLayout z) (erasures m)) (listed fatalWord (shownCycle (sheetLayout z) (erasures m)))
     (listed repairWord (repairs (sheetLayout z) (erasures m))))

@@ -16,7 +16,7 @@ use Rattle.stripes.specs.declared.Stretch.{Stretch}
 use Rattle.model.specs.Grid.{disks}
 use Rattle.model.specs.Refusal.{Test, _unless_, refusal}
 use Rattle.model.specs.Sheet.{Format, narrow, sheetOf}
-use Rattle.model.specs.Plan.{planTests, sheetLayout, lossOutcome, lossSheet, outcomeStatus}
+use Rattle.model.specs.Plan.{oneTests, sheetLayout, lossOutcome, lossSheets, outcomeStatus}
 use Rattle.model.specs.Edition.{Edition}
 use Rattle.model.specs.Demand3.{Planned}
 use Rattle.model.specs.declared.Size.{Size}
@@ -28,15 +28,15 @@ unfoldable pub canBeWanted : Size → List ℕ → ℕ → Bool
 canBeWanted z m d = ltb d (disks z) && erasures m d
 
 unfoldable pub planDiskTests : Size → List ℕ → (len d : ℕ) → List Test
-planDiskTests z m len d = planTests z m len ++ (15 unless canBeWanted z m d ∷ [])
+planDiskTests z m len d = oneTests z m len ++ (15 unless canBeWanted z m d ∷ [])
 
 -- What the loss of the disks e means for disk d, and the sheet that says so. Plan's order leaves the disk exactly if no list of allowed
 -- repairs reaches it. Then answer and sheet are plan's for the whole loss, else they are those of the list for the disk.
 unfoldable pub diskOutcome : Layout → (ℕ → Bool) → ℕ → Outcome
-diskOutcome L e d = cond (residual L e d) (lossOutcome L e) (Repairs (length (wantedRepairs L e d)))
+diskOutcome L e d = cond (residual L e d) (lossOutcome 1 L e) (Repairs (length (wantedRepairs L e d)))
 
 unfoldable pub diskSheet : Layout → Format → (ℕ → Bool) → ℕ → List ℕ
-diskSheet L f e d = cond (residual L e d) (lossSheet L f e) (sheetOf f (f .repairKind) (wantedRepairs L e d))
+diskSheet L f e d = cond (residual L e d) (lossSheets 1 L f e) (sheetOf f (f .repairKind) (wantedRepairs L e d))
 
 -- What the plan for a disk answers, and the sheet after it.
 unfoldable pub planDiskOutcome : Size → (m sheet : List ℕ) → (d : ℕ) → Outcome
@@ -67,7 +67,7 @@ pub record WantedList (L : Layout) (e : ℕ → Bool) (d : ℕ) (w : List Entry)
 -- The loss is that of the disks e, and what plan answers and leaves in its sheet is beside it.
 pub record DiskDemand (E : Edition) (f : Format) (e : ℕ → Bool) (d : ℕ) (planned : Outcome) (plansSheet : List ℕ)
     (answer : Outcome) (sheet : List ℕ) : Type 0 where
-  pub plan : Planned E f e planned plansSheet
+  pub plan : Planned 1 E f e planned plansSheet
   -- It is refused by 6 exactly if no list of allowed repairs reaches the disk. Then count and loop are plan's.
   pub unreached : (outcomeStatus answer ≡ 6) ↔ (Reached (E .layout) e d → ⊥)
   pub asPlan : outcomeStatus answer ≡ 6 → (answer ≡ planned) × (sheet ≡ plansSheet)

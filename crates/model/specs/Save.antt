@@ -5,7 +5,7 @@ use mathlib.Core.Path.{_≡_}
 use mathlib.Core.Bool.{cond}
 use mathlib.Core.Logic.{_↔_}
 use mathlib.Core.List.{List, [], _∷_, _++_}
-use Prim.Native.Nat.{ℕ, _+_, _≤_, _<_}
+use Prim.Native.Nat.{ℕ, _+_, _*_, _/_, _≤_, _<_}
 use lib.Dec.{eqb}
 use lib.ListN.{length}
 use Rattle.stripes.specs.Fold.{count}
@@ -13,8 +13,9 @@ use Rattle.stripes.specs.System.{Layout, whole, byte, Codeword}
 use Rattle.stripes.specs.Erased.{erasures, Agree, Belongs, Ambiguous, AmbiguousIn, LostCount}
 use Rattle.stripes.specs.Repair.{zeroed}
 use Rattle.stripes.specs.Undetermined.{determined, partsCancel, saved}
-use Rattle.model.specs.Grid.{layoutOf, columnBase, mapFits}
-use Rattle.model.specs.Refusal.{Test, _unless_, refusal, arrayTests}
+use Rattle.stripes.specs.Sectors.{sectored, atPosition}
+use Rattle.model.specs.Grid.{layoutOf, columnBase, mapBytes, mapFits}
+use Rattle.model.specs.Refusal.{Test, _unless_, refusal, sectorTests}
 use Rattle.model.specs.Plan.{outcomeStatus, outcomeCount}
 use Rattle.model.specs.Turn.{Turn}
 use Rattle.model.specs.Edition.{Edition}
@@ -22,31 +23,34 @@ use Rattle.model.specs.declared.Size.{Size}
 use Rattle.model.specs.declared.Saving.{Saving}
 use Rattle.model.specs.declared.Saving.the-variants.{Saved, Refused}
 
--- Save takes no sheet: stripes are numbered as check numbers them.
-abbrev pub saveLayout : Size → Layout
-saveLayout z = layoutOf z (columnBase z)
+-- Save takes no sheet: stripes are numbered as check numbers them. Every sector is saved or not by itself, so that only the stripe system of
+-- the sectors is spoken of: n to a block.
+abbrev pub saveLayout : Size → (n : ℕ) → Layout
+saveLayout z n = sectored n (layoutOf z (columnBase z))
 
--- The tests of the size, the block, the array and the map.
-unfoldable pub mapTests : Size → (B arrayLen : ℕ) → List ℕ → List Test
-mapTests z B arrayLen m = arrayTests z B arrayLen ++ (4 unless mapFits z m ∷ [])
+-- The tests of the size, the block, the array, the sectors and the map.
+unfoldable pub mapTests : Size → (B w arrayLen : ℕ) → List ℕ → List Test
+mapTests z B w arrayLen m = sectorTests z B arrayLen w ++ (4 unless mapFits (mapBytes z (B / w)) m ∷ [])
 
--- Save tests the survivors, besides. That too comes before any block is changed.
-unfoldable pub saveTests : Size → ℕ → (a m : List ℕ) → List Test
-saveTests z B a m = mapTests z B (length a) m ++ (7 unless partsCancel (saveLayout z) (whole B) (erasures m) a ∷ [])
+-- Save tests the survivors, besides, at all positions. That too comes before any block is changed.
+unfoldable pub saveTests : Size → (B w : ℕ) → (a m : List ℕ) → List Test
+saveTests z B w a m =
+    mapTests z B w (length a) m ++ (7 unless partsCancel (saveLayout z (B / w)) (whole w) (erasures m) a ∷ [])
 
-unfoldable pub saveStatus : Size → ℕ → (a m : List ℕ) → ℕ
-saveStatus z B a m = refusal (saveTests z B a m)
+unfoldable pub saveStatus : Size → (B w : ℕ) → (a m : List ℕ) → ℕ
+saveStatus z B w a m = refusal (saveTests z B w a m)
 
--- What save answers, and the array after it: determined disks saved, for 7 with zeros on all erased disks, else as it was.
-unfoldable pub saveAnswer : Size → ℕ → (a m : List ℕ) → Saving
-saveAnswer z B a m =
-    cond (eqb (saveStatus z B a m) 0) (Saved (count (saveLayout z .disks) (determined (saveLayout z) (erasures m))))
-    (Refused (saveStatus z B a m))
+-- What save answers, and the array after it: determined sectors saved, for 7 with zeros in all erased sectors, else as it was.
+unfoldable pub saveAnswer : Size → (B w : ℕ) → (a m : List ℕ) → Saving
+saveAnswer z B w a m =
+    cond (eqb (saveStatus z B w a m) 0)
+    (Saved (count (saveLayout z (B / w) .disks) (determined (saveLayout z (B / w)) (erasures m))))
+    (Refused (saveStatus z B w a m))
 
-unfoldable pub saveArray : Size → ℕ → (a m : List ℕ) → List ℕ
-saveArray z B a m =
-    cond (eqb (saveStatus z B a m) 0) (saved (saveLayout z) (whole B) a (erasures m))
-    (cond (eqb (saveStatus z B a m) 7) (zeroed (whole B) a (erasures m)) a)
+unfoldable pub saveArray : Size → (B w : ℕ) → (a m : List ℕ) → List ℕ
+saveArray z B w a m =
+    cond (eqb (saveStatus z B w a m) 0) (saved (saveLayout z (B / w)) (whole w) a (erasures m))
+    (cond (eqb (saveStatus z B w a m) 7) (zeroed (whole w) a (erasures m)) a)
 
 -- The number of an answer, 0 where disks were saved, and the count that it carries, else what stood there before.
 unfoldable pub savingStatus : Saving → ℕ
@@ -65,25 +69,32 @@ AsTurn answer array t =
 
 -- ---- What it promises, over any edition of the array, where the refusals before 7 let the input through
 
-pub record SaveDemand (E : Edition) (B : ℕ) (a m : List ℕ) (answer : Saving) (array : List ℕ) : Type 0 where
-  -- Contradictory survivors get 7, and no others; then all erased blocks are zero.
-  pub accepted : (savingStatus answer ≡ 0) ↔ Belongs (E .layout) (whole B) (erasures m) a
-  pub contradicted : (savingStatus answer ≡ 7) ↔ (Belongs (E .layout) (whole B) (erasures m) a → ⊥)
-  pub zeros : savingStatus answer ≡ 7 → array ≡ zeroed (whole B) a (erasures m)
-  -- Otherwise every disk that is not lost has the bytes of the sealed array that the survivors belong to, of each such array, and
-  -- every lost disk has the bytes that it had.
+-- Blocks have n sectors of w bytes. The edition is that of the array at each position.
+pub record SaveDemand (E : Edition) (n w : ℕ) (a m : List ℕ) (answer : Saving) (array : List ℕ) : Type 0 where
+  -- An array is sealed sector by sector exactly if it is sealed.
+  pub sealed : (b : List ℕ) → Codeword (sectored n (E .layout)) (whole w) b ↔ Codeword (E .layout) (whole (n * w)) b
+  -- Contradictory survivors get 7, and no others; then all erased sectors are zero.
+  pub accepted : (savingStatus answer ≡ 0) ↔ Belongs (sectored n (E .layout)) (whole w) (erasures m) a
+  pub contradicted : (savingStatus answer ≡ 7) ↔ (Belongs (sectored n (E .layout)) (whole w) (erasures m) a → ⊥)
+  pub zeros : savingStatus answer ≡ 7 → array ≡ zeroed (whole w) a (erasures m)
+  -- Otherwise every sector that is not lost has the bytes of the sealed array that the survivors belong to, of each such array, and
+  -- every lost sector has the bytes that it had.
   pub sized : length array ≡ length a
-  pub savedBytes : (b : List ℕ) → Codeword (E .layout) (whole B) b → Agree (E .layout) (whole B) (erasures m) a b
-      → (d : ℕ) → d < E .layout .disks → (AmbiguousIn (E .layout) (whole B) (erasures m) d → ⊥)
-      → (p : ℕ) → p < B → byte (whole B) array d p ≡ byte (whole B) b d p
-  pub keptBytes : savingStatus answer ≡ 0 → (d : ℕ) → d < E .layout .disks → AmbiguousIn (E .layout) (whole B) (erasures m) d
-      → (p : ℕ) → p < B → byte (whole B) array d p ≡ byte (whole B) a d p
-  -- The answer is how many erased disks are not lost.
+  pub savedBytes : (b : List ℕ) → Codeword (sectored n (E .layout)) (whole w) b → Agree (sectored n (E .layout)) (whole w) (erasures m) a b
+      → (i : ℕ) → i < sectored n (E .layout) .disks → (AmbiguousIn (sectored n (E .layout)) (whole w) (erasures m) i → ⊥)
+      → (q : ℕ) → q < w → byte (whole w) array i q ≡ byte (whole w) b i q
+  pub keptBytes : savingStatus answer ≡ 0
+      → (i : ℕ) → i < sectored n (E .layout) .disks → AmbiguousIn (sectored n (E .layout)) (whole w) (erasures m) i
+      → (q : ℕ) → q < w → byte (whole w) array i q ≡ byte (whole w) a i q
+  -- The answer is how many erased sectors are not lost.
   pub number : savingStatus answer ≡ 0
-      → (c : ℕ) × (n : ℕ) × (answer ≡ Saved c) × LostCount (E .layout) (whole B) (erasures m) n
-      × (c + n ≡ count (E .layout .disks) (erasures m))
-  -- Where no two different sealed arrays agree on the survivors, the whole array is restored, and so is a loss of few disks.
-  pub restored : (Ambiguous (E .layout) (whole B) (erasures m) → ⊥) → (b : List ℕ) → Codeword (E .layout) (whole B) b
-      → Agree (E .layout) (whole B) (erasures m) a b → (answer ≡ Saved (count (E .layout .disks) (erasures m))) × (array ≡ b)
-  pub few : count (E .layout .disks) (erasures m) ≤ E .always → (b : List ℕ) → Codeword (E .layout) (whole B) b
-      → Agree (E .layout) (whole B) (erasures m) a b → (answer ≡ Saved (count (E .layout .disks) (erasures m))) × (array ≡ b)
+      → (c : ℕ) × (l : ℕ) × (answer ≡ Saved c) × LostCount (sectored n (E .layout)) (whole w) (erasures m) l
+      × (c + l ≡ count (sectored n (E .layout) .disks) (erasures m))
+  -- Where no two different sealed arrays agree on the survivors, the whole array is restored, and so is a loss of few disks at each
+  -- position.
+  pub restored : (Ambiguous (sectored n (E .layout)) (whole w) (erasures m) → ⊥)
+      → (b : List ℕ) → Codeword (sectored n (E .layout)) (whole w) b → Agree (sectored n (E .layout)) (whole w) (erasures m) a b
+      → (answer ≡ Saved (count (sectored n (E .layout) .disks) (erasures m))) × (array ≡ b)
+  pub few : ((p : ℕ) → p < n → count (E .layout .disks) (atPosition n p (erasures m)) ≤ E .always)
+      → (b : List ℕ) → Codeword (sectored n (E .layout)) (whole w) b → Agree (sectored n (E .layout)) (whole w) (erasures m) a b
+      → (answer ≡ Saved (count (sectored n (E .layout) .disks) (erasures m))) × (array ≡ b)

@@ -7,6 +7,7 @@ use lib.ListN.{length, getD, take, drop}
 use Rattle.stripes.specs.Fold.{tabulate}
 use Rattle.stripes.specs.System.{Bytes}
 use Rattle.stripes.specs.Repair.{Entry, diskOf, stripeOf}
+use Rattle.stripes.specs.Sectors.{ofPosition}
 
 -- What sheets differ in: how many records they have, in how many bytes a record has its disk, the numbers of the two kinds,
 -- repairs and loop, and the stripe that column 0 is.
@@ -55,12 +56,36 @@ sheetOf f kind rs = tabulate (sheetBytes f) (λ i. getD (kind ∷ chainBytes f 1
 unfoldable pub blankSheet : Format → List ℕ
 blankSheet f = tabulate (sheetBytes f) (λ i. 0)
 
--- The first n of the sheets that stand one after another in a buffer.
-unfoldable pub sheetsIn : Format → (n : ℕ) → List ℕ → List (List ℕ)
-sheetsIn f zero s = []
-sheetsIn f (suc n) s = take (sheetBytes f) s ∷ sheetsIn f n (drop (sheetBytes f) s)
+-- ---- A sheet for each position (paper 02, P6)
 
--- A sheet in paper 01's words. A list fits if it has at most as many entries as the format has records, and its numbers and the
+-- n sheets, one after another.
+unfoldable pub sheetsOf : (n : ℕ) → (sheet : ℕ → List ℕ) → List ℕ
+sheetsOf zero sheet = []
+sheetsOf (suc n) sheet = sheetsOf n sheet ++ sheet n
+
+abbrev pub sheetsBytes : Format → (n : ℕ) → ℕ
+sheetsBytes f n = sheetBytes f * n
+
+-- The sheet of position p, where sheets stand one after another.
+unfoldable pub sheetAt : Format → (p : ℕ) → List ℕ → List ℕ
+sheetAt f p s = take (sheetBytes f) (drop (sheetBytes f * p) s)
+
+-- The sheets of a list of repairs of sectors: each lists those at its position.
+unfoldable pub repairSheets : Format → (n : ℕ) → List Entry → List ℕ
+repairSheets f n w = sheetsOf n (λ p. sheetOf f (f .repairKind) (ofPosition n p w))
+
+-- Sheets of zeros.
+unfoldable pub blankSheets : Format → (n : ℕ) → List ℕ
+blankSheets f n = sheetsOf n (λ p. blankSheet f)
+
+-- The first k parts of a buffer, each of so many bytes, one after another: the sheets of k turns.
+unfoldable pub partsIn : (bytes k : ℕ) → List ℕ → List (List ℕ)
+partsIn bytes zero s = []
+partsIn bytes (suc k) s = take bytes s ∷ partsIn bytes k (drop bytes s)
+
+-- ---- A sheet in words
+
+-- In paper 01's words. A list fits if it has at most as many entries as the format has records, and its numbers and the
 -- kind fit their bytes; then bytes are its sheet exactly if this holds of them.
 pub record SheetBytes (f : Format) (kind : ℕ) (w : List Entry) (s : List ℕ) : Type 0 where
   -- Byte 0 is the kind, byte 1 the number of the first record, 0 for none.

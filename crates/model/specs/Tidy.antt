@@ -2,12 +2,12 @@
 -- Assumes nothing.
 use mathlib.Core.Path.{_≡_}
 use mathlib.Core.Bool.{cond}
-use mathlib.Core.List.{List, _∷_}
-use Prim.Native.Nat.{ℕ}
+use mathlib.Core.List.{List, _∷_, _++_}
+use Prim.Native.Nat.{ℕ, _*_, _/_}
 use lib.Dec.{eqb}
-use lib.ListN.{length}
+use lib.ListN.{length, drop}
 use Rattle.model.specs.Refusal.{Test, _unless_, refusal}
-use Rattle.model.specs.Sheet.{Format, sheetBytes, sheetOf, SheetBytes}
+use Rattle.model.specs.Sheet.{Format, sheetBytes, sheetsOf, sheetOf, sheetAt, SheetBytes}
 use Rattle.model.specs.Chain.{chainTests, cleanRefusal, chainEntries}
 
 unfoldable pub tidyTests : Format → List ℕ → List Test
@@ -40,3 +40,9 @@ pub record TidyDemand (f : Format) (s t : List ℕ) : Type 0 where
   pub stays : tidySheet f t ≡ t
   -- and 10, 13 and 14 let it through.
   pub clean : cleanRefusal f t ≡ 0
+
+-- The sheets that stand one after another in a buffer, each as the call leaves it. What is behind the last whole sheet stays.
+unfoldable pub tidySheets : Format → List ℕ → List ℕ
+tidySheets f s =
+    let n : ℕ = length s / sheetBytes f in
+    sheetsOf n (λ p. tidySheet f (sheetAt f p s)) ++ drop (sheetBytes f * n) s

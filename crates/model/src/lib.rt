@@ -21,15 +21,16 @@ pub enum Checked {
 pub enum Outcome {
     // The number of repairs.
     Repairs(usize),
-    // The loss is fatal, and no repair reaches the wanted disk, if there is one; the number of undetermined disks (paper 02: lost cards).
-    Fatal(usize),
+    // The loss is fatal, and no repair reaches the wanted disk, if there is one; the lowest position at which it is fatal, and the number of
+    // undetermined disks there (paper 02: lost cards). Without sectors there is one position, 0.
+    Fatal { lost: usize, position: usize },
     // A refusal by its number.
     Refused(u32),
 }
 
 // What save answers. It never calls a loss fatal.
 pub enum Saving {
-    // The number of disks that were saved.
+    // The number of sectors that were saved; without sectors, of disks.
     Saved(usize),
     // A refusal by its number.
     Refused(u32),

@@ -1,1 +1,4 @@
 pub mod Answers
+pub mod Put
+pub mod Begun
+pub mod Noted

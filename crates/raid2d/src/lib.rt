@@ -6,7 +6,7 @@ ghost use Rattle.model.specs.Grid.{rectangle, disksOrZero, arrayBytesOrZero};
 ghost use Rattle.model.specs.Sheet.{narrow};
 ghost use Rattle.model.specs.Chain.{kindOf, firstNumber, entryAt, nextNumber, ifRecord};
 ghost use Rattle.model.specs.Array.{sealStatus, sealArray, checked, checkStatus, checkStripe, writeStatus, writeArray, lookLength, lookOffset};
-ghost use Rattle.model.specs.Plan.{planOutcome, planSheet, outcomeStatus, outcomeCount};
+ghost use Rattle.model.specs.Plan.{planOutcome, planSheets, outcomeStatus, outcomeCount, outcomePosition};
 ghost use Rattle.model.specs.PlanDisk.{planDiskOutcome, planDiskSheet};
 ghost use Rattle.model.specs.Rebuild.{rebuildTurn};
 ghost use Rattle.model.specs.Follow.{followOutcome, followArray};
@@ -20,12 +20,12 @@ use model::Size;
 // The version of the library: 10000 times the major number, 100 times the minor number, and the patch.
 #[no_mangle]
 pub extern "C" fn raid2d_version_number() -> u32
-    ensures { λ r. ⌜ r ≡ 900 ⌝ }
+    ensures { λ r. ⌜ r ≡ 1000 ⌝ }
 {
-    900
+    1000
 }
 
-// The lengths of a map and of an array.
+// The number of disks, which is the length of a map without sectors, and the length of an array.
 #[no_mangle]
 pub extern "C" fn raid2d_disks(rows: usize, columns: usize) -> usize
     ensures { λ r. ⌜ r ≡ disksOrZero (rectangle rows columns) ⌝ }
@@ -131,17 +131,18 @@ pub extern "C" fn raid2d_look(
     columns: usize,
     block: usize,
     array: &[u8],
+    sector: usize,
     map: &[u8],
     disk: usize,
     offset: &mut usize,
 ) -> usize
-    ensures length { λ r. ⌜ r ≡ lookLength (rectangle rows columns) block (now (array .entry)) (now (map .entry)) disk ⌝ }
+    ensures length { λ r. ⌜ r ≡ lookLength (rectangle rows columns) block sector (now (array .entry)) (now (map .entry)) disk ⌝ }
     ensures offset { λ r. ⌜
         now (offset .exit)
-        ≡ lookOffset (rectangle rows columns) block (now (array .entry)) (now (map .entry)) disk (now (offset .entry))
+        ≡ lookOffset (rectangle rows columns) block sector (now (array .entry)) (now (map .entry)) disk (now (offset .entry))
         ⌝ }
 {
-    let part = look::look(Size { rows, columns }, block, array, map, disk);
+    let part = look::look(Size { rows, columns }, block, array, sector, map, disk);
     let len = part.len();
     if len == 0 {
         return 0;
@@ -150,41 +151,63 @@ pub extern "C" fn raid2d_look(
     len
 }
 
-// The number of an outcome; its count goes to `count`, if it has one.
-fn report(answer: Outcome, count: &mut usize) -> u32
+// The number of an outcome; its count goes to `count`, if it has one, and the position that it names to `position`.
+fn report(answer: Outcome, count: &mut usize, position: &mut usize) -> u32
     ensures status { λ r. ⌜ r ≡ outcomeStatus answer ⌝ }
     ensures count { λ r. ⌜ now (count .exit) ≡ outcomeCount answer (now (count .entry)) ⌝ }
+    ensures position { λ r. ⌜ now (position .exit) ≡ outcomePosition answer (now (position .entry)) ⌝ }
 {
     match answer {
         Outcome::Repairs(number) => {
             *count = number;
             0
         }
-        Outcome::Fatal(lost) => {
+        Outcome::Fatal { lost, position: at } => {
             *count = lost;
+            *position = at;
             6
         }
         Outcome::Refused(status) => status,
     }
 }
 
+// The same where there is one position.
+fn report_one(answer: Outcome, count: &mut usize) -> u32
+    ensures status { λ r. ⌜ r ≡ outcomeStatus answer ⌝ }
+    ensures count { λ r. ⌜ now (count .exit) ≡ outcomeCount answer (now (count .entry)) ⌝ }
+{
+    let mut position = 0;
+    report(answer, count, &mut position)
+}
+
 #[no_mangle]
 pub extern "C" fn raid2d_plan(
     rows: usize,
     columns: usize,
+    sectors: usize,
     map: &[u8],
-    sheet: &mut [u8],
+    sheets: &mut [u8],
     count: &mut usize,
+    position: &mut usize,
 ) -> u32
-    ensures status { λ r. ⌜ r ≡ outcomeStatus (planOutcome (rectangle rows columns) (now (map .entry)) (now (sheet .entry))) ⌝ }
-    ensures sheet { λ r. ⌜ now (sheet .exit) ≡ planSheet (rectangle rows columns) (now (map .entry)) (now (sheet .entry)) ⌝ }
+    ensures status { λ r. ⌜
+        r ≡ outcomeStatus (planOutcome (rectangle rows columns) sectors (now (map .entry)) (now (sheets .entry)))
+        ⌝ }
+    ensures sheets { λ r. ⌜
+        now (sheets .exit) ≡ planSheets (rectangle rows columns) sectors (now (map .entry)) (now (sheets .entry))
+        ⌝ }
     ensures count { λ r. ⌜
         now (count .exit)
-        ≡ outcomeCount (planOutcome (rectangle rows columns) (now (map .entry)) (now (sheet .entry))) (now (count .entry))
+        ≡ outcomeCount (planOutcome (rectangle rows columns) sectors (now (map .entry)) (now (sheets .entry))) (now (count .entry))
+        ⌝ }
+    ensures position { λ r. ⌜
+        now (position .exit)
+        ≡ outcomePosition (planOutcome (rectangle rows columns) sectors (now (map .entry)) (now (sheets .entry)))
+        (now (position .entry))
         ⌝ }
 {
-    let answer = plan::plan(Size { rows, columns }, map, sheet);
-    report(answer, count)
+    let answer = plan::plan(Size { rows, columns }, sectors, map, sheets);
+    report(answer, count, position)
 }
 
 #[no_mangle]
@@ -204,7 +227,7 @@ pub extern "C" fn raid2d_plan_disk(
         ⌝ }
 {
     let answer = wanted::plan_disk(Size { rows, columns }, map, sheet, disk);
-    report(answer, count)
+    report_one(answer, count)
 }
 
 #[no_mangle]
@@ -213,35 +236,50 @@ pub extern "C" fn raid2d_rebuild(
     columns: usize,
     block: usize,
     array: &mut [u8],
+    sector: usize,
     map: &mut [u8],
-    sheet: &mut [u8],
+    sheets: &mut [u8],
     limit: usize,
     count: &mut usize,
+    position: &mut usize,
 ) -> u32
     ensures status { λ r. ⌜
         r ≡ outcomeStatus
-        (rebuildTurn (rectangle rows columns) block (now (array .entry)) (now (map .entry)) (now (sheet .entry)) limit .answer)
+        (rebuildTurn (rectangle rows columns) block sector (now (array .entry)) (now (map .entry)) (now (sheets .entry)) limit .answer)
         ⌝ }
     ensures array { λ r. ⌜
         now (array .exit)
-        ≡ rebuildTurn (rectangle rows columns) block (now (array .entry)) (now (map .entry)) (now (sheet .entry)) limit .array
+        ≡ rebuildTurn (rectangle rows columns) block sector (now (array .entry)) (now (map .entry)) (now (sheets .entry)) limit .array
         ⌝ }
     ensures map { λ r. ⌜
         now (map .exit)
-        ≡ rebuildTurn (rectangle rows columns) block (now (array .entry)) (now (map .entry)) (now (sheet .entry)) limit .map
+        ≡ rebuildTurn (rectangle rows columns) block sector (now (array .entry)) (now (map .entry)) (now (sheets .entry)) limit .map
         ⌝ }
-    ensures sheet { λ r. ⌜
-        now (sheet .exit)
-        ≡ rebuildTurn (rectangle rows columns) block (now (array .entry)) (now (map .entry)) (now (sheet .entry)) limit .sheet
+    ensures sheets { λ r. ⌜
+        now (sheets .exit)
+        ≡ rebuildTurn (rectangle rows columns) block sector (now (array .entry)) (now (map .entry)) (now (sheets .entry)) limit .sheets
         ⌝ }
     ensures count { λ r. ⌜
         now (count .exit) ≡ outcomeCount
-        (rebuildTurn (rectangle rows columns) block (now (array .entry)) (now (map .entry)) (now (sheet .entry)) limit .answer)
+        (rebuildTurn (rectangle rows columns) block sector (now (array .entry)) (now (map .entry)) (now (sheets .entry)) limit .answer)
         (now (count .entry))
         ⌝ }
+    ensures position { λ r. ⌜
+        now (position .exit) ≡ outcomePosition
+        (rebuildTurn (rectangle rows columns) block sector (now (array .entry)) (now (map .entry)) (now (sheets .entry)) limit .answer)
+        (now (position .entry))
+        ⌝ }
 {
-    let answer = rebuild::rebuild(Size { rows, columns }, block, array, map, sheet, limit);
-    report(answer, count)
+    let answer = rebuild::rebuild(
+        Size { rows, columns },
+        block,
+        array,
+        sector,
+        map,
+        sheets,
+        limit,
+    );
+    report(answer, count, position)
 }
 
 #[no_mangle]
@@ -250,26 +288,27 @@ pub extern "C" fn raid2d_follow(
     columns: usize,
     block: usize,
     array: &mut [u8],
+    sector: usize,
     map: &[u8],
-    sheet: &[u8],
+    sheets: &[u8],
     count: &mut usize,
 ) -> u32
     ensures status { λ r. ⌜
         r ≡ outcomeStatus
-        (followOutcome (rectangle rows columns) block (now (array .entry)) (now (map .entry)) (now (sheet .entry)))
+        (followOutcome (rectangle rows columns) block sector (now (array .entry)) (now (map .entry)) (now (sheets .entry)))
         ⌝ }
     ensures array { λ r. ⌜
         now (array .exit)
-        ≡ followArray (rectangle rows columns) block (now (array .entry)) (now (map .entry)) (now (sheet .entry))
+        ≡ followArray (rectangle rows columns) block sector (now (array .entry)) (now (map .entry)) (now (sheets .entry))
         ⌝ }
     ensures count { λ r. ⌜
         now (count .exit) ≡ outcomeCount
-        (followOutcome (rectangle rows columns) block (now (array .entry)) (now (map .entry)) (now (sheet .entry)))
+        (followOutcome (rectangle rows columns) block sector (now (array .entry)) (now (map .entry)) (now (sheets .entry)))
         (now (count .entry))
         ⌝ }
 {
-    let answer = follow::follow(Size { rows, columns }, block, array, map, sheet);
-    report(answer, count)
+    let answer = follow::follow(Size { rows, columns }, block, array, sector, map, sheets);
+    report_one(answer, count)
 }
 
 #[no_mangle]
@@ -300,18 +339,21 @@ pub extern "C" fn raid2d_save(
     columns: usize,
     block: usize,
     array: &mut [u8],
+    sector: usize,
     map: &[u8],
     count: &mut usize,
 ) -> u32
     ensures status { λ r. ⌜
-        r ≡ savingStatus (saveAnswer (rectangle rows columns) block (now (array .entry)) (now (map .entry)))
+        r ≡ savingStatus (saveAnswer (rectangle rows columns) block sector (now (array .entry)) (now (map .entry)))
         ⌝ }
-    ensures array { λ r. ⌜ now (array .exit) ≡ saveArray (rectangle rows columns) block (now (array .entry)) (now (map .entry)) ⌝ }
+    ensures array { λ r. ⌜
+        now (array .exit) ≡ saveArray (rectangle rows columns) block sector (now (array .entry)) (now (map .entry))
+        ⌝ }
     ensures count { λ r. ⌜
-        now (count .exit) ≡ savingCount (saveAnswer (rectangle rows columns) block (now (array .entry)) (now (map .entry)))
+        now (count .exit) ≡ savingCount (saveAnswer (rectangle rows columns) block sector (now (array .entry)) (now (map .entry)))
         (now (count .entry))
         ⌝ }
 {
-    let answer = save::save(Size { rows, columns }, block, array, map);
+    let answer = save::save(Size { rows, columns }, block, array, sector, map);
     report_saving(answer, count)
 }

@@ -7,58 +7,63 @@ mod turn;
 
 use model::Outcome;
 use model::Size;
-use stripes::Stretch;
 
-// Restores the blocks of the first erased disks in plan's order, at most `limit`, has the map call them present, and lists these
-// repairs in the sheet. Where no disk is erased then, every stripe is tested; if the survivors contradict each other, the blocks of
-// this turn and the sheet become zero, and the map stays.
+// Restores the first erased sectors in plan's order, at most `limit`, has the map call them present, and lists these repairs in the sheets
+// of their positions. Where nothing is erased then, every stripe is tested; if the survivors contradict each other, the sectors of this turn
+// and the sheets become zero, and the map stays.
 pub fn rebuild(
     size: Size,
     block: usize,
     array: &mut [u8],
+    sector: usize,
     map: &mut [u8],
-    sheet: &mut [u8],
+    sheets: &mut [u8],
     limit: usize,
 ) -> Outcome
     ensures outcome { λ r. ⌜
-        r ≡ rebuildTurn size block (now (array .entry)) (now (map .entry)) (now (sheet .entry)) limit .answer
+        r ≡ rebuildTurn size block sector (now (array .entry)) (now (map .entry)) (now (sheets .entry)) limit .answer
         ⌝ }
     ensures array { λ r. ⌜
-        now (array .exit) ≡ rebuildTurn size block (now (array .entry)) (now (map .entry)) (now (sheet .entry)) limit .array
+        now (array .exit) ≡ rebuildTurn size block sector (now (array .entry)) (now (map .entry)) (now (sheets .entry)) limit .array
         ⌝ }
     ensures map { λ r. ⌜
-        now (map .exit) ≡ rebuildTurn size block (now (array .entry)) (now (map .entry)) (now (sheet .entry)) limit .map
+        now (map .exit) ≡ rebuildTurn size block sector (now (array .entry)) (now (map .entry)) (now (sheets .entry)) limit .map
         ⌝ }
-    ensures sheet { λ r. ⌜
-        now (sheet .exit) ≡ rebuildTurn size block (now (array .entry)) (now (map .entry)) (now (sheet .entry)) limit .sheet
+    ensures sheets { λ r. ⌜
+        now (sheets .exit) ≡ rebuildTurn size block sector (now (array .entry)) (now (map .entry)) (now (sheets .entry)) limit .sheets
         ⌝ }
 {
-    let of_array = refusal::array_refusal(size, block, array.len());
+    let of_array = refusal::sector_refusal(size, block, array.len(), sector);
     if of_array != 0 {
         return Outcome::Refused(of_array);
     }
-    let of_sheet = refusal::sheet_refusal(size, map, sheet.len());
-    if of_sheet != 0 {
-        return Outcome::Refused(of_sheet);
+    let sectors = block / sector;
+    let of_sheets = refusal::sheet_refusal(size, sectors, map, sheets.len());
+    if of_sheets != 0 {
+        return Outcome::Refused(of_sheets);
     }
     if limit == 0 {
         return Outcome::Refused(12);
     }
-    let mut list = [0u32; entries::CAPACITY];
-    let answer = plan::draft(size, map, sheet, &mut list, limit);
+    let answer = plan::draft(size, sectors, map, sheets, limit);
     let Outcome::Repairs(count) = answer else {
         return answer;
     };
     let made = entries::at_most(count, limit);
-    let whole = Stretch {
-        block: block,
-        offset: 0,
-        width: block,
-    };
-    if !turn::make(size, sheet::BASE, whole, array, map, &list, count, made) {
-        sheet::zero(sheet);
+    if !turn::make(
+        size,
+        sheet::BASE,
+        block,
+        sector,
+        array,
+        map,
+        sheets,
+        count,
+        made,
+    ) {
+        sheet::zero_all(sheets, sectors);
         return Outcome::Refused(7);
     }
-    mark::mark_present(map, &list, made);
+    mark::mark_present(map, sectors, sheets);
     Outcome::Repairs(made)
 }

@@ -4,11 +4,13 @@ ghost use mathlib.Core.Bool.{true};
 ghost use Prim.Native.Nat.{_*_, _≤_};
 ghost use lib.ListN.{length};
 ghost use Rattle.stripes.specs.Erased.{erasures};
+ghost use Rattle.stripes.specs.Sectors.{atPosition};
 ghost use Rattle.stripes.specs.Repair.{allowed as Repair·allowed, allAllowed, clears as Repair·clears};
-ghost use Rattle.model.specs.Grid.{mapFits, layoutOf};
+ghost use Rattle.model.specs.Grid.{layoutOf};
 ghost use Rattle.layout.specs.Stripe.{Numbered, stripeLimit};
 ghost use Rattle.entries.specs.Listed.{listed};
 ghost use Rattle.tally.specs.Tally.{Tallied};
+ghost use Rattle.tally.specs.Column.{Positioned, Located};
 use model::Size;
 
 // The disk can be repaired by the stripe: it is erased, the stripe is one of its two, and it is the only erased disk there.
@@ -76,6 +78,8 @@ fn clears_in(
     size: Size,
     base: usize,
     map: &[u8],
+    sectors: usize,
+    position: usize,
     list: &[u32],
     count: usize,
     work: &mut [u8],
@@ -83,14 +87,17 @@ fn clears_in(
     counts: &mut [u8],
 ) -> bool
     requires { ⌜ Numbered size base ⌝ }
-    requires { ⌜ mapFits size (now map) ≡ true ⌝ }
+    requires { ⌜ Located size sectors position (now map) (now work) ⌝ }
     requires { ⌜ count ≤ length (now list) ⌝ }
-    requires { ⌜ length (now map) ≤ length (now work) ⌝ }
     requires { ⌜ 2 * length (now work) ≤ length (now stripes) ⌝ }
     requires { ⌜ stripeLimit ≤ length (now counts) ⌝ }
-    ensures { λ r. ⌜ r ≡ Repair·clears (layoutOf size base) (erasures (now (map .entry))) (listed (now (list .entry)) count) ⌝ }
+    ensures { λ r. ⌜
+        r
+        ≡ Repair·clears (layoutOf size base) (atPosition sectors position (erasures (now (map .entry))))
+        (listed (now (list .entry)) count)
+        ⌝ }
 {
-    tally::load::copy(map, map.len(), work);
+    tally::load::load_position(size, map, sectors, position, work);
     let erased = tally::load::tally(size, base, work, stripes, counts);
     if !all_allowed(size, base, list, count, work, stripes, counts) {
         return false;
@@ -98,24 +105,39 @@ fn clears_in(
     count == erased
 }
 
-// Besides, no disk is left erased after them, which is so if they are as many as the erased disks. The working map is as long as
-// the map, so that nothing behind it is looked at.
-pub fn clears(size: Size, base: usize, map: &[u8], list: &[u32], count: usize) -> bool
+// Besides, no disk is left erased after them, which is so if they are as many as the erased disks: those of one position of a map with
+// `sectors` bytes for each disk. The working map has a byte for each disk, so that nothing behind it is looked at.
+pub fn clears(
+    size: Size,
+    base: usize,
+    map: &[u8],
+    sectors: usize,
+    position: usize,
+    list: &[u32],
+    count: usize,
+) -> bool
     requires { ⌜ Numbered size base ⌝ }
-    requires { ⌜ mapFits size (now map) ≡ true ⌝ }
+    requires { ⌜ Positioned size sectors position (now map) ⌝ }
     requires { ⌜ count ≤ length (now list) ⌝ }
-    ensures { λ r. ⌜ r ≡ Repair·clears (layoutOf size base) (erasures (now (map .entry))) (listed (now (list .entry)) count) ⌝ }
+    ensures { λ r. ⌜
+        r
+        ≡ Repair·clears (layoutOf size base) (atPosition sectors position (erasures (now (map .entry))))
+        (listed (now (list .entry)) count)
+        ⌝ }
 {
     let mut work = [0u8; tally::DISKS];
     let mut stripes = [0u8; tally::TABLE];
     let mut counts = [0u8; tally::STRIPES];
+    let disks = layout::disks(size);
     clears_in(
         size,
         base,
         map,
+        sectors,
+        position,
         list,
         count,
-        &mut work[..map.len()],
+        &mut work[..disks],
         &mut stripes,
         &mut counts,
     )

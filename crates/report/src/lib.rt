@@ -55,7 +55,7 @@ pub fn report(out: &mut [u8], size: Size, map: &[u8]) -> usize
     if !refusal::size_fits(size) {
         return refused(out, 1);
     }
-    if !refusal::map_fits(size, map) {
+    if !refusal::map_fits(size, 1, map) {
         return refused(out, 4);
     }
     let mut list = [0u32; entries::CAPACITY];

@@ -1,24 +1,28 @@
--- What restore answers and leaves behind at each of its two ends, where the entries are repairs allowed at their turn.
+-- Repairs allowed at their turn: what the entries of such a list name, and what restore answers and leaves behind at each of its two ends.
 -- Assumes nothing.
 use mathlib.Core.Path.{_≡_, sym, _∙_, ap, subst}
 use mathlib.Core.Bool.{Bool, true, false}
 use mathlib.Core.List.{List}
-use Prim.Native.Nat.{ℕ, zero, suc, _<_, _*_}
-use native.Mathlib.Nat.{not-suc-le-zero}
+use Prim.Native.Nat.{ℕ, zero, suc, _*_, _/_, _≤_, _<_}
+use native.Mathlib.Nat.{mul-assoc, not-suc-le-zero}
+use native.Mathlib.Omega.{arith}
 use lib.ListN.{length}
-use Rattle.stripes.specs.System.{Layout, on, consistent}
-use Rattle.stripes.specs.Repair.{allowed, Peels, after, rebuilt, zeroed, allAllowed}
+use Rattle.stripes.specs.System.{Layout, on, whole, consistent}
+use Rattle.stripes.specs.Repair.{Entry, allowed, Peels, after, rebuilt, zeroed, allAllowed}
+use Rattle.stripes.specs.Sectors.{sectored}
 use Rattle.stripes.specs.declared.Stretch.{Stretch}
-use Rattle.model.specs.Grid.{layoutOf, disks}
+use Rattle.model.specs.Grid.{layoutOf, disks, arrayBytes, sizeFits, mapBytes, mapFits}
 use Rattle.model.specs.declared.Size.{Size}
 use Rattle.stripes.proofs.Fold.{and-left, and-right, below-suc}
+use Rattle.stripes.proofs.Bytes.{whole-inside}
 use Rattle.stripes.proofs.Peel.{Allowed, allowed-is}
 use Rattle.stripes.proofs.Clears.{peels-all-allowed, all-allowed-snoc}
 use Rattle.stripes.proofs.Restore.{length-rebuilt, zeroed-rebuilt}
-use Rattle.model.proofs.Grid.{layout-disks}
+use Rattle.stripes.proofs.SectorBytes.{size-sectors, consistent-sectors}
+use Rattle.model.proofs.Grid.{size-fits, block-fits, bytes-bound, layout-disks, map-length, sector-cut}
 use Rattle.entries.specs.Listed.{entryDisk, entryStripe, listed}
 use Rattle.sums.specs.Held.{Held}
-use Rattle.restore.specs.Restored.{fits, restored}
+use Rattle.restore.specs.Restored.{Sectored, fits, restored}
 
 -- Where the entries of a list are repairs allowed at their turn, each of them is.
 entry-allowed : (L : Layout) (e : ℕ → Bool) (list : List ℕ) (count : ℕ) → allAllowed L e (listed list count) ≡ true
@@ -42,34 +46,60 @@ module _ (z : Size) (base : ℕ) (e : ℕ → Bool) (list : List ℕ) (count : �
   pub on-stripes : (k : ℕ) → k < count → on (layoutOf z base) (entryDisk list k) (entryStripe list k) ≡ true
   on-stripes k h = turn k h .here
 
-  -- ---- after the repairs
-  module _ (x : Stretch) (a : List ℕ) (held : Held z x a) (b : List ℕ) (made : b ≡ rebuilt (layoutOf z base) x a (listed list count)) where
-    pub still-held : Held z x b
-    still-held =
-        record {
-          inside = held .inside;
-          block = held .block;
-          sized = ap length made ∙ length-rebuilt (layoutOf z base) x a (listed list count) ∙ held .sized;
-        }
+  -- After them the array holds what it held.
+  pub still-held : (x : Stretch) (a : List ℕ) → Held z x a → (b : List ℕ) → b ≡ rebuilt (layoutOf z base) x a (listed list count) → Held z x b
+  still-held x a held b made =
+      record {
+        inside = held .inside;
+        block = held .block;
+        sized = ap length made ∙ length-rebuilt (layoutOf z base) x a (listed list count) ∙ held .sized;
+      }
 
-    fits-is : fits (layoutOf z base) x a (listed list count) ≡ consistent (layoutOf z base) x b
-    unfolding fits
-    fits-is = ap (consistent (layoutOf z base) x) (sym made)
+-- ---- after the repairs of sectors
+module _ (z : Size) (base B w : ℕ) (a : List ℕ) (held : Sectored z B w a) (e : ℕ → Bool) (v : List Entry)
+    (peels : Peels (sectored (B / w) (layoutOf z base)) e v)
+    (b : List ℕ) (made : b ≡ rebuilt (sectored (B / w) (layoutOf z base)) (whole w) a v) where
+  pub still-sized : length b ≡ length a
+  still-sized = ap length made ∙ length-rebuilt (sectored (B / w) (layoutOf z base)) (whole w) a v
 
-    -- All sums are zero: the array is restored.
-    pub all-restored : consistent (layoutOf z base) x b ≡ true
-        → (true ≡ fits (layoutOf z base) x a (listed list count)) × (b ≡ restored (layoutOf z base) x a e (listed list count))
-    unfolding restored
-    all-restored sealed = let c = fits-is ∙ sealed in (sym c, made ∙ rw c)
+  -- The array has the sectors of a map.
+  pub map-sized : (m : List ℕ) → mapFits (mapBytes z (B / w)) m ≡ true → length b ≡ length m * w
+  unfolding mapBytes
+  map-sized m mapped =
+      still-sized ∙ held .sized ∙ ap (λ (k : ℕ). disks z * k) (sector-cut B w (held .sector)) ∙ sym (mul-assoc (disks z) (B / w) w)
+      ∙ ap (λ (n : ℕ). n * w) (sym (map-length (disks z * (B / w)) m mapped))
 
-    -- Survivors that contradict each other: nothing is left of the repairs.
-    pub contradicted : consistent (layoutOf z base) x b ≡ false → (l : List ℕ) → l ≡ zeroed x b e
-        → (false ≡ fits (layoutOf z base) x a (listed list count)) × (l ≡ restored (layoutOf z base) x a e (listed list count))
-    unfolding restored
-    contradicted some l zeros =
-        let c = fits-is ∙ some in
-        let sized = held .sized ∙ ap (λ (n : ℕ). n * x .block) (sym (layout-disks z base)) in (
-          sym c,
-          zeros ∙ ap (λ (l : List ℕ). zeroed x l e) made
-              ∙ zeroed-rebuilt (layoutOf z base) x (held .inside) e a sized (listed list count) peels ∙ rw c,
-        )
+  pub few-bytes : sizeFits z ≡ true → length b ≤ 1048576
+  unfolding arrayBytes
+  few-bytes size =
+      let all = still-sized ∙ held .sized in
+      let most = bytes-bound z (size-fits z size) B (block-fits B (held .block)) in
+      omega arith
+
+  -- The test of whole blocks is that of the sectors.
+  fits-is : fits (sectored (B / w) (layoutOf z base)) (whole w) a v ≡ consistent (layoutOf z base) (whole B) b
+  unfolding fits
+  fits-is =
+      ap (consistent (sectored (B / w) (layoutOf z base)) (whole w)) (sym made)
+      ∙ consistent-sectors (B / w) w B (sector-cut B w (held .sector)) (layoutOf z base) b
+
+  -- All sums are zero: the array is restored.
+  pub all-restored : consistent (layoutOf z base) (whole B) b ≡ true
+      → (true ≡ fits (sectored (B / w) (layoutOf z base)) (whole w) a v)
+      × (b ≡ restored (sectored (B / w) (layoutOf z base)) (whole w) a e v)
+  unfolding restored
+  all-restored sealed = let c = fits-is ∙ sealed in (sym c, made ∙ rw c)
+
+  -- Survivors that contradict each other: nothing is left of the repairs.
+  pub contradicted : consistent (layoutOf z base) (whole B) b ≡ false → (l : List ℕ) → l ≡ zeroed (whole w) b e
+      → (false ≡ fits (sectored (B / w) (layoutOf z base)) (whole w) a v)
+      × (l ≡ restored (sectored (B / w) (layoutOf z base)) (whole w) a e v)
+  unfolding restored whole
+  contradicted some l zeros =
+      let c = fits-is ∙ some in
+      let sized = held .sized ∙ ap (λ (n : ℕ). n * B) (sym (layout-disks z base))
+      ∙ size-sectors (B / w) w B (sector-cut B w (held .sector)) (layoutOf z base) in (
+        sym c,
+        zeros ∙ ap (λ (l : List ℕ). zeroed (whole w) l e) made
+            ∙ zeroed-rebuilt (sectored (B / w) (layoutOf z base)) (whole w) (whole-inside w) e a sized v peels ∙ rw c,
+      )

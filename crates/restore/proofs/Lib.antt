@@ -1,3 +1,4 @@
 pub mod Steps
 pub mod Zeros
 pub mod Judged
+pub mod ByPosition

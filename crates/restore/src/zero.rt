@@ -1,27 +1,22 @@
-// Zeros for the blocks that could not be restored.
+// Zeros for what could not be restored.
 ghost use mathlib.Core.Path.{_≡_};
-ghost use mathlib.Core.Bool.{true};
+ghost use Prim.Native.Nat.{_*_, _≤_};
+ghost use lib.ListN.{length};
+ghost use Rattle.stripes.specs.System.{whole};
 ghost use Rattle.stripes.specs.Erased.{erasures};
 ghost use Rattle.stripes.specs.Repair.{zeroed};
-ghost use Rattle.model.specs.Grid.{mapFits};
-ghost use Rattle.sums.specs.Held.{Held};
-use model::Size;
-use stripes::Stretch;
 
-// The stretch of every erased disk becomes zero.
-pub fn zero_erased(size: Size, stretch: Stretch, array: &mut [u8], map: &[u8])
-    requires { ⌜ Held size stretch (now array) ⌝ }
-    requires { ⌜ mapFits size (now map) ≡ true ⌝ }
-    ensures { λ r. ⌜ now (array .exit) ≡ zeroed stretch (now (array .entry)) (erasures (now (map .entry))) ⌝ }
+// Every erased sector becomes zero. The map has a byte for each sector of the array.
+pub fn zero_erased(sector: usize, array: &mut [u8], map: &[u8])
+    requires { ⌜ length (now array) ≡ length (now map) * sector ⌝ }
+    requires { ⌜ length (now array) ≤ 1048576 ⌝ }
+    ensures { λ r. ⌜ now (array .exit) ≡ zeroed (whole sector) (now (array .entry)) (erasures (now (map .entry))) ⌝ }
 {
-    let block = stretch.block;
-    let offset = stretch.offset;
-    let width = stretch.width;
-    let mut d = 0;
-    while d < map.len() {
-        if map[d] == 1 {
-            zeros::wipe(array, d * block + offset, width);
+    let mut i = 0;
+    while i < map.len() {
+        if map[i] == 1 {
+            zeros::wipe(array, i * sector, sector);
         }
-        d += 1;
+        i += 1;
     }
 }

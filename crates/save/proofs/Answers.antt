@@ -1,35 +1,36 @@
 -- What save comes to: repairs and then sums, and its answer.
 -- Assumes nothing.
 use mathlib.Core.Path.{_≡_, refl, sym, _∙_, ap, ap₂, subst}
-use mathlib.Core.Bool.{Bool, true, false, cond}
+use mathlib.Core.Bool.{Bool, true, false}
 use mathlib.Core.List.{List}
-use Prim.Native.Nat.{ℕ, _+_, _≤_}
+use Prim.Native.Nat.{ℕ, _+_, _*_, _/_, _≤_}
+use native.Mathlib.Nat.{mul-assoc}
 use native.Mathlib.Omega.{arith}
 use lib.ListN.{length}
 use Rattle.stripes.specs.Fold.{count}
 use Rattle.stripes.specs.System.{Layout, TwoStripes, whole, Bytes}
-use Rattle.stripes.specs.Erased.{erasures, below}
+use Rattle.stripes.specs.Erased.{erasures}
 use Rattle.stripes.specs.Repair.{Peels, repairs, residual, rebuilt, zeroed}
 use Rattle.stripes.specs.Undetermined.{determined, partsCancel, saved}
 use Rattle.stripes.specs.declared.Stretch.{Stretch}
 use Rattle.stripes.proofs.Fold.{count-le}
 use Rattle.stripes.proofs.Peel.{repairs-peels}
-use Rattle.stripes.proofs.Erased.{below-all, past-end}
 use Rattle.stripes.proofs.Saved.{saved-count, saved-after}
 use Rattle.stripes.proofs.Theorems.{parts-judged}
-use Rattle.model.specs.Grid.{layoutOf, columnBase, mapFits, arrayBytes}
-use Rattle.model.specs.Refusal.{refusal, arrayTests}
+use Rattle.model.specs.Grid.{layoutOf, columnBase, disks, arrayBytes, sectorFits, sectorsFit, mapBytes, mapFits}
+use Rattle.model.specs.Refusal.{refusal, sectorTests}
 use Rattle.model.specs.Save.{saveLayout, mapTests, saveAnswer, saveArray}
 use Rattle.model.specs.declared.Size.{Size}
 use Rattle.model.specs.declared.Saving.{Saving}
 use Rattle.model.specs.declared.Saving.the-variants.{Saved, Refused}
-use Rattle.model.proofs.Grid.{layout-two, layout-disks, disks-bound, size-fits}
-use Rattle.model.proofs.Refusal.{fails, refused-first, ArrayFits, array-fits, array-passed}
-use Rattle.model.proofs.Save.{save-first, save-judged}
+use Rattle.model.proofs.Grid.{layout-two, layout-disks, disks-bound, bytes-bound, size-fits, block-fits, map-length, sector-cut, sector-some, sectors-some}
+use Rattle.model.proofs.Refusal.{fails, refused-first, ArrayFits, sector-fits, sector-passed}
+use Rattle.model.proofs.Save.{SaveFits, save-first, save-judged}
 use Rattle.model.proofs.Limits.{grid-repairs-bound}
 use Rattle.layout.specs.Stripe.{Numbered}
 use Rattle.layout.proofs.Numbers.{numbered}
 use Rattle.entries.specs.Listed.{listed}
+use Rattle.restore.specs.Restored.{Sectored}
 use Rattle.sums.specs.Held.{Held}
 use Rattle.save.proofs.Summed.{sized-as}
 
@@ -72,65 +73,72 @@ module _ (z : Size) (base : ℕ) (n : Numbered z base) (e : ℕ → Bool) (list 
             ∙ saved-after L x (held .inside) two e (repairs L e) (repairs-peels L e) a sized belongs,
       )
 
--- ---- the working map
-
--- It has the erased disks of the whole map.
-pub all-loaded : (m work : List ℕ) → erasures work ≡ below (length m) (erasures m) → erasures work ≡ erasures m
-all-loaded m work loaded = loaded ∙ below-all (length m) (erasures m) (past-end m)
-
--- ---- the two ends
-
-module _ (L : Layout) (x : Stretch) (a : List ℕ) where
-  -- The answer and the array, as the contract has them.
-  abbrev pub Ends : (e : ℕ → Bool) → Saving → List ℕ → Type 0
-  Ends e answer array =
-      (answer ≡ cond (partsCancel L x e a) (Saved (count (L .disks) (determined L e))) (Refused 7))
-      × (array ≡ cond (partsCancel L x e a) (saved L x a e) (zeroed x a e))
-
-  module _ {c e : ℕ → Bool} (loaded : c ≡ e) where
-    -- Survivors that contradict each other.
-    pub contradicted : partsCancel L x c a ≡ false → {b : List ℕ} → b ≡ zeroed x a e → Ends e (Refused 7) b
-    contradicted unfit zeros =
-        let none = ap (λ (f : ℕ → Bool). partsCancel L x f a) (sym loaded) ∙ unfit in
-        rw none (refl, zeros)
-
-    -- Survivors of a sealed array.
-    pub determined-saved : partsCancel L x c a ≡ true → {number : ℕ} → number ≡ count (L .disks) (determined L c)
-        → {b : List ℕ} → b ≡ saved L x a c → Ends e (Saved number) b
-    determined-saved fit counted saves =
-        let all = ap (λ (f : ℕ → Bool). partsCancel L x f a) (sym loaded) ∙ fit in
-        rw all (ap Saved (counted ∙ ap (λ (f : ℕ → Bool). count (L .disks) (determined L f)) loaded), saves ∙ ap (saved L x a) loaded)
-
 -- ---- the call
-module _ (z : Size) (B : ℕ) (a m : List ℕ) where
+module _ (z : Size) (B w : ℕ) (a m : List ℕ) where
   -- The answer and the array are those of the definitions.
   abbrev pub Answers : Saving → List ℕ → Type 0
-  Answers answer array = (answer ≡ saveAnswer z B a m) × (array ≡ saveArray z B a m)
+  Answers answer array = (answer ≡ saveAnswer z B w a m) × (array ≡ saveArray z B w a m)
 
-  pub refused-array : {status : ℕ} → status ≡ refusal (arrayTests z B (length a)) → (status ≡ 0 → ⊥) → Answers (Refused status) a
+  pub refused-array : {status : ℕ} → status ≡ refusal (sectorTests z B (length a) w) → (status ≡ 0 → ⊥) → Answers (Refused status) a
   unfolding mapTests
   refused-array is some =
-      let first = refused-first (arrayTests z B (length a)) _ (λ q. some (is ∙ q)) in
-      let (answer, array) = save-first z B a m (λ q. some (is ∙ sym first ∙ q)) in
+      let first = refused-first (sectorTests z B (length a) w) _ (λ q. some (is ∙ q)) in
+      let (answer, array) = save-first z B w a m (λ q. some (is ∙ sym first ∙ q)) in
       (ap Refused (is ∙ sym first) ∙ sym answer, sym array)
 
-  module _ (ok : refusal (arrayTests z B (length a)) ≡ 0) where
-    fits : ArrayFits z B (length a)
-    fits = array-fits z B (length a) ok
+  module _ (ok : refusal (sectorTests z B (length a) w) ≡ 0) where
+    array : ArrayFits z B (length a)
+    array = sector-fits z B (length a) w ok .0
 
-    pub refused-map : mapFits z m ≡ false → Answers (Refused 4) a
+    sector : sectorFits B w ≡ true
+    sector = sector-fits z B (length a) w ok .1
+
+    pub refused-map : mapFits (mapBytes z (B / w)) m ≡ false → Answers (Refused 4) a
     unfolding mapTests
     refused-map unfit =
-        let four : refusal (mapTests z B (length a) m) ≡ 4 = array-passed z B (length a) fits _ ∙ fails 4 _ _ unfit in
-        let (answer, array) = save-first z B a m (λ q. let n = sym four ∙ q in omega arith) in
-        (ap Refused (sym four) ∙ sym answer, sym array)
+        let four : refusal (mapTests z B w (length a) m) ≡ 4 = sector-passed z B (length a) w array sector _ ∙ fails 4 _ _ unfit in
+        let (answer, same) = save-first z B w a m (λ q. let n = sym four ∙ q in omega arith) in
+        (ap Refused (sym four) ∙ sym answer, sym same)
+
+    pub some-bytes : 1 ≤ w
+    some-bytes = sector-some B w sector
+
+    pub sectors-fit : sectorsFit (B / w) ≡ true
+    sectors-fit = sectors-some B w (array .block) sector
 
     pub is-numbered : Numbered z (columnBase z)
-    is-numbered = numbered z (fits .size)
+    is-numbered = numbered z (array .size)
 
-    pub is-held : Held z (record { block = B; offset = 0; width = B }) a
+    pub is-sectored : Sectored z B w a
     unfolding arrayBytes
-    is-held = record { inside = omega arith; block = fits .block; sized = fits .long }
+    is-sectored = record { block = array .block; sector = sector; sized = array .long }
 
-    pub answered : mapFits z m ≡ true → {answer : Saving} {array : List ℕ} → Ends (saveLayout z) (whole B) a (erasures m) answer array → Answers answer array
-    answered map (answer, array) = let (gives, leaves) = save-judged z B a m fits map in (answer ∙ sym gives, array ∙ sym leaves)
+    -- The array is not long.
+    pub array-few : length a ≤ 1048576
+    array-few = let most = bytes-bound z (size-fits z (array .size)) B (block-fits B (array .block)) in let long = array .long in omega arith
+
+    module _ (map : mapFits (mapBytes z (B / w)) m ≡ true) where
+      -- The map has a byte for each of its sectors.
+      pub byte-each : length a ≡ length m * w
+      unfolding arrayBytes mapBytes
+      byte-each =
+          array .long ∙ ap (λ (k : ℕ). disks z * k) (sector-cut B w sector) ∙ sym (mul-assoc (disks z) (B / w) w)
+          ∙ ap (λ (k : ℕ). k * w) (sym (map-length (mapBytes z (B / w)) m map))
+
+      fits : SaveFits z B w a m
+      fits = record { array = array; sector = sector; map = map }
+
+      abbrev L : Layout
+      L = saveLayout z (B / w)
+
+      -- Survivors that contradict each other.
+      pub contradicted : partsCancel L (whole w) (erasures m) a ≡ false → {b : List ℕ} → b ≡ zeroed (whole w) a (erasures m)
+          → Answers (Refused 7) b
+      contradicted unfit zeros = let (answer, left) = save-judged z B w a m fits in rw (answer, left, unfit) (refl, zeros)
+
+      -- Survivors of a sealed array.
+      pub determined-saved : partsCancel L (whole w) (erasures m) a ≡ true
+          → {number : ℕ} → number ≡ count (L .disks) (determined L (erasures m))
+          → {b : List ℕ} → b ≡ saved L (whole w) a (erasures m) → Answers (Saved number) b
+      determined-saved fit counted saves =
+          let (answer, left) = save-judged z B w a m fits in rw (answer, left, fit) (ap Saved counted, saves)

@@ -1,4 +1,5 @@
 pub mod Parts
 pub mod Judged
 pub mod Summed
+pub mod ByPosition
 pub mod Answers

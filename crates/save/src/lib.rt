@@ -1,20 +1,22 @@
-// Save: the erased disks that the survivors determine, restored.
+// Save: the erased sectors that the survivors determine, restored.
 ghost use mathlib.Core.Path.{_≡_};
-ghost use mathlib.Core.Bool.{true, cond};
-ghost use Prim.Native.Nat.{_≤_};
+ghost use mathlib.Core.Bool.{true};
+ghost use Prim.Native.Nat.{_/_, _≤_};
 ghost use lib.ListN.{length};
 ghost use Rattle.stripes.specs.Fold.{count};
 ghost use Rattle.stripes.specs.Erased.{erasures};
-ghost use Rattle.stripes.specs.Repair.{zeroed};
+ghost use Rattle.stripes.specs.System.{whole};
+ghost use Rattle.stripes.specs.Sectors.{sectored, atPosition};
 ghost use Rattle.stripes.specs.Undetermined.{determined, partsCancel, saved};
-ghost use Rattle.model.specs.Grid.{layoutOf, disks, mapFits};
+ghost use Rattle.model.specs.Grid.{layoutOf, disks, mapBytes, mapFits};
 ghost use Rattle.model.specs.Save.{saveAnswer, saveArray};
-ghost use Rattle.model.specs.declared.Saving.the-variants.{Saved, Refused};
 ghost use Rattle.layout.specs.Stripe.{Numbered};
 ghost use Rattle.entries.specs.Listed.{capacity};
 ghost use Rattle.tally.specs.Tally.{Tallied};
 ghost use Rattle.solve.specs.Memory.{Room};
 ghost use Rattle.sums.specs.Held.{Held};
+ghost use Rattle.tally.specs.Column.{Positioned, Located};
+ghost use Rattle.restore.specs.Restored.{Sectored};
 
 mod judge;
 mod rest;
@@ -55,41 +57,40 @@ fn save_determined(
     made + rest::sum_rest(size, base, stretch, array, work, stripes)
 }
 
-// `save` without tests of arguments, in memory that is lent; what it held does not matter. The survivors are judged before a block is
-// written.
+// Saves the determined disks of one position, in memory that is lent, and says how many they are. What the memory held does not matter.
 fn save_in(
     size: Size,
     base: usize,
     stretch: Stretch,
     array: &mut [u8],
     map: &[u8],
+    sectors: usize,
+    position: usize,
     work: &mut [u8],
     stripes: &mut [u8],
     counts: &mut [u8],
     list: &mut [u32],
-) -> Saving
+) -> usize
     requires { ⌜ Numbered size base ⌝ }
     requires { ⌜ Held size stretch (now array) ⌝ }
-    requires { ⌜ mapFits size (now map) ≡ true ⌝ }
+    requires { ⌜ Located size sectors position (now map) (now work) ⌝ }
     requires { ⌜ Room (layoutOf size base) (now work) (now stripes) (now counts) (now list) ⌝ }
-    ensures answer { λ r. ⌜
-        r ≡ cond (partsCancel (layoutOf size base) stretch (erasures (now (map .entry))) (now (array .entry)))
-        (Saved (count (layoutOf size base .disks) (determined (layoutOf size base) (erasures (now (map .entry)))))) (Refused 7)
+    requires { ⌜
+        partsCancel (layoutOf size base) stretch (atPosition sectors position (erasures (now map))) (now array) ≡ true
+        ⌝ }
+    ensures number { λ r. ⌜
+        r
+        ≡ count (layoutOf size base .disks)
+        (determined (layoutOf size base) (atPosition sectors position (erasures (now (map .entry)))))
         ⌝ }
     ensures array { λ r. ⌜
         now (array .exit)
-        ≡ cond (partsCancel (layoutOf size base) stretch (erasures (now (map .entry))) (now (array .entry)))
-        (saved (layoutOf size base) stretch (now (array .entry)) (erasures (now (map .entry))))
-        (zeroed stretch (now (array .entry)) (erasures (now (map .entry))))
+        ≡ saved (layoutOf size base) stretch (now (array .entry)) (atPosition sectors position (erasures (now (map .entry))))
         ⌝ }
 {
-    tally::load::copy(map, map.len(), work);
+    tally::load::load_position(size, map, sectors, position, work);
     let erased = tally::load::tally(size, base, work, stripes, counts);
-    if !judge::survivors_fit(size, base, stretch, array, work, stripes) {
-        restore::zero::zero_erased(size, stretch, array, map);
-        return Saving::Refused(7);
-    }
-    let number = save_determined(
+    save_determined(
         size,
         base,
         stretch,
@@ -99,41 +100,110 @@ fn save_in(
         stripes,
         counts,
         list,
-    );
-    Saving::Saved(number)
+    )
 }
 
-// Restores each erased disk that the survivors determine and leaves the others as they are. Where the survivors contradict each
-// other, all erased blocks become zero. The map is only read.
-pub fn save(size: Size, block: usize, array: &mut [u8], map: &[u8]) -> Saving
-    ensures answer { λ r. ⌜ r ≡ saveAnswer size block (now (array .entry)) (now (map .entry)) ⌝ }
-    ensures array { λ r. ⌜ now (array .exit) ≡ saveArray size block (now (array .entry)) (now (map .entry)) ⌝ }
+// The same with memory of its own.
+fn save_position(
+    size: Size,
+    base: usize,
+    stretch: Stretch,
+    array: &mut [u8],
+    map: &[u8],
+    sectors: usize,
+    position: usize,
+) -> usize
+    requires { ⌜ Numbered size base ⌝ }
+    requires { ⌜ Held size stretch (now array) ⌝ }
+    requires { ⌜ Positioned size sectors position (now map) ⌝ }
+    requires { ⌜
+        partsCancel (layoutOf size base) stretch (atPosition sectors position (erasures (now map))) (now array) ≡ true
+        ⌝ }
+    ensures number { λ r. ⌜
+        r
+        ≡ count (layoutOf size base .disks)
+        (determined (layoutOf size base) (atPosition sectors position (erasures (now (map .entry)))))
+        ⌝ }
+    ensures array { λ r. ⌜
+        now (array .exit)
+        ≡ saved (layoutOf size base) stretch (now (array .entry)) (atPosition sectors position (erasures (now (map .entry))))
+        ⌝ }
 {
-    let status = refusal::array_refusal(size, block, array.len());
-    if status != 0 {
-        return Saving::Refused(status);
-    }
-    if !refusal::map_fits(size, map) {
-        return Saving::Refused(4);
-    }
-    let whole = Stretch {
-        block: block,
-        offset: 0,
-        width: block,
-    };
+    let disks = layout::disks(size);
     let mut work = [0u8; tally::DISKS];
     let mut stripes = [0u8; tally::TABLE];
     let mut counts = [0u8; tally::STRIPES];
     let mut list = [0u32; entries::CAPACITY];
     save_in(
         size,
-        layout::stripe::COLUMN_BASE,
-        whole,
+        base,
+        stretch,
         array,
         map,
-        &mut work[..map.len()],
+        sectors,
+        position,
+        &mut work[..disks],
         &mut stripes,
         &mut counts,
         &mut list,
     )
+}
+
+// Saves the determined sectors of every position, where the survivors belong to a sealed array, and says how many they are.
+fn save_all(
+    size: Size,
+    base: usize,
+    block: usize,
+    sector: usize,
+    array: &mut [u8],
+    map: &[u8],
+) -> usize
+    requires { ⌜ Numbered size base ⌝ }
+    requires { ⌜ Sectored size block sector (now array) ⌝ }
+    requires { ⌜ mapFits (mapBytes size (block / sector)) (now map) ≡ true ⌝ }
+    requires { ⌜ partsCancel (sectored (block / sector) (layoutOf size base)) (whole sector) (erasures (now map)) (now array) ≡ true ⌝ }
+    ensures number { λ r. ⌜
+        r
+        ≡ count (sectored (block / sector) (layoutOf size base) .disks)
+        (determined (sectored (block / sector) (layoutOf size base)) (erasures (now (map .entry))))
+        ⌝ }
+    ensures array { λ r. ⌜
+        now (array .exit)
+        ≡ saved (sectored (block / sector) (layoutOf size base)) (whole sector) (now (array .entry)) (erasures (now (map .entry)))
+        ⌝ }
+{
+    let sectors = block / sector;
+    let mut number = 0;
+    let mut p = 0;
+    while p < sectors {
+        let stretch = Stretch {
+            block: block,
+            offset: p * sector,
+            width: sector,
+        };
+        number += save_position(size, base, stretch, array, map, sectors, p);
+        p += 1;
+    }
+    number
+}
+
+// Restores each erased sector that the survivors determine and leaves the others as they are. The survivors of all positions are judged
+// before a block is written. Where they contradict each other at any, all erased sectors become zero. The map is only read.
+pub fn save(size: Size, block: usize, array: &mut [u8], sector: usize, map: &[u8]) -> Saving
+    ensures answer { λ r. ⌜ r ≡ saveAnswer size block sector (now (array .entry)) (now (map .entry)) ⌝ }
+    ensures array { λ r. ⌜ now (array .exit) ≡ saveArray size block sector (now (array .entry)) (now (map .entry)) ⌝ }
+{
+    let status = refusal::sector_refusal(size, block, array.len(), sector);
+    if status != 0 {
+        return Saving::Refused(status);
+    }
+    if !refusal::map_fits(size, block / sector, map) {
+        return Saving::Refused(4);
+    }
+    if !judge::all_fit(size, layout::stripe::COLUMN_BASE, block, sector, array, map) {
+        restore::zero::zero_erased(sector, array, map);
+        return Saving::Refused(7);
+    }
+    let number = save_all(size, layout::stripe::COLUMN_BASE, block, sector, array, map);
+    Saving::Saved(number)
 }

@@ -42,7 +42,10 @@ pub fn checked(what: &[u8], answer: Checked) {
 pub fn outcome(what: &[u8], answer: Outcome) {
     match answer {
         Outcome::Repairs(_) => status(what, 0),
-        Outcome::Fatal(_) => status(what, 6),
+        Outcome::Fatal {
+            lost: _lost,
+            position: _position,
+        } => status(what, 6),
         Outcome::Refused(k) => status(what, k),
     }
 }

@@ -4,22 +4,23 @@ use mathlib.Core.Path.{_≡_, refl, sym, _∙_, ap, ap₂, subst}
 use mathlib.Core.Bool.{Bool, true, false, cond}
 use mathlib.Core.List.{List, [], _∷_, _++_, map, append-assoc, append-nil}
 use Prim.Native.Nat.{ℕ, zero, suc, _+_, _*_, _-_, _/_, _≤_, _<_}
-use native.Mathlib.Nat.{zero-add, suc-add, mul-zero, mul-suc}
+use native.Mathlib.Nat.{zero-add, suc-add, mul-zero, mul-suc, mul-comm, mul-le-mul-left, div-mul-le-self}
 use native.Mathlib.Numerals.{add-one}
 use native.Mathlib.Omega.{arith}
 use lib.ListN.{length, take, drop, length-append, length-drop}
 use lib.Seq.{length-take-le, take-nil, take-append-le, drop-append-le, take-take, drop-drop, take-at, drop-at}
 use Rattle.stripes.specs.System.{Layout}
-use Rattle.model.specs.Sheet.{Format, narrow, sheetBytes, sheetsIn}
+use Rattle.stripes.specs.Sectors.{sectored}
+use Rattle.model.specs.Sheet.{partsIn}
 use Rattle.model.specs.Plan.{sheetLayout}
 use Rattle.model.specs.Turn.{Turn, unfinished, turnsBy, lastOf, repairCount, madeBy}
 use Rattle.model.specs.Rebuild.{rebuildTurn, rebuildTurns}
 use Rattle.model.specs.declared.Size.{Size}
-use Rattle.series.proofs.Ends.{sheet-kept, array-kept, map-kept, few-counted}
-use Rattle.series.specs.Total.{start, turnsIn, totalOf, nextTotal, Written}
+use Rattle.series.proofs.Ends.{sheets-kept, array-kept, map-kept, few-counted}
+use Rattle.series.specs.Total.{turnBytes, start, turnsIn, totalOf, nextTotal, Written}
 use Rattle.series.specs.declared.Turns.{Turns}
 
--- ---- sheets in a buffer
+-- ---- parts of a buffer
 
 -- What is left of the first elements.
 drop-take : (c j : ℕ) (s : List ℕ) → drop c (take (c + j) s) ≡ take j (drop c s)
@@ -27,27 +28,25 @@ drop-take zero j s = ap (λ (n : ℕ). take n s) (zero-add j)
 drop-take (suc c) j [] = ap (drop (suc c)) (take-nil (suc c + j)) ∙ sym (take-nil j)
 drop-take (suc c) j (x ∷ xs) = ap (λ (n : ℕ). drop (suc c) (take n (x ∷ xs))) (suc-add c j) ∙ drop-take c j xs
 
-module _ (f : Format) where
-  abbrev c : ℕ
-  c = sheetBytes f
-
+-- Parts of c bytes.
+module _ (c : ℕ) where
   next : (n : ℕ) → c * suc n ≡ c + c * n
   next n = omega (arith, mul-suc c n)
 
-  -- One sheet more.
-  sheets-snoc : (n : ℕ) (s : List ℕ) → sheetsIn f (suc n) s ≡ sheetsIn f n s ++ (take c (drop (c * n) s) ∷ [])
-  unfolding sheetsIn
-  sheets-snoc zero s = rw (mul-zero c) refl
-  sheets-snoc (suc n) s =
+  -- One part more.
+  parts-snoc : (n : ℕ) (s : List ℕ) → partsIn c (suc n) s ≡ partsIn c n s ++ (take c (drop (c * n) s) ∷ [])
+  unfolding partsIn
+  parts-snoc zero s = rw (mul-zero c) refl
+  parts-snoc (suc n) s =
       ap (λ (ss : List (List ℕ)). take c s ∷ ss)
-      (sheets-snoc n (drop c s)
-      ∙ ap (λ (l : List ℕ). sheetsIn f n (drop c s) ++ (take c l ∷ [])) (drop-drop (c * n) c s ∙ ap (λ (i : ℕ). drop i s) (sym (next n))))
+      (parts-snoc n (drop c s)
+      ∙ ap (λ (l : List ℕ). partsIn c n (drop c s) ++ (take c l ∷ [])) (drop-drop (c * n) c s ∙ ap (λ (i : ℕ). drop i s) (sym (next n))))
 
-  -- What stands behind some sheets counts for nothing.
-  sheets-front : (n i : ℕ) (s r : List ℕ) → c * n ≤ i → i ≤ length s → sheetsIn f n (take i s ++ r) ≡ sheetsIn f n s
-  unfolding sheetsIn
-  sheets-front zero i s r few long = refl
-  sheets-front (suc n) i s r few long =
+  -- What stands behind some parts counts for nothing.
+  parts-front : (n i : ℕ) (s r : List ℕ) → c * n ≤ i → i ≤ length s → partsIn c n (take i s ++ r) ≡ partsIn c n s
+  unfolding partsIn
+  parts-front zero i s r few long = refl
+  parts-front (suc n) i s r few long =
       let j : ℕ = i - c in
       let more = next n in
       let split : i ≡ c + j = omega arith in
@@ -55,12 +54,12 @@ module _ (f : Format) where
       let left : length (drop c s) ≡ length s - c = length-drop c s in
       ap₂ (λ (l : List ℕ) (ss : List (List ℕ)). l ∷ ss)
       (take-append-le c (take i s) r (omega arith) ∙ take-take c i s (omega arith))
-      (ap (sheetsIn f n)
+      (ap (partsIn c n)
       (drop-append-le c (take i s) r (omega arith)
       ∙ ap (λ (l : List ℕ). l ++ r) (ap (λ (k : ℕ). drop c (take k s)) split ∙ drop-take c j s))
-      ∙ sheets-front n j (drop c s) r (omega arith) (omega arith))
+      ∙ parts-front n j (drop c s) r (omega arith) (omega arith))
 
-  -- A sheet is written behind the first n.
+  -- A part is written behind the first n.
   module _ (n : ℕ) (s v : List ℕ) (long : c * suc n ≤ length s) (own : length v ≡ c) where
     abbrev put : List ℕ
     put = take (c * n) s ++ (v ++ drop (c * n + c) s)
@@ -68,12 +67,12 @@ module _ (f : Format) where
     front : length (take (c * n) s) ≡ c * n
     front = let more = next n in length-take-le (c * n) s (omega arith)
 
-    put-sheets : sheetsIn f (suc n) put ≡ sheetsIn f n s ++ (v ∷ [])
-    put-sheets =
+    put-parts : partsIn c (suc n) put ≡ partsIn c n s ++ (v ∷ [])
+    put-parts =
         let more = next n in
-        sheets-snoc n put
+        parts-snoc n put
         ∙ ap₂ (λ (ss : List (List ℕ)) (l : List ℕ). ss ++ (l ∷ []))
-        (sheets-front n (c * n) s (v ++ drop (c * n + c) s) (omega arith) (omega arith))
+        (parts-front n (c * n) s (v ++ drop (c * n + c) s) (omega arith) (omega arith))
         (ap (take c) (drop-at (take (c * n) s) (v ++ drop (c * n + c) s) (c * n) front) ∙ take-at v (drop (c * n + c) s) c own)
 
     put-rest : drop (c * suc n) put ≡ drop (c * suc n) s
@@ -106,11 +105,11 @@ unfolding madeBy
 made-snoc [] t = omega arith
 made-snoc (u ∷ us) t = let up = made-snoc us t in omega arith
 
-sheet-snoc : (ts : List Turn) (t : Turn) → map (λ (u : Turn). u .sheet) (ts ++ (t ∷ [])) ≡ map (λ (u : Turn). u .sheet) ts ++ (t .sheet ∷ [])
-sheet-snoc [] t = refl
-sheet-snoc (u ∷ us) t = ap (λ (ss : List (List ℕ)). u .sheet ∷ ss) (sheet-snoc us t)
+sheets-snoc : (ts : List Turn) (t : Turn) → map (λ (u : Turn). u .sheets) (ts ++ (t ∷ [])) ≡ map (λ (u : Turn). u .sheets) ts ++ (t .sheets ∷ [])
+sheets-snoc [] t = refl
+sheets-snoc (u ∷ us) t = ap (λ (ss : List (List ℕ)). u .sheets ∷ ss) (sheets-snoc us t)
 
--- Each uses a sheet.
+-- Each uses its sheets.
 pub fewer : (L : Layout) (d e : Turns) (t : Turn) → e ≡ nextTotal L d t → 0 < d .left → e .left < d .left
 fewer L d e t is some = rw (ap (λ (x : Turns). x .left) is) (go (unfinished L t) (d .left) some)
   where
@@ -118,121 +117,149 @@ fewer L d e t is some = rw (ap (λ (x : Turns). x .left) is) (go (unfinished L t
     go true j h = omega arith
     go false j h = h
 
-module _ (z : Size) (B k : ℕ) (a₀ m₀ s₀ : List ℕ) where
-  -- All of them.
-  abbrev pub all : List Turn
-  all = turnsIn z B k s₀ a₀ m₀
-
-  -- The turns ts are made, and those that follow are to be made on what they left.
-  pub record Progress (ts : List Turn) (d : Turns) (a m s : List ℕ) : Type 0 where
-    pub follows : all ≡ ts ++ rebuildTurns z B k (sheetsIn narrow (d .left) (drop (98 * length ts) s₀)) a m
-    pub last : d .last ≡ lastOf (start a₀ m₀) ts .answer
-    pub turns : d .turns ≡ length ts
-    pub made : d .made ≡ madeBy ts
-    pub few : d .made ≤ 98 * d .turns
-    pub array : a ≡ lastOf (start a₀ m₀) ts .array
-    pub map : m ≡ lastOf (start a₀ m₀) ts .map
-    pub written : Written narrow s₀ s ts
-    pub long : (length s ≡ length s₀) × (length a ≡ length a₀) × (length m ≡ length m₀)
-    pub room : 98 * (d .turns + d .left) ≤ length s₀
-
-  -- Before the first.
-  pub begins : Progress [] (record { last = start a₀ m₀ .answer; turns = 0; made = 0; left = length s₀ / 98 }) a₀ m₀ s₀
-  unfolding lastOf madeBy sheetsIn
-  begins =
-      record {
-        follows = refl;
-        last = refl;
-        turns = refl;
-        made = refl;
-        few = omega arith;
-        array = refl;
-        map = refl;
-        written = record { sheets = refl; rest = refl };
-        long = (refl, refl, refl);
-        room = omega arith;
-      }
-
-  -- After the last.
-  abbrev Sums : List Turn → Turns → (a m s : List ℕ) → Type 0
-  Sums ts d a m s =
-      (d ≡ totalOf (start a₀ m₀) ts) × ((a ≡ lastOf (start a₀ m₀) ts .array) × ((m ≡ lastOf (start a₀ m₀) ts .map) × Written narrow s₀ s ts))
-
-  pub ends : (ts : List Turn) (d : Turns) (a m s : List ℕ) → Progress ts d a m s → d .left ≡ 0 → Sums all d a m s
-  unfolding sheetsIn turnsBy
-  ends ts d a m s p none =
-      let same : all ≡ ts =
-      p .follows ∙ ap (λ (n : ℕ). ts ++ rebuildTurns z B k (sheetsIn narrow n (drop (98 * length ts) s₀)) a m) none ∙ append-nil ts in
-      subst (λ (l : List Turn). Sums l d a m s) (sym same)
-      (λ i. record { last = p .last i; turns = p .turns i; made = p .made i; left = none i }, (p .array, (p .map, p .written)))
-
-  -- Where no other turn is to come, no sheet is used any more.
+-- With sheets of c bytes for each turn.
+module _ (z : Size) (B w k c : ℕ) where
+  -- Where no other turn is to come, no sheets are used any more.
   stops : (b : Bool) (j : ℕ) (s a m : List ℕ)
-      → cond b (rebuildTurns z B k (sheetsIn narrow j s) a m) [] ≡ rebuildTurns z B k (sheetsIn narrow (cond b j 0) s) a m
-  unfolding sheetsIn turnsBy
+      → cond b (rebuildTurns z B w k (partsIn c j s) a m) [] ≡ rebuildTurns z B w k (partsIn c (cond b j 0) s) a m
+  unfolding partsIn turnsBy
   stops true j s a m = refl
   stops false j s a m = refl
 
-  first-of : (j : ℕ) (s a m : List ℕ) → let u = rebuildTurn z B a m (take 98 s) k in
-      rebuildTurns z B k (sheetsIn narrow (suc j) s) a m
-      ≡ u ∷ rebuildTurns z B k (sheetsIn narrow (cond (unfinished (sheetLayout z) u) j 0) (drop 98 s)) (u .array) (u .map)
-  unfolding sheetsIn turnsBy
+  first-of : (j : ℕ) (s a m : List ℕ) → let u = rebuildTurn z B w a m (take c s) k in
+      rebuildTurns z B w k (partsIn c (suc j) s) a m
+      ≡ u ∷ rebuildTurns z B w k (partsIn c (cond (unfinished (sectored (B / w) (sheetLayout z)) u) j 0) (drop c s)) (u .array) (u .map)
+  unfolding partsIn turnsBy
   first-of j s a m =
-      let u : Turn = rebuildTurn z B a m (take 98 s) k in
-      ap (λ (rest : List Turn). u ∷ rest) (stops (unfinished (sheetLayout z) u) j (drop 98 s) (u .array) (u .map))
+      let u : Turn = rebuildTurn z B w a m (take c s) k in
+      ap (λ (rest : List Turn). u ∷ rest) (stops (unfinished (sectored (B / w) (sheetLayout z)) u) j (drop c s) (u .array) (u .map))
+
+  module _ (a₀ m₀ s₀ : List ℕ) where
+    -- The turns ts are made, and those that follow are to be made on what they left.
+    pub record Progress (ts : List Turn) (d : Turns) (a m s : List ℕ) : Type 0 where
+      pub bytes : c ≡ turnBytes B w
+      pub follows : rebuildTurns z B w k (partsIn c (length s₀ / c) s₀) a₀ m₀
+          ≡ ts ++ rebuildTurns z B w k (partsIn c (d .left) (drop (c * length ts) s₀)) a m
+      pub last : d .last ≡ lastOf (start a₀ m₀) ts .answer
+      pub turns : d .turns ≡ length ts
+      pub made : d .made ≡ madeBy ts
+      pub few : d .made ≤ c * d .turns
+      pub array : a ≡ lastOf (start a₀ m₀) ts .array
+      pub map : m ≡ lastOf (start a₀ m₀) ts .map
+      pub written : Written c s₀ s ts
+      pub long : (length s ≡ length s₀) × (length a ≡ length a₀) × (length m ≡ length m₀)
+      pub room : c * (d .turns + d .left) ≤ length s₀
+
+    -- Before the first.
+    pub begins : c ≡ turnBytes B w
+        → Progress [] (record { last = start a₀ m₀ .answer; turns = 0; made = 0; left = length s₀ / c }) a₀ m₀ s₀
+    unfolding lastOf madeBy partsIn
+    begins bytes =
+        record {
+          bytes = bytes;
+          follows = rw (mul-zero c) refl;
+          last = refl;
+          turns = refl;
+          made = refl;
+          few = omega arith;
+          array = refl;
+          map = refl;
+          written = record { sheets = refl; rest = refl };
+          long = (refl, refl, refl);
+          room = rw (zero-add (length s₀ / c), mul-comm c (length s₀ / c)) (div-mul-le-self (length s₀) c);
+        }
+
+module _ {z : Size} {B w k c : ℕ} {a₀ m₀ s₀ : List ℕ} {ts : List Turn} {d : Turns} {a m s : List ℕ}
+    (p : Progress z B w k c a₀ m₀ s₀ ts d a m s) where
+  -- After the last.
+  abbrev Sums : (bytes : ℕ) → List Turn → Type 0
+  Sums bytes us =
+      (d ≡ totalOf (start a₀ m₀) us)
+      × ((a ≡ lastOf (start a₀ m₀) us .array) × ((m ≡ lastOf (start a₀ m₀) us .map) × Written bytes s₀ s us))
+
+  pub ends : d .left ≡ 0 → Sums (turnBytes B w) (turnsIn z B w k s₀ a₀ m₀)
+  unfolding partsIn turnsBy
+  ends none =
+      let same : rebuildTurns z B w k (partsIn c (length s₀ / c) s₀) a₀ m₀ ≡ ts =
+      p .follows ∙ ap (λ (n : ℕ). ts ++ rebuildTurns z B w k (partsIn c n (drop (c * length ts) s₀)) a m) none ∙ append-nil ts in
+      subst (λ (i : ℕ). Sums i (rebuildTurns z B w k (partsIn i (length s₀ / i) s₀) a₀ m₀)) (p .bytes)
+      (subst (Sums c) (sym same)
+      (λ i. record { last = p .last i; turns = p .turns i; made = p .made i; left = none i }, (p .array, (p .map, p .written))))
 
   -- One more.
-  module _ (ts : List Turn) (d : Turns) (a m s : List ℕ) (p : Progress ts d a m s) (some : 0 < d .left) where
+  module _ (some : 0 < d .left) where
+    abbrev S : Layout
+    S = sectored (B / w) (sheetLayout z)
+
     abbrev at : ℕ
-    at = 98 * d .turns
+    at = c * d .turns
 
-    inside : 98 * suc (length ts) ≤ length s
-    inside = let room = p .room in let long = p .long .0 in let turns = p .turns in omega arith
+    -- Its sheets are the next of the buffer.
+    pub inside : at + c ≤ length s
+    inside =
+        let most = mul-le-mul-left c (let l : suc (d .turns) ≤ d .turns + d .left = omega arith in l) in
+        let more = next c (d .turns) in
+        let room = p .room in
+        let long = p .long .0 in
+        omega arith
 
-    -- Its sheet is the next of the buffer.
-    pub own-long : length (take 98 (drop at s)) ≡ 98
+    -- So it may be made.
+    pub ready : (d .made ≤ turnBytes B w * d .turns) × (turnBytes B w * (d .turns + 1) ≤ length s)
+    ready =
+        let here = inside in
+        let more = ap (λ (i : ℕ). c * i) (add-one (d .turns)) ∙ next c (d .turns) in
+        subst (λ (i : ℕ). (d .made ≤ i * d .turns) × (i * (d .turns + 1) ≤ length s)) (p .bytes) (p .few, omega arith)
+
+    behind : c * suc (length ts) ≤ length s
+    behind = let here = inside in let more = next c (length ts) in let same = ap (λ (i : ℕ). c * i) (p .turns) in omega arith
+
+    own-long : length (take c (drop at s)) ≡ c
     own-long =
         let here = inside in
-        let turns = p .turns in
         let left : length (drop at s) ≡ length s - at = length-drop at s in
-        length-take-le 98 (drop at s) (omega arith)
+        length-take-le c (drop at s) (omega arith)
 
-    same-sheet : take 98 (drop at s) ≡ take 98 (drop (98 * length ts) s₀)
-    same-sheet = ap (take 98) (ap (λ (i : ℕ). drop (98 * i) s) (p .turns) ∙ p .written .rest)
+    same-sheets : take c (drop at s) ≡ take c (drop (c * length ts) s₀)
+    same-sheets = ap (take c) (ap (λ (i : ℕ). drop (c * i) s) (p .turns) ∙ p .written .rest)
 
     abbrev t : Turn
-    t = rebuildTurn z B a m (take 98 (drop at s)) k
+    t = rebuildTurn z B w a m (take c (drop at s)) k
 
-    one-more : (l : List ℕ) → drop 98 (drop (98 * length ts) l) ≡ drop (98 * suc (length ts)) l
+    one-more : (l : List ℕ) → drop c (drop (c * length ts) l) ≡ drop (c * suc (length ts)) l
     one-more l =
-        let more : 98 * length ts + 98 ≡ 98 * suc (length ts) = omega arith in
-        drop-drop 98 (98 * length ts) l ∙ ap (λ (i : ℕ). drop i l) more
+        let more : c * length ts + c ≡ c * suc (length ts) = omega (arith, next c (length ts)) in
+        drop-drop c (c * length ts) l ∙ ap (λ (i : ℕ). drop i l) more
 
     -- What follows it.
-    then : rebuildTurns z B k (sheetsIn narrow (d .left) (drop (98 * length ts) s₀)) a m
-        ≡ t ∷ rebuildTurns z B k (sheetsIn narrow (nextTotal (sheetLayout z) d t .left) (drop (98 * suc (length ts)) s₀)) (t .array) (t .map)
+    then : rebuildTurns z B w k (partsIn c (d .left) (drop (c * length ts) s₀)) a m
+        ≡ t ∷ rebuildTurns z B w k (partsIn c (nextTotal S d t .left) (drop (c * suc (length ts)) s₀)) (t .array) (t .map)
     then =
         let some-left : d .left ≡ suc (d .left - 1) = omega arith in
-        let behind : drop 98 (drop (98 * length ts) s₀) ≡ drop (98 * suc (length ts)) s₀ = one-more s₀ in
-        ap (λ (i : ℕ). rebuildTurns z B k (sheetsIn narrow i (drop (98 * length ts) s₀)) a m) some-left
-        ∙ first-of (d .left - 1) (drop (98 * length ts) s₀) a m
-        ∙ (rw (behind, sym same-sheet) refl)
+        let rest : drop c (drop (c * length ts) s₀) ≡ drop (c * suc (length ts)) s₀ = one-more s₀ in
+        ap (λ (i : ℕ). rebuildTurns z B w k (partsIn c i (drop (c * length ts) s₀)) a m) some-left
+        ∙ first-of z B w k c (d .left - 1) (drop (c * length ts) s₀) a m
+        ∙ (rw (rest, sym same-sheets) refl)
 
-    goes-own : (e : Turns) → e ≡ nextTotal (sheetLayout z) d t → (b n s₂ : List ℕ) → b ≡ t .array → n ≡ t .map
-        → s₂ ≡ take at s ++ (t .sheet ++ drop (at + 98) s) → Progress (ts ++ (t ∷ [])) e b n s₂
-    goes-own e is b n s₂ array map written =
+    goes-own : (e : Turns) (b n s₂ : List ℕ) → e ≡ nextTotal S d t → b ≡ t .array → n ≡ t .map
+        → s₂ ≡ take at s ++ (t .sheets ++ drop (at + c) s) → Progress z B w k c a₀ m₀ s₀ (ts ++ (t ∷ [])) e b n s₂
+    goes-own e b n s₂ is array map written =
         let snoc : length (ts ++ (t ∷ [])) ≡ suc (length ts) = length-append ts (t ∷ []) ∙ add-one (length ts) in
-        let kept : length (t .sheet) ≡ 98 = sheet-kept z B a m (take 98 (drop at s)) k own-long in
-        let put : s₂ ≡ take (98 * length ts) s ++ (t .sheet ++ drop (98 * length ts + 98) s) =
-        written ∙ ap (λ (i : ℕ). take (98 * i) s ++ (t .sheet ++ drop (98 * i + 98) s)) (p .turns) in
-        let few = few-counted z B a m (take 98 (drop at s)) k in
+        let kept : length (t .sheets) ≡ c = sheets-kept z B w a m (take c (drop at s)) k ∙ own-long in
+        let put : s₂ ≡ take (c * length ts) s ++ (t .sheets ++ drop (c * length ts + c) s) =
+        written ∙ ap (λ (i : ℕ). take (c * i) s ++ (t .sheets ++ drop (c * i + c) s)) (p .turns) in
+        let few = few-counted z B w a m (take c (drop at s)) k in
+        let bytes = p .bytes in
         let before = p .few in
-        let room = p .room in
         let turns : e .turns ≡ d .turns + 1 = ap (λ (x : Turns). x .turns) is in
+        let grown : c * e .turns ≡ c * d .turns + c =
+        ap (λ (i : ℕ). c * i) (turns ∙ add-one (d .turns)) ∙ omega (arith, next c (d .turns)) in
         let made : e .made ≡ d .made + repairCount (t .answer) = ap (λ (x : Turns). x .made) is in
-        let left : e .left ≤ d .left - 1 = rw is (lesser (unfinished (sheetLayout z) t) (d .left - 1)) in
+        let left : e .left ≤ d .left - 1 = rw is (lesser (unfinished S t) (d .left - 1)) in
         let same = p .turns in
+        let room = p .room in
+        let least = mul-le-mul-left c (let l : e .turns + e .left ≤ d .turns + d .left = omega arith in l) in
         record {
+          bytes = p .bytes;
           follows =
               p .follows ∙ ap (λ (l : List Turn). ts ++ l) then ∙ sym (append-assoc ts (t ∷ []) _)
               ∙ (rw (snoc, is, array, map) refl);
@@ -245,16 +272,16 @@ module _ (z : Size) (B k : ℕ) (a₀ m₀ s₀ : List ℕ) where
           written =
               record {
                 sheets =
-                    (rw (snoc, put)) ∙ put-sheets narrow (length ts) s (t .sheet) inside kept
-                    ∙ ap (λ (ss : List (List ℕ)). ss ++ (t .sheet ∷ [])) (p .written .sheets) ∙ sym (sheet-snoc ts t);
+                    (rw (snoc, put)) ∙ put-parts c (length ts) s (t .sheets) behind kept
+                    ∙ ap (λ (ss : List (List ℕ)). ss ++ (t .sheets ∷ [])) (p .written .sheets) ∙ sym (sheets-snoc ts t);
                 rest =
                     rw (snoc, put)
-                    (put-rest narrow (length ts) s (t .sheet) inside kept ∙ sym (one-more s) ∙ ap (drop 98) (p .written .rest) ∙ one-more s₀);
+                    (put-rest c (length ts) s (t .sheets) behind kept ∙ sym (one-more s) ∙ ap (drop c) (p .written .rest) ∙ one-more s₀);
               };
           long = (
-            ap length put ∙ put-length narrow (length ts) s (t .sheet) inside kept ∙ p .long .0,
-            ap length array ∙ array-kept z B a m (take 98 (drop at s)) k ∙ p .long .1,
-            ap length map ∙ map-kept z B a m (take 98 (drop at s)) k ∙ p .long .2,
+            ap length put ∙ put-length c (length ts) s (t .sheets) behind kept ∙ p .long .0,
+            ap length array ∙ array-kept z B w a m (take c (drop at s)) k ∙ p .long .1,
+            ap length map ∙ map-kept z B w a m (take c (drop at s)) k ∙ p .long .2,
           );
           room = omega arith;
         }
@@ -263,14 +290,14 @@ module _ (z : Size) (B k : ℕ) (a₀ m₀ s₀ : List ℕ) where
         lesser true j = omega arith
         lesser false j = omega arith
 
-    -- With the sheet as the part of the buffer that is lent.
-    pub goes : (own : List ℕ) → own ≡ take 98 (drop at s) → let u = rebuildTurn z B a m own k in
-        (e : Turns) → e ≡ nextTotal (sheetLayout z) d u → (b n s₂ : List ℕ) → b ≡ u .array → n ≡ u .map
-        → s₂ ≡ take at s ++ (u .sheet ++ drop (at + 98) s) → Progress (ts ++ (u ∷ [])) e b n s₂
-    goes own is =
+    -- With the sheets as the part of the buffer that is lent.
+    pub goes : {own : List ℕ} {e : Turns} {b n s₂ : List ℕ} → own ≡ take c (drop at s) → let u = rebuildTurn z B w a m own k in
+        e ≡ nextTotal S d u → b ≡ u .array → n ≡ u .map → s₂ ≡ take at s ++ (u .sheets ++ drop (at + c) s)
+        → Progress z B w k c a₀ m₀ s₀ (ts ++ (u ∷ [])) e b n s₂
+    goes {e = e} {b = b} {n = n} {s₂ = s₂} is =
         subst
         (λ (l : List ℕ).
-        let u = rebuildTurn z B a m l k in
-        (e : Turns) → e ≡ nextTotal (sheetLayout z) d u → (b n s₂ : List ℕ) → b ≡ u .array → n ≡ u .map
-        → s₂ ≡ take at s ++ (u .sheet ++ drop (at + 98) s) → Progress (ts ++ (u ∷ [])) e b n s₂)
-        (sym is) goes-own
+        let u = rebuildTurn z B w a m l k in
+        e ≡ nextTotal S d u → b ≡ u .array → n ≡ u .map → s₂ ≡ take at s ++ (u .sheets ++ drop (at + c) s)
+        → Progress z B w k c a₀ m₀ s₀ (ts ++ (u ∷ [])) e b n s₂)
+        (sym is) (goes-own e b n s₂)

@@ -1,2 +1,4 @@
 pub mod Written
 pub mod Fitting
+pub mod Blanks
+pub mod Part

@@ -2,10 +2,12 @@
 // and `chain`.
 // The entries of a list are counted from 0, the records of a sheet by their numbers from 1.
 ghost use mathlib.Core.Path.{_≡_};
+ghost use mathlib.Core.Bool.{cond};
 ghost use Prim.Native.Nat.{ℕ, _≤_, _<_};
+ghost use lib.Dec.{eqb};
 ghost use lib.ListN.{length};
 ghost use Rattle.entries.specs.Listed.{entryStripe, listed};
-ghost use Rattle.model.specs.Sheet.{narrow, sheetBytes, sheetOf, blankSheet};
+ghost use Rattle.model.specs.Sheet.{narrow, sheetBytes, sheetsBytes, sheetOf, sheetsOf, sheetAt, blankSheet, blankSheets};
 
 // The kinds of sheets: repairs, and a loop.
 pub const REPAIR_KIND: u8 = 1;
@@ -37,6 +39,29 @@ pub fn zero(sheet: &mut [u8])
         sheet[i] = blank[i];
         i += 1;
     }
+}
+
+// Zeros all of some sheets that stand one after another.
+pub fn zero_all(sheets: &mut [u8], number: usize)
+    requires { ⌜ length (now sheets) ≡ sheetsBytes narrow number ⌝ }
+    ensures { λ r. ⌜ now (sheets .exit) ≡ blankSheets narrow number ⌝ }
+{
+    zeros::wipe(sheets, 0, sheets.len());
+}
+
+// Zeros all of them but one.
+pub fn zero_others(sheets: &mut [u8], number: usize, own: usize)
+    requires { ⌜ own < number ⌝ }
+    requires { ⌜ number ≤ 4096 ⌝ }
+    requires { ⌜ length (now sheets) ≡ sheetsBytes narrow number ⌝ }
+    ensures { λ r. ⌜
+        now (sheets .exit) ≡ sheetsOf number (λ p. cond (eqb p own) (sheetAt narrow own (now (sheets .entry))) (blankSheet narrow))
+        ⌝ }
+{
+    let at = BYTES * own;
+    let behind = at + BYTES;
+    zeros::wipe(sheets, 0, at);
+    zeros::wipe(sheets, behind, sheets.len() - behind);
 }
 
 // Writes a list of `count` entries over a blank sheet: record 1 is entry 0, record 2 entry 1, and so on. Each record stands

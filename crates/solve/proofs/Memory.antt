@@ -22,14 +22,14 @@ use Rattle.tally.specs.Tally.{Table}
 use Rattle.solve.specs.Memory.{Room, Peeled}
 
 -- A map has a byte for each disk, and no other disk is erased in it.
-module _ (z : Size) (base : ℕ) (m : List ℕ) (fits : mapFits z m ≡ true) where
+module _ (z : Size) (base : ℕ) (m : List ℕ) (fits : mapFits (disks z) m ≡ true) where
   pub map-disks : length m ≡ layoutOf z base .disks
-  map-disks = map-length z m fits ∙ sym (layout-disks z base)
+  map-disks = map-length (disks z) m fits ∙ sym (layout-disks z base)
 
   pub loaded-inside : (k : ℕ) → k ≤ length m → (work : List ℕ) → erasures work ≡ below k (erasures m)
       → (d : ℕ) → disks z ≤ d → erasures work d ≡ false
   loaded-inside k few work e d l =
-      let long = map-length z m fits in
+      let long = map-length (disks z) m fits in
       ap (λ (c : ℕ → Bool). c d) e ∙ below-not k (erasures m) d (omega arith)
 
 -- Of the disks that are loaded the repairs take some and leave the rest.
@@ -59,7 +59,7 @@ peeled-whole {L} m {made} {left} {work} {stripes} {list} p =
 -- ---- room
 
 -- The memory that is made is large enough: the working map is as long as the map.
-pub room-made : (z : Size) (base : ℕ) → Numbered z base → (m : List ℕ) → mapFits z m ≡ true → {work stripes counts list : List ℕ}
+pub room-made : (z : Size) (base : ℕ) → Numbered z base → (m : List ℕ) → mapFits (disks z) m ≡ true → {work stripes counts list : List ℕ}
     → length m ≡ length work → length stripes ≡ 512 → length counts ≡ 64 → 32 ≤ length list → Room (layoutOf z base) work stripes counts list
 room-made z base n m fits ew es ec room =
     let few = map-few z base n m fits in

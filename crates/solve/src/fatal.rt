@@ -5,7 +5,7 @@ ghost use lib.ListN.{length};
 ghost use Rattle.stripes.specs.Erased.{erasures};
 ghost use Rattle.stripes.specs.Repair.{fatal};
 ghost use Rattle.stripes.specs.Cycle.{closing, shownCycle};
-ghost use Rattle.model.specs.Grid.{layoutOf, mapFits};
+ghost use Rattle.model.specs.Grid.{layoutOf, mapFits, disks};
 ghost use Rattle.layout.specs.Stripe.{Numbered};
 ghost use Rattle.entries.specs.Listed.{listed};
 ghost use Rattle.solve.specs.Memory.{Room};
@@ -22,7 +22,7 @@ fn closing_disk(
     list: &mut [u32],
 ) -> usize
     requires { ⌜ Numbered size base ⌝ }
-    requires { ⌜ mapFits size (now map) ≡ true ⌝ }
+    requires { ⌜ mapFits (disks size) (now map) ≡ true ⌝ }
     requires { ⌜ fatal (layoutOf size base) (erasures (now map)) ≡ true ⌝ }
     requires { ⌜ Room (layoutOf size base) (now work) (now stripes) (now counts) (now list) ⌝ }
     ensures { λ r. ⌜ r ≡ closing (layoutOf size base) (erasures (now (map .entry))) ⌝ }
@@ -61,7 +61,7 @@ pub fn show(
     list: &mut [u32],
 ) -> usize
     requires { ⌜ Numbered size base ⌝ }
-    requires { ⌜ mapFits size (now map) ≡ true ⌝ }
+    requires { ⌜ mapFits (disks size) (now map) ≡ true ⌝ }
     requires { ⌜ fatal (layoutOf size base) (erasures (now map)) ≡ true ⌝ }
     requires { ⌜ Room (layoutOf size base) (now work) (now stripes) (now counts) (now list) ⌝ }
     ensures number { λ r. ⌜ r ≡ length (shownCycle (layoutOf size base) (erasures (now (map .entry)))) ⌝ }

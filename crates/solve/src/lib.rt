@@ -4,7 +4,7 @@ ghost use mathlib.Core.Bool.{true};
 ghost use Prim.Native.Nat.{_≤_};
 ghost use lib.ListN.{length};
 ghost use Rattle.stripes.specs.Erased.{erasures};
-ghost use Rattle.model.specs.Grid.{layoutOf, mapFits};
+ghost use Rattle.model.specs.Grid.{layoutOf, disks, mapFits};
 ghost use Rattle.layout.specs.Stripe.{Numbered};
 ghost use Rattle.entries.specs.Listed.{capacity};
 ghost use Rattle.solve.specs.Memory.{Room};
@@ -33,7 +33,7 @@ fn solve_in(
     list: &mut [u32],
 ) -> Solved
     requires { ⌜ Numbered size base ⌝ }
-    requires { ⌜ mapFits size (now map) ≡ true ⌝ }
+    requires { ⌜ mapFits (disks size) (now map) ≡ true ⌝ }
     requires { ⌜ Room (layoutOf size base) (now work) (now stripes) (now counts) (now list) ⌝ }
     ensures { λ r. ⌜ Solves (layoutOf size base) (erasures (now (map .entry))) r (now (list .exit)) ⌝ }
 {
@@ -53,7 +53,7 @@ fn solve_in(
 // nothing behind it is looked at.
 pub fn solve(size: Size, base: usize, map: &[u8], list: &mut [u32]) -> Solved
     requires { ⌜ Numbered size base ⌝ }
-    requires { ⌜ mapFits size (now map) ≡ true ⌝ }
+    requires { ⌜ mapFits (disks size) (now map) ≡ true ⌝ }
     requires { ⌜ capacity ≤ length (now list) ⌝ }
     ensures { λ r. ⌜ Solves (layoutOf size base) (erasures (now (map .entry))) r (now (list .exit)) ⌝ }
 {

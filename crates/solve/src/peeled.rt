@@ -4,7 +4,7 @@ ghost use mathlib.Core.Bool.{true};
 ghost use Prim.Native.Nat.{_≤_};
 ghost use lib.ListN.{length};
 ghost use Rattle.stripes.specs.Erased.{erasures, below};
-ghost use Rattle.model.specs.Grid.{layoutOf, mapFits};
+ghost use Rattle.model.specs.Grid.{layoutOf, mapFits, disks};
 ghost use Rattle.layout.specs.Stripe.{Numbered};
 ghost use Rattle.solve.specs.Memory.{Room, Peeled as Memory·Peeled};
 use model::Size;
@@ -28,7 +28,7 @@ pub fn peel_below(
     list: &mut [u32],
 ) -> Peeled
     requires { ⌜ Numbered size base ⌝ }
-    requires { ⌜ mapFits size (now map) ≡ true ⌝ }
+    requires { ⌜ mapFits (disks size) (now map) ≡ true ⌝ }
     requires { ⌜ k ≤ length (now map) ⌝ }
     requires { ⌜ Room (layoutOf size base) (now work) (now stripes) (now counts) (now list) ⌝ }
     ensures { λ r. ⌜ Memory·Peeled (layoutOf size base) (below k (erasures (now (map .entry)))) (r .made) (r .left) (now (work .exit)) (now (stripes .exit)) (now (list .exit)) ⌝ }

@@ -10,11 +10,11 @@ use native.Mathlib.Omega.{arith}
 use borrow.Author.Tests.{eq-eqb, ne-eqb, eqb-true, eqb-false, ltb-true, lt-ltb, le-ltb, not-true}
 use lib.Dec.{eqb, ltb}
 use lib.ListN.{length}
-use Rattle.stripes.specs.Fold.{bit, count}
+use Rattle.stripes.specs.Fold.{every, bit, count}
 use Rattle.stripes.specs.System.{Layout, TwoStripes, among, on, otherThan, Ordered, Rising}
 use Rattle.stripes.specs.Erased.{without}
 use Rattle.stripes.specs.Repair.{Entry, allowed, Peels}
-use Rattle.stripes.proofs.Fold.{and-left, and-right, and-both, by-cases, lt-or-le, below-suc, count-le, count-mono, count-none, count-some, count-found, count-without, count-but}
+use Rattle.stripes.proofs.Fold.{and-left, and-right, and-both, same-test, by-cases, lt-or-le, below-suc, every-at, every-all, count-le, count-mono, count-none, count-some, count-found, count-without, count-but}
 use Rattle.stripes.proofs.Peel.{Within, without-at, without-other, without-sub, without-apart, Allowed, allowed-is}
 
 -- ---- sums of numbers
@@ -66,6 +66,16 @@ unfolding total
 total-upto k zero f h = let none : k ≡ 0 = omega arith in rw none (le-refl _)
 total-upto k (suc n) f h =
     ⊎-elim (λ (e : k ≡ suc n). rw e (le-refl _)) (λ (l : k < suc n). let before = total-upto k n f (omega arith) in omega arith) (eq-or-lt-of-le h)
+
+-- A sum is zero exactly if every part is.
+pub total-none : (n : ℕ) (f : ℕ → ℕ) → eqb (total n f) 0 ≡ every n (λ i. eqb (f i) 0)
+unfolding total
+total-none n f =
+    same-test (eqb (total n f) 0) (every n (λ i. eqb (f i) 0))
+    (λ h.
+    let none = eqb-true (total n f) 0 h in
+    every-all n (λ i l. let part = total-upto (suc i) n f l in eq-eqb (f i) 0 (omega arith)))
+    (λ h. eq-eqb (total n f) 0 (total-zero n (λ i l. eqb-true (f i) 0 (every-at n (λ i. eqb (f i) 0) h i l))))
 
 -- Where no part is larger and the sum is not smaller, the parts are equal.
 pub total-squeeze : (n : ℕ) (f g : ℕ → ℕ) → ((i : ℕ) → i < n → f i ≤ g i) → total n g ≤ total n f → (i : ℕ) → i < n → f i ≡ g i

@@ -1,16 +1,16 @@
--- The laws of sums, tests and lists over the numbers below a bound.
+-- The laws of sums, tests and lists over the numbers below a bound, and of lists cut in two.
 -- Assumes nothing.
 use mathlib.Core.Path.{_≡_, refl, sym, _∙_, ap, ap₂, subst}
 use mathlib.Core.Bool.{Bool, true, false, cond, not, _&&_, _||_, and-assoc, and-true, and-false, true≢false, false≢true}
 use mathlib.Core.Logic.{_⊎_, inl, inr, ⊎-elim}
-use mathlib.Core.List.{List}
+use mathlib.Core.List.{List, [], _∷_, _++_, map}
 use Prim.Native.Nat.{ℕ, zero, suc, _+_, _*_, _-_, _≤_, _<_, zero-le, suc-le-suc}
-use native.Mathlib.Nat.{add-sub-of-le, add-zero, add-comm, add-suc, zero-mul, suc-mul, eq-or-lt-of-le, le-of-suc-le-suc, lt-suc-self, le-step, le-refl, le-of-lt, lt-irrefl, not-suc-le-zero, lt-of-lt-of-le, zero-lt-suc, pos-of-ne-zero}
+use native.Mathlib.Nat.{add-sub-of-le, add-zero, add-comm, add-suc, zero-mul, suc-mul, eq-or-lt-of-le, le-of-suc-le-suc, lt-suc-self, le-step, le-refl, le-of-lt, lt-irrefl, not-suc-le-zero, lt-of-lt-of-le, zero-lt-suc, pos-of-ne-zero, sub-zero, zero-sub, suc-sub-suc}
 use native.Mathlib.Omega.{arith}
 use borrow.Author.Tests.{ltb-true, ltb-false, eq-eqb, ne-eqb, eqb-true, eqb-false}
 use lib.Dec.{ltb, eqb}
-use lib.ListN.{length, getD}
-use lib.Seq.{ext-getD}
+use lib.ListN.{length, getD, take, drop}
+use lib.Seq.{take-nil, drop-nil, ext-getD}
 use Rattle.stripes.specs.Fold.{_⊕_, xsum, gate, every, bit, count, lowest, tabulate}
 use Rattle.stripes.proofs.Xor.{⊕-assoc, ⊕-zero, zero-⊕, ⊕-self, ⊕-swap4, ⊕-byte}
 
@@ -215,6 +215,15 @@ every-add m (suc n) t =
     ap (λ (k : ℕ). every k t) (add-suc m n) ∙ ap (λ (x : Bool). x && t (m + n)) (every-add m n t)
     ∙ and-assoc (every m t) (every n (λ i. t (m + i))) (t (m + n))
 
+-- Two tests of every number are one.
+pub every-and : (n : ℕ) (t u : ℕ → Bool) → (every n t && every n u) ≡ every n (λ i. t i && u i)
+every-and n t u =
+    same-test (every n t && every n u) (every n (λ i. t i && u i))
+    (λ h. every-all n (λ i l. and-both (every-at n t (and-left (every n t) _ h) i l) (every-at n u (and-right (every n t) _ h) i l)))
+    (λ h.
+    and-both (every-all n (λ i l. and-left (t i) _ (every-at n (λ i. t i && u i) h i l)))
+    (every-all n (λ i l. and-right (t i) _ (every-at n (λ i. t i && u i) h i l))))
+
 -- ---- counts
 pub bit-le : (b : Bool) → bit b ≤ 1
 unfolding bit
@@ -417,3 +426,27 @@ pub list-is : (l : List ℕ) (n : ℕ) (f : ℕ → ℕ) → length l ≡ n → 
 list-is l n f e h =
     ext-getD 0 l (tabulate n f) (e ∙ sym (length-tabulate n f))
     (λ i b. let c : i < n = omega arith in h i c ∙ sym (getD-tabulate n f i c))
+
+-- The first k elements of a list made of two, and the others.
+module _ {ℓ} {A : Type ℓ} where
+  pub take-append : (k : ℕ) (l m : List A) → take k (l ++ m) ≡ take k l ++ take (k - length l) m
+  take-append k [] m = rw (take-nil, sub-zero)
+  take-append zero (x ∷ xs) m = rw zero-sub
+  take-append (suc k) (x ∷ xs) m = rw suc-sub-suc (ap (_∷_ x) (take-append k xs m))
+
+  pub drop-append : (k : ℕ) (l m : List A) → drop k (l ++ m) ≡ drop k l ++ drop (k - length l) m
+  drop-append k [] m = rw (drop-nil, sub-zero)
+  drop-append zero (x ∷ xs) m = rw zero-sub
+  drop-append (suc k) (x ∷ xs) m = rw suc-sub-suc (drop-append k xs m)
+
+-- The same of a list whose elements are mapped.
+module _ {ℓ ℓ′} {A : Type ℓ} {B : Type ℓ′} (f : A → B) where
+  pub take-map : (k : ℕ) (l : List A) → take k (map f l) ≡ map f (take k l)
+  take-map zero l = refl
+  take-map (suc k) [] = refl
+  take-map (suc k) (x ∷ xs) = ap (_∷_ (f x)) (take-map k xs)
+
+  pub drop-map : (k : ℕ) (l : List A) → drop k (map f l) ≡ map f (drop k l)
+  drop-map zero l = refl
+  drop-map (suc k) [] = refl
+  drop-map (suc k) (x ∷ xs) = drop-map k xs

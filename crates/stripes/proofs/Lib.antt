@@ -11,12 +11,16 @@ pub mod Alone
 pub mod Walk
 pub mod Trace
 pub mod Restore
-pub mod Clears
 pub mod Split
+pub mod Clears
 pub mod Joined
 pub mod Ends
 pub mod Undetermined
 pub mod Saved
 pub mod Side
 pub mod Wanted
+pub mod Sectors
+pub mod Positions
+pub mod SectorBytes
+pub mod SectorParts
 pub mod Theorems

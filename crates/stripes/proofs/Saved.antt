@@ -16,9 +16,9 @@ use Rattle.stripes.specs.Erased.{without, Agree, Belongs, AmbiguousIn}
 use Rattle.stripes.specs.Repair.{Entry, diskOf, Peels, repairs, after, fatal, rebuilt}
 use Rattle.stripes.specs.Cycle.{core, shownCycle}
 use Rattle.stripes.specs.Joined.{joined}
-use Rattle.stripes.specs.Undetermined.{undetermined, determined, lost, survivorSum, partSum, savedByte, saved}
+use Rattle.stripes.specs.Undetermined.{undetermined, determined, lost, survivorSum, partSum, partsCancel, savedByte, saved}
 use Rattle.stripes.specs.declared.Stretch.{Stretch}
-use Rattle.stripes.proofs.Fold.{xsum-ext, and-left, and-both, fails-with, by-cases, same-test, count-ext, count-mono, count-without, count-some, count-found, count-split}
+use Rattle.stripes.proofs.Fold.{xsum-ext, and-left, and-both, fails-with, by-cases, same-test, every-ext, count-ext, count-mono, count-without, count-some, count-found, count-split}
 use Rattle.stripes.proofs.Bytes.{byte-changed, whole-inside, length-changed, changed-is, changed-outside, changed-self}
 use Rattle.stripes.proofs.Sums.{sumOver-ext}
 use Rattle.stripes.proofs.Peel.{without-sub, without-other, without-apart, after-sub, peel-count, repairs-peels}
@@ -190,13 +190,21 @@ module _ (L : Layout) (two : TwoStripes L) where
 
 -- ---- the array with the determined disks saved
 
--- The byte of a determined disk depends on the survivors alone.
-pub saved-byte-same : (L : Layout) (x : Stretch) (e : ℕ → Bool) (a b : List ℕ) → Agree L x e a b
-    → (d p : ℕ) → p < x .width → savedByte L x e a d p ≡ savedByte L x e b d p
-unfolding savedByte partSum survivorSum
-saved-byte-same L x e a b same d p h =
-    xsum-ext (L .stripeBound)
-    (λ s k. ap (gate (joined L (without e d) s (lower L d))) (sumOver-ext L (λ i l. agree-gate L x e a b same i l p h) s))
+-- The sums over the parts depend on the survivors alone, and so does whether they cancel, and the byte of a determined disk.
+module _ (L : Layout) (x : Stretch) (e : ℕ → Bool) (a b : List ℕ) (same : Agree L x e a b) where
+  pub part-sum-same : (c : ℕ → Bool) (p t : ℕ) → p < x .width → partSum L x e c a p t ≡ partSum L x e c b p t
+  unfolding partSum survivorSum
+  part-sum-same c p t h =
+      xsum-ext (L .stripeBound) (λ s k. ap (gate (joined L c s t)) (sumOver-ext L (λ i l. agree-gate L x e a b same i l p h) s))
+
+  pub parts-cancel-same : partsCancel L x e a ≡ partsCancel L x e b
+  unfolding partsCancel
+  parts-cancel-same =
+      every-ext (L .stripeBound) (λ t l. every-ext (x .width) (λ p h. ap (λ (v : ℕ). eqb v 0) (part-sum-same e p t h)))
+
+  pub saved-byte-same : (d p : ℕ) → p < x .width → savedByte L x e a d p ≡ savedByte L x e b d p
+  unfolding savedByte
+  saved-byte-same d p h = part-sum-same (without e d) p (lower L d) h
 
 pub length-saved : (L : Layout) (x : Stretch) (a : List ℕ) (e : ℕ → Bool) → length (saved L x a e) ≡ length a
 unfolding saved

@@ -1,4 +1,5 @@
--- The theorems on stripe systems: what repairs bring back, when a loss is fatal, and what the survivors determine.
+-- The theorems on stripe systems: what repairs bring back, when a loss is fatal, and what the survivors determine; also where blocks are
+-- cut into sectors.
 -- Assumes nothing.
 use mathlib.Core.Path.{_≡_, refl}
 use mathlib.Core.Bool.{Bool, true, false}
@@ -14,6 +15,7 @@ use Rattle.stripes.specs.Cycle.{Cycle, shownCycle}
 use Rattle.stripes.specs.Joined.{joined}
 use Rattle.stripes.specs.Undetermined.{undetermined, determined, lost, partsCancel, savedByte}
 use Rattle.stripes.specs.Wanted.{wantedRepairs, Reached, Wanted}
+use Rattle.stripes.specs.Sectors.{sectored, atPosition, sectorRepairs}
 use Rattle.stripes.specs.declared.Stretch.{Stretch}
 use Rattle.stripes.proofs.Fold.{by-cases}
 use Rattle.stripes.proofs.Bytes.{whole-inside}
@@ -26,6 +28,9 @@ use Rattle.stripes.proofs.Split.{repairs-rest, fatal-rest}
 use Rattle.stripes.proofs.Undetermined.{saved-byte, belongs-iff, damage-shown, any-bytes, undetermined-iff}
 use Rattle.stripes.proofs.Wanted.{unreached-iff, wanted-is, wanted-unique}
 use Rattle.stripes.proofs.Saved.{fatal-lost as Saved·fatal-lost, reached-determined as Saved·reached-determined, undetermined-after, lost-fewer, lost-tells, shown-undetermined}
+use Rattle.stripes.proofs.Sectors.{two-sectors, one-sector}
+use Rattle.stripes.proofs.Positions.{fatal-some, order-rest, one-order}
+use Rattle.stripes.proofs.SectorBytes.{codeword-sectors}
 
 -- ---- where the stripes of a disk are listed in rising order
 module _ (L : Layout) (e : ℕ → Bool) where
@@ -151,3 +156,30 @@ module _ (L : Layout) (two : TwoStripes L) (e : ℕ → Bool) where
     -- and whether a disk is undetermined stays the same after repairs.
     pub left-same : (d : ℕ) → d < L .disks → undetermined L e d ≡ undetermined L (after e w) d
     left-same = undetermined-after L two e w peels
+
+-- ---- where blocks are cut into sectors
+module _ (n : ℕ) (L : Layout) where
+  -- Every sector lies on two stripes where every disk does, so what stands above holds of sectors too.
+  pub sectors-two : TwoStripes L → TwoStripes (sectored n L)
+  sectors-two = two-sectors n L
+
+  -- An array is a codeword sector by sector exactly if it is one.
+  pub sectors-codeword : (w B : ℕ) → B ≡ n * w → (b : List ℕ) → Codeword (sectored n L) (whole w) b ↔ Codeword L (whole B) b
+  sectors-codeword w B cut = codeword-sectors n w B cut L
+
+  module _ (e : ℕ → Bool) where
+    -- The loss of sectors is fatal exactly if it is at some position.
+    pub sectors-fatal : (fatal (sectored n L) e ≡ true) ↔ ((p : ℕ) × (p < n) × (fatal L (atPosition n p e) ≡ true))
+    sectors-fatal = fatal-some n L e
+
+    -- Plan's order has no memory there either.
+    pub sectors-follow : (k : ℕ) → sectorRepairs n L (after e (take k (sectorRepairs n L e))) ≡ drop k (sectorRepairs n L e)
+    sectors-follow = order-rest n L e
+
+-- One sector a block changes nothing.
+module _ (L : Layout) where
+  pub one-system : sectored 1 L ≡ L
+  one-system = one-sector L
+
+  pub one-repairs : (e : ℕ → Bool) → sectorRepairs 1 L e ≡ repairs L e
+  one-repairs = one-order L

@@ -6,3 +6,4 @@ pub mod Cycle
 pub mod Joined
 pub mod Undetermined
 pub mod Wanted
+pub mod Sectors

@@ -1,4 +1,4 @@
--- The laws of the search for the next erased disk, and of a map that is copied.
+-- The laws of the search for the next erased disk, and of a map whose bytes are copied.
 -- Assumes nothing.
 use mathlib.Core.Path.{_≡_, sym, _∙_, ap, subst, fun-ext}
 use mathlib.Core.Bool.{Bool, true, false, _&&_, and-false}
@@ -83,19 +83,19 @@ module _ (m : List ℕ) (from : ℕ) {d : ℕ} (found : d ≡ nextErased m from)
         none = λ i a b. ap (λ (x : Bool). x && erasures m i) (sym (le-leb from i a)) ∙ next-lowest .none i b;
       }
 
--- ---- a map that is copied
+-- ---- a map whose bytes are copied
 
--- The first i bytes of `work` are those of the map.
-abbrev pub Copied : (map work : List ℕ) → ℕ → Type 0
-Copied map work i = (j : ℕ) → j < i → getD work j 0 ≡ getD map j 0
+-- The first i bytes of `work` are f 0, f 1, ..
+abbrev pub Copied : (f : ℕ → ℕ) (work : List ℕ) → ℕ → Type 0
+Copied f work i = (j : ℕ) → j < i → getD work j 0 ≡ f j
 
-pub copied-next : (map work : List ℕ) (i : ℕ) → i < length work → Copied map work i → Copied map (set work i (getD map i 0)) (i + 1)
-copied-next map work i l same =
-    below-more (λ j. getD (set work i (getD map i 0)) j 0 ≡ getD map j 0) i
-    (λ j h. getD-set-other work i j (getD map i 0) 0 (λ q. omega arith) ∙ same j h) (getD-set-same work i (getD map i 0) 0 l)
+pub copied-next : (f : ℕ → ℕ) (work : List ℕ) (i : ℕ) → i < length work → Copied f work i → Copied f (set work i (f i)) (i + 1)
+copied-next f work i l same =
+    below-more (λ j. getD (set work i (f i)) j 0 ≡ f j) i
+    (λ j h. getD-set-other work i j (f i) 0 (λ q. omega arith) ∙ same j h) (getD-set-same work i (f i) 0 l)
 
--- With zeros behind them, they are the erased disks below k.
-pub copied-below : (map work : List ℕ) (k : ℕ) → k ≤ length work → Copied map work k
+-- Where they are those of a map, with zeros behind them, they are the erased disks below k.
+pub copied-below : (map work : List ℕ) (k : ℕ) → k ≤ length work → Copied (λ j. getD map j 0) work k
     → erasures (stored work k (length work - k) (λ i. 0)) ≡ below k (erasures map)
 unfolding erasures below
 copied-below map work k fits same =

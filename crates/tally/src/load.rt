@@ -5,9 +5,11 @@ ghost use Prim.Native.Nat.{ℕ, _*_, _≤_};
 ghost use lib.ListN.{length};
 ghost use Rattle.stripes.specs.Fold.{count};
 ghost use Rattle.stripes.specs.Erased.{erasures, below};
+ghost use Rattle.stripes.specs.Sectors.{atPosition};
 ghost use Rattle.model.specs.Grid.{disks, layoutOf};
 ghost use Rattle.layout.specs.Stripe.{Numbered, stripeLimit};
 ghost use Rattle.tally.specs.Tally.{Tallied};
+ghost use Rattle.tally.specs.Column.{columnOf, Located};
 use model::Size;
 
 // `work` becomes the first k bytes of a map, with zeros behind them.
@@ -22,6 +24,30 @@ pub fn copy(map: &[u8], k: usize, work: &mut [u8])
         i += 1;
     }
     zeros::wipe(work, k, work.len() - k);
+}
+
+// `work` becomes the bytes of one position of a map that has `sectors` bytes for each disk. The size says only of what the contract speaks.
+pub fn gather(size: Size, map: &[u8], sectors: usize, position: usize, work: &mut [u8])
+    requires { ⌜ Located size sectors position (now map) (now work) ⌝ }
+    ensures { λ r. ⌜ now (work .exit) ≡ columnOf (disks size) sectors position (now (map .entry)) ⌝ }
+{
+    let mut i = 0;
+    while i < work.len() {
+        work[i] = map[i * sectors + position];
+        i += 1;
+    }
+}
+
+// The same, of which only the erased disks are spoken. The map of a block without sectors is copied as it is.
+pub fn load_position(size: Size, map: &[u8], sectors: usize, position: usize, work: &mut [u8])
+    requires { ⌜ Located size sectors position (now map) (now work) ⌝ }
+    ensures { λ r. ⌜ erasures (now (work .exit)) ≡ atPosition sectors position (erasures (now (map .entry))) ⌝ }
+{
+    if sectors == 1 {
+        copy(map, map.len(), work);
+    } else {
+        gather(size, map, sectors, position, work);
+    }
 }
 
 // Writes the stripes of each erased disk into the table, counts the erased disks on every stripe, and says how many they are.

@@ -1,7 +1,7 @@
 // The plan for one wanted disk: the shortest list of repairs that reaches it, or what plan tells of a loss that leaves it.
 ghost use mathlib.Core.Path.{_≡_};
 ghost use mathlib.Core.Bool.{true};
-ghost use Rattle.model.specs.Grid.{mapFits};
+ghost use Rattle.model.specs.Grid.{mapFits, disks};
 ghost use Rattle.model.specs.PlanDisk.{canBeWanted, planDiskOutcome, planDiskSheet};
 
 mod reach;
@@ -12,7 +12,7 @@ use model::Size;
 
 // The disk is one of the array, and erased. The size says only of what the contract speaks.
 fn can_be_wanted(size: Size, map: &[u8], disk: usize) -> bool
-    requires { ⌜ mapFits size (now map) ≡ true ⌝ }
+    requires { ⌜ mapFits (disks size) (now map) ≡ true ⌝ }
     ensures { λ r. ⌜ r ≡ canBeWanted size (now (map .entry)) disk ⌝ }
 {
     if map.len() <= disk {
@@ -30,7 +30,7 @@ pub fn plan_disk(size: Size, map: &[u8], sheet: &mut [u8], disk: usize) -> Outco
     if !refusal::size_fits(size) {
         return Outcome::Refused(1);
     }
-    let status = refusal::sheet_refusal(size, map, sheet.len());
+    let status = refusal::sheet_refusal(size, 1, map, sheet.len());
     if status != 0 {
         return Outcome::Refused(status);
     }
@@ -40,7 +40,7 @@ pub fn plan_disk(size: Size, map: &[u8], sheet: &mut [u8], disk: usize) -> Outco
     let mut list = [0u32; entries::CAPACITY];
     let count = reach::find(size, sheet::BASE, map, disk, &mut list);
     if count == 0 {
-        return plan::draft(size, map, sheet, &mut list, entries::CAPACITY);
+        return plan::draft(size, 1, map, sheet, entries::CAPACITY);
     }
     sheet::write(sheet::REPAIR_KIND, &list, count, sheet);
     Outcome::Repairs(count)

@@ -7,7 +7,7 @@ ghost use lib.ListN.{length};
 ghost use Rattle.stripes.specs.System.{on};
 ghost use Rattle.stripes.specs.Erased.{erasures};
 ghost use Rattle.stripes.specs.Wanted.{serves};
-ghost use Rattle.model.specs.Grid.{layoutOf, mapFits};
+ghost use Rattle.model.specs.Grid.{layoutOf, mapFits, disks};
 ghost use Rattle.layout.specs.Stripe.{Numbered, stripeLimit};
 ghost use Rattle.entries.specs.Listed.{capacity};
 ghost use Rattle.solve.specs.Memory.{Room};
@@ -26,7 +26,7 @@ fn load_others(
     parts: &mut [u8],
 )
     requires { ⌜ Numbered size base ⌝ }
-    requires { ⌜ mapFits size (now map) ≡ true ⌝ }
+    requires { ⌜ mapFits (disks size) (now map) ≡ true ⌝ }
     requires { ⌜ disk < length (now map) ⌝ }
     requires { ⌜ length (now map) ≤ length (now others) ⌝ }
     requires { ⌜ 2 * length (now others) ≤ length (now stripes) ⌝ }
@@ -58,7 +58,7 @@ fn try_stripe(
     list: &mut [u32],
 ) -> usize
     requires { ⌜ Numbered size base ⌝ }
-    requires { ⌜ mapFits size (now map) ≡ true ⌝ }
+    requires { ⌜ mapFits (disks size) (now map) ≡ true ⌝ }
     requires { ⌜ erasures (now map) disk ≡ true ⌝ }
     requires { ⌜ on (layoutOf size base) disk stripe ≡ true ⌝ }
     requires { ⌜ Others (layoutOf size base) (now map) disk (now others) (now stripes) (now parts) ⌝ }
@@ -92,7 +92,7 @@ fn try_both(
     list: &mut [u32],
 ) -> usize
     requires { ⌜ Numbered size base ⌝ }
-    requires { ⌜ mapFits size (now map) ≡ true ⌝ }
+    requires { ⌜ mapFits (disks size) (now map) ≡ true ⌝ }
     requires { ⌜ erasures (now map) disk ≡ true ⌝ }
     requires { ⌜ on (layoutOf size base) disk first ≡ true ⌝ }
     requires { ⌜ on (layoutOf size base) disk second ≡ true ⌝ }
@@ -151,7 +151,7 @@ fn find_in(
     list: &mut [u32],
 ) -> usize
     requires { ⌜ Numbered size base ⌝ }
-    requires { ⌜ mapFits size (now map) ≡ true ⌝ }
+    requires { ⌜ mapFits (disks size) (now map) ≡ true ⌝ }
     requires { ⌜ erasures (now map) disk ≡ true ⌝ }
     requires { ⌜ layoutOf size base .stripeBound ≤ length (now parts) ⌝ }
     requires { ⌜ Room (layoutOf size base) (now work) (now stripes) (now counts) (now list) ⌝ }
@@ -190,7 +190,7 @@ fn find_in(
 // entries::CAPACITY words. The working maps are as long as the map, so that nothing behind it is looked at.
 pub fn find(size: Size, base: usize, map: &[u8], disk: usize, list: &mut [u32]) -> usize
     requires { ⌜ Numbered size base ⌝ }
-    requires { ⌜ mapFits size (now map) ≡ true ⌝ }
+    requires { ⌜ mapFits (disks size) (now map) ≡ true ⌝ }
     requires { ⌜ erasures (now map) disk ≡ true ⌝ }
     requires { ⌜ capacity ≤ length (now list) ⌝ }
     ensures { λ r. ⌜ Found (layoutOf size base) (erasures (now (map .entry))) disk r (now (list .exit)) ⌝ }

@@ -49,6 +49,19 @@ fn parts_cancel(
     true
 }
 
+// `cancels` for few bytes: eight at a time, then one.
+fn few_cancel(a: &[u8], first: usize, step: usize, count: usize, skip: usize, len: usize) -> bool
+    requires { ⌜ Within (now a) first step count len ⌝ }
+    requires { ⌜ first + len ≤ length (now a) ⌝ }
+    ensures { λ r. ⌜ r ≡ cancelled len (now (a .entry)) first step count skip ⌝ }
+{
+    let eights = len / 8;
+    if !parts_cancel(a, first, step, count, skip, eights, 8) {
+        return false;
+    }
+    parts_cancel(a, first + 8 * eights, step, count, skip, len % 8, 1)
+}
+
 // Of `count` stretches of `len` bytes that stand `step` apart from `first` on, the sum of all but number `skip` is zero at
 // each place.
 pub fn cancels(a: &[u8], first: usize, step: usize, count: usize, skip: usize, len: usize) -> bool
@@ -57,7 +70,7 @@ pub fn cancels(a: &[u8], first: usize, step: usize, count: usize, skip: usize, l
     ensures { λ r. ⌜ r ≡ cancelled len (now (a .entry)) first step count skip ⌝ }
 {
     if len < 16 {
-        return parts_cancel(a, first, step, count, skip, len, 1);
+        return few_cancel(a, first, step, count, skip, len);
     }
     let wide = len / 128;
     let middle = len % 128 / 32;

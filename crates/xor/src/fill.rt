@@ -28,6 +28,16 @@ fn fill_parts(
     }
 }
 
+// `fill` for few bytes: eight at a time, then one.
+fn fill_few(a: &mut [u8], first: usize, step: usize, count: usize, skip: usize, len: usize)
+    requires { ⌜ Spaced (now a) first step count skip len ⌝ }
+    ensures { λ r. ⌜ now (a .exit) ≡ filled len (now (a .entry)) first step count skip ⌝ }
+{
+    let eights = len / 8;
+    fill_parts(a, first, step, count, skip, eights, 8);
+    fill_parts(a, first + 8 * eights, step, count, skip, len % 8, 1);
+}
+
 // Of `count` stretches of `len` bytes that stand `step` apart from `first` on, number `skip` becomes the sum of the others. As
 // it is left out of the sum, bytes that are stored twice get the same value.
 pub fn fill(a: &mut [u8], first: usize, step: usize, count: usize, skip: usize, len: usize)
@@ -35,7 +45,7 @@ pub fn fill(a: &mut [u8], first: usize, step: usize, count: usize, skip: usize, 
     ensures { λ r. ⌜ now (a .exit) ≡ filled len (now (a .entry)) first step count skip ⌝ }
 {
     if len < 16 {
-        fill_parts(a, first, step, count, skip, len, 1);
+        fill_few(a, first, step, count, skip, len);
         return;
     }
     let wide = len / 128;

@@ -50,6 +50,19 @@ fn parts_cancel(
     true
 }
 
+// `cancels` for few bytes: eight at a time, then one.
+fn few_cancel(a: &[u8], first: usize, step: usize, list: &[u16], count: usize, len: usize) -> bool
+    requires { ⌜ Chosen (now a) first step (now list) count len ⌝ }
+    requires { ⌜ first + len ≤ length (now a) ⌝ }
+    ensures { λ r. ⌜ r ≡ pickedCancelled len (now (a .entry)) first step (now (list .entry)) count ⌝ }
+{
+    let eights = len / 8;
+    if !parts_cancel(a, first, step, list, count, eights, 8) {
+        return false;
+    }
+    parts_cancel(a, first + 8 * eights, step, list, count, len % 8, 1)
+}
+
 // The sum of `len` bytes of each of the first `count` of them is zero at each place.
 pub fn cancels(a: &[u8], first: usize, step: usize, list: &[u16], count: usize, len: usize) -> bool
     requires { ⌜ Chosen (now a) first step (now list) count len ⌝ }
@@ -57,7 +70,7 @@ pub fn cancels(a: &[u8], first: usize, step: usize, list: &[u16], count: usize, 
     ensures { λ r. ⌜ r ≡ pickedCancelled len (now (a .entry)) first step (now (list .entry)) count ⌝ }
 {
     if len < 16 {
-        return parts_cancel(a, first, step, list, count, len, 1);
+        return few_cancel(a, first, step, list, count, len);
     }
     let wide = len / 128;
     let middle = len % 128 / 32;
@@ -101,6 +114,24 @@ fn fill_parts(
     }
 }
 
+// `fill` for few bytes: eight at a time, then one.
+fn fill_few(
+    a: &mut [u8],
+    first: usize,
+    step: usize,
+    list: &[u16],
+    count: usize,
+    target: usize,
+    len: usize,
+)
+    requires { ⌜ Beside (now a) first step (now list) count target len ⌝ }
+    ensures { λ r. ⌜ now (a .exit) ≡ pickedFilled len (now (a .entry)) first step (now (list .entry)) count target ⌝ }
+{
+    let eights = len / 8;
+    fill_parts(a, first, step, list, count, target, eights, 8);
+    fill_parts(a, first + 8 * eights, step, list, count, target, len % 8, 1);
+}
+
 // The `len` bytes at the number `target` become the sum of those at the first `count` numbers of the list.
 pub fn fill(
     a: &mut [u8],
@@ -115,7 +146,7 @@ pub fn fill(
     ensures { λ r. ⌜ now (a .exit) ≡ pickedFilled len (now (a .entry)) first step (now (list .entry)) count target ⌝ }
 {
     if len < 16 {
-        fill_parts(a, first, step, list, count, target, len, 1);
+        fill_few(a, first, step, list, count, target, len);
         return;
     }
     let wide = len / 128;

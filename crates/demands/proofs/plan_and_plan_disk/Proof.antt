@@ -17,7 +17,7 @@ use Rattle.model.specs.PlanDisk.{planDiskTests, planDiskOutcome, DiskDemand}
 use Rattle.model.specs.Edition.{superparity}
 use Rattle.model.specs.declared.Size.{Size}
 use Rattle.model.specs.declared.Outcome.{Outcome}
-use Rattle.model.proofs.Accept.{plan-fits}
+use Rattle.model.proofs.Accept.{plan-fits, one-fits}
 use Rattle.model.proofs.PlanDisk.{disk-takes, disk-refused, disk-demand, disk-tidy, disk-look}
 use Rattle.demands.proofs.plan_and_plan_disk.Statement.{statement}
 use Rattle.demands.proofs.plan_and_plan_disk.Tie as tie
@@ -60,8 +60,8 @@ returns c =
             sheet,
             (
               λ planOk diskOk.
-                  let long = plan-fits _ _ _ planOk .2 in
-                  let long₂ = plan-fits _ _ _ (disk-takes _ _ _ _ .0 diskOk .0) .2 in
+                  let long = plan-fits _ 1 _ _ planOk .3 in
+                  let long₂ = one-fits _ _ _ (disk-takes _ _ _ _ .0 diskOk .0) .2 in
                   subst
                   (λ (p : Outcome × List ℕ × Outcome × List ℕ). DiskDemand E narrow (erasures (a .map .now)) (a .disk) (p .0) (p .1) (p .2) (p .3))
                   (sym (λ i. (planned i, draft i, wanted i, sheet i)))

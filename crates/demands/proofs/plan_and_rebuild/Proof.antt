@@ -5,6 +5,7 @@ use mathlib.Core.List.{List}
 use Prim.Native.Nat.{ℕ}
 use native.Mathlib.Omega.{arith}
 use borrow.Author.Needs.{needs}
+use Rattle.stripes.specs.System.{Bytes}
 use Rattle.stripes.specs.Erased.{erasures}
 use Rattle.model.specs.Sheet.{narrow}
 use Rattle.model.specs.Edition.{superparity}
@@ -12,6 +13,7 @@ use Rattle.model.specs.Demand3.{Planned}
 use Rattle.model.specs.declared.Outcome.{Outcome}
 use Rattle.model.proofs.Demand3.{plan-planned}
 use Rattle.demands.proofs.Promised.{promised}
+use Rattle.model.proofs.Single.{plan-single}
 use Rattle.demands.proofs.plan_and_rebuild.Statement.{statement}
 use Rattle.demands.proofs.plan_and_rebuild.Tie as tie
 
@@ -35,11 +37,14 @@ same-length-4 c = search needs
 
 returns : tie.Need-returns
 returns c =
-    let a = c .before .before .before .before .before .before .before .before .before .before .before .before .before .before .before .before .before .before .before .args in
+    let second = c .before .before .before .before .before .before in
+    let first = second .before .before .before .before .before .before in
+    let known = first .before .before .before .before .before .before in
+    let a = known .before .args in
     let E = superparity (a .size) (narrow .base) in
-    let (planned, draft) = c .before .before .before .before .before .before .before .before .before .before .before .before .plan .ensures in
-    let (rebuilt, (array, (map, sheets))) = c .before .before .before .before .before .before .rebuild-in-turns .ensures in
-    let found = c .before .before .before .before .before .before .before .before .before .before .before .before .before .before .before .before .before .before .slice-known .given in (
+    let (planned, draft) = first .plan .ensures in
+    let (rebuilt, (array, (map, sheets))) = second .rebuild-in-turns .ensures in
+    let small : Bytes (a .array .now) = λ i l. omega (arith, known .slice-known .given i) in (
       planned,
       (
         draft,
@@ -53,11 +58,17 @@ returns c =
                 sheets,
                 (
                   λ planOk.
-                      subst (λ (p : Outcome × List ℕ). Planned E narrow (erasures (a .map .now)) (p .0) (p .1)) (sym (λ i. (planned i, draft i)))
-                      (plan-planned (a .size) (a .map .now) (a .draft .now) planOk),
-                  λ planOk rebuildOk enough.
-                      promised (a .size) (a .block) (a .limit) (a .array .now) (a .map .now) (a .draft .now) (a .sheets .now) (λ i l. omega (arith, found i)) planOk rebuildOk enough
-                      _ _ _ _ _ _ planned draft rebuilt array map sheets,
+                      subst (λ (p : Outcome × List ℕ). Planned (a .sectors) E narrow (erasures (a .map .now)) (p .0) (p .1))
+                      (sym (λ i. (planned i, draft i)))
+                      (plan-planned (a .size) (a .sectors) (a .map .now) (a .draft .now) planOk),
+                  (
+                    λ cut planOk rebuildOk enough.
+                        promised (a .size) (a .block) (a .sector) (a .limit) (a .array .now) (a .map .now) (a .draft .now) (a .sheets .now) small rebuildOk
+                        _ _ _ _ _ _ rebuilt array map sheets (a .sectors) cut planned draft planOk enough,
+                    λ one.
+                        let (same, left) = plan-single (a .size) (a .map .now) (a .draft .now) in
+                        rw (planned, draft, one) (same, left),
+                  ),
                 ),
               ),
             ),

@@ -2,128 +2,138 @@
 -- Assumes nothing.
 use mathlib.Core.Path.{_≡_, _∙_, sym}
 use mathlib.Core.Bool.{true}
+use Prim.Native.Nat.{_/_}
 use borrow.Author.Needs.{needs}
 use borrow.Author.Tests.{not-true, not-false}
 use lib.ListN.{length}
 use Rattle.stripes.specs.Erased.{erasures}
 use Rattle.stripes.specs.Repair.{clears}
-use Rattle.stripes.specs.System.{whole}
-use Rattle.model.specs.Grid.{mapFits}
-use Rattle.model.specs.Sheet.{narrow, sheetBytes}
-use Rattle.model.specs.Refusal.{refusal, arrayTests}
-use Rattle.model.specs.Plan.{sheetTests, sheetLayout}
+use Rattle.stripes.proofs.Clears.{clears-peels}
+use Rattle.model.specs.Grid.{arrayBytes, sectorsFit}
+use Rattle.model.specs.Refusal.{refusal, sectorTests}
 use Rattle.model.specs.Rebuild.{bufferRefusal}
-use Rattle.model.proofs.Refusal.{array-fits}
-use Rattle.model.proofs.Accept.{sheet-fits}
-use Rattle.entries.specs.Listed.{listed}
-use native.Mathlib.Omega.{arith}
+use Rattle.model.proofs.Grid.{sector-some, sectors-some}
+use Rattle.model.proofs.Refusal.{sector-fits}
+use Rattle.model.proofs.Accept.{BuffersFit, buffers-fit}
+use Rattle.model.proofs.Follow.{sectors, listed}
 use Rattle.layout.proofs.Numbers.{numbered}
-use Rattle.sums.proofs.Whole.{held}
-use Rattle.follow.proofs.Answers.{Read, array-refused, sheet-refused, tests-left, unclean, records-listed, count-few, steps-refused, peels, agreed, contradicted}
+use Rattle.restore.specs.Restored.{Sectored}
+use Rattle.follow.proofs.Answers.{array-refused, tests-left, sheet-refused, unclean, chains-fit, steps-refused, agreed, contradicted}
 use Rattle.follow.proofs.follow.Statement.{statement}
 use Rattle.follow.proofs.follow.Tie as tie
 
--- The array, the map and the sheet's length have passed their tests.
+-- The array and the sectors have passed their tests,
 sized : (c : tie.Else1) → let a = c .before .before .before .before .before .args in
-    refusal (arrayTests (a .size) (a .block) (length (a .array .now))) ≡ 0
-sized c = sym (c .before .array-refusal .ensures) ∙ c .if1 .left
+    refusal (sectorTests (a .size) (a .block) (length (a .array .now)) (a .sector)) ≡ 0
+sized c = sym (c .before .sector-refusal .ensures) ∙ c .if1 .left
 
-tested : (c : tie.Else2) → let a = c .before .before .before .before .before .before .before .args in
-    refusal (sheetTests (a .size) (a .map .now) (length (a .sheet .now))) ≡ 0
-tested c = sym (c .before .sheet-refusal .ensures) ∙ c .if2 .left
+some-sectors : (c : tie.Else1) → let a = c .before .before .before .before .before .args in sectorsFit (a .block / a .sector) ≡ true
+some-sectors c =
+    let a = c .before .before .before .before .before .args in
+    let (array, sector) = sector-fits (a .size) (a .block) (length (a .array .now)) (a .sector) (sized c) in
+    sectors-some (a .block) (a .sector) (array .block) sector
 
-mapped : (c : tie.Else2) → let a = c .before .before .before .before .before .before .before .args in
-    (mapFits (a .size) (a .map .now) ≡ true) × (length (a .sheet .now) ≡ sheetBytes narrow)
-mapped c = sheet-fits _ _ _ (tested c)
+-- and so have the map and the length of the sheets.
+abbrev start : tie.Else2 → tie.Start
+start c = c .before .before .before .before .before .before .before
 
-passed : (c : tie.Else2) → let a = c .before .before .before .before .before .before .before .args in
-    bufferRefusal (a .size) (a .block) (a .array .now) (a .map .now) (a .sheet .now) ≡ 0
+passed : (c : tie.Else2) → let a = start c .args in
+    bufferRefusal (a .size) (a .block) (a .sector) (a .array .now) (a .map .now) (a .sheets .now) ≡ 0
 passed c =
-    let a = c .before .before .before .before .before .before .before .args in
-    tests-left (a .size) (a .block) (a .array .now) (a .map .now) (a .sheet .now) (sized (c .before .before)) ∙ tested c
+    let a = start c .args in
+    tests-left (a .size) (a .block) (a .sector) (a .array .now) (a .map .now) (a .sheets .now) (sized (c .before .before))
+    ∙ sym (c .before .sheet-refusal .ensures) ∙ c .if2 .left
 
--- The chain fits, and its records are listed in their order.
-is-read : (c : tie.After-chain) → Read (c .before .before .before .before .before .before .before .before .before .before .before .before .args .sheet .now) (c .before .before .before .read-clean .last .1 .0) (c .chain .given .0 .0)
-is-read c =
-    let read = c .before .before .before .read-clean in
-    records-listed _ _ _ (read .ensures .0) (read .ensures .1) _ (c .chain .given .1)
+fit : (c : tie.Else2) → let a = start c .args in
+    BuffersFit (a .size) (a .block) (a .sector) (a .array .now) (a .map .now) (a .sheets .now)
+fit c = buffers-fit _ _ _ _ _ _ (passed c)
+
+held : (c : tie.Else2) → let a = start c .args in Sectored (a .size) (a .block) (a .sector) (a .array .now)
+unfolding arrayBytes
+held c = let f = fit c in record { block = f .array .block; sector = f .sector; sized = f .array .long }
 
 -- Every step is allowed, and nothing is left erased.
-cleared : (c : tie.Else3) → let chain = c .before .before .before .before in let a = chain .before .before .before .before .before .before .before .before .before .before .before .before .args in
-    clears (sheetLayout (a .size)) (erasures (a .map .now)) (listed (chain .before .before .before .read-clean .last .1 .0) (chain .chain .given .0 .0)) ≡ true
-cleared c = sym (c .before .clears .ensures) ∙ not-false _ (c .if3 .left)
+cleared : (c : tie.Else3) → let a = start (c .before .before .before .before .before .before) .args in
+    clears (sectors (a .size) (a .block) (a .sector)) (erasures (a .map .now)) (listed (a .block) (a .sector) (a .sheets .now)) ≡ true
+cleared c = sym (c .before .all-clear .ensures) ∙ not-false _ (c .if3 .left)
 
-array-refusal-requires : tie.Need-array-refusal-requires
-array-refusal-requires c κs = search needs
+sector-refusal-requires : tie.Need-sector-refusal-requires
+sector-refusal-requires c κs = search needs
 
 returns : tie.Need-returns
 returns c =
     let a = c .before .before .before .before .before .args in
-    array-refused (a .size) (a .block) (a .array .now) (a .map .now) (a .sheet .now) _ (c .before .array-refusal .ensures) (c .if1 .taken)
+    array-refused (a .size) (a .block) (a .sector) (a .array .now) (a .map .now) (a .sheets .now) _ (c .before .sector-refusal .ensures)
+    (c .if1 .taken)
+
+div-sectors : tie.Need-div-sectors
+div-sectors c =
+    let a = c .before .before .before .before .before .args in
+    sector-some (a .block) (a .sector) (sector-fits (a .size) (a .block) (length (a .array .now)) (a .sector) (sized c) .1)
 
 sheet-refusal-requires : tie.Need-sheet-refusal-requires
 sheet-refusal-requires c κs =
     let a = c .before .before .before .before .before .args in
-    array-fits (a .size) (a .block) (length (a .array .now)) (sized c) .size
+    (sector-fits (a .size) (a .block) (length (a .array .now)) (a .sector) (sized c) .0 .size, some-sectors c)
 
 returns-2 : tie.Need-returns-2
 returns-2 c =
     let a = c .before .before .before .before .before .before .before .args in
-    sheet-refused (a .size) (a .block) (a .array .now) (a .map .now) (a .sheet .now) (sized (c .before .before)) _ (c .before .sheet-refusal .ensures)
-    (c .if2 .taken)
+    sheet-refused (a .size) (a .block) (a .sector) (a .array .now) (a .map .now) (a .sheets .now) (sized (c .before .before)) _
+    (c .before .sheet-refusal .ensures) (c .if2 .taken)
 
-slice-aggregate-read-clean : tie.Need-slice-aggregate-read-clean
-slice-aggregate-read-clean c = search needs
+read-all-requires : tie.Need-read-all-requires
+read-all-requires c κs = (some-sectors (c .before .before), fit c .long)
 
-read-clean-requires : tie.Need-read-clean-requires
-read-clean-requires c κs = (mapped (c .before) .1, omega arith)
+enum-known-chains : tie.Need-enum-known-chains
+enum-known-chains c = search needs
 
-enum-known-chain : tie.Need-enum-known-chain
-enum-known-chain c = search needs
-
-enum-known-chain-2 : tie.Need-enum-known-chain-2
-enum-known-chain-2 c = search needs
+enum-known-chains-2 : tie.Need-enum-known-chains-2
+enum-known-chains-2 c = search needs
 
 returns-3 : tie.Need-returns-3
 returns-3 c =
-    let a = c .before .before .before .before .before .before .before .before .before .before .before .before .before .args in
-    unclean (a .size) (a .block) (a .array .now) (a .map .now) (a .sheet .now) (passed (c .before .before .before .before .before .before))
-    _ _ (c .before .before .before .before .read-clean .ensures .0) (c .before .chain2 .given .1)
+    let r = c .before .before .before in
+    unclean _ _ _ _ _ _ (passed (r .before)) _ (r .read-all .ensures) _ (c .before .chains2 .given .1)
 
-slice-aggregate-clears : tie.Need-slice-aggregate-clears
-slice-aggregate-clears c = search needs
-
-clears-requires : tie.Need-clears-requires
-clears-requires c κs =
-    let a = c .before .before .before .before .before .before .before .before .before .before .before .before .before .before .args in
-    let l = is-read (c .before .before) in
-    let size = array-fits (a .size) (a .block) (length (a .array .now)) (sized (c .before .before .before .before .before .before .before .before .before)) .size in
-    (numbered (a .size) size, (mapped (c .before .before .before .before .before .before .before) .0, let few = count-few l in omega arith))
+-- The chain of each sheet fits.
+all-clear-requires : tie.Need-all-clear-requires
+all-clear-requires c κs =
+    let r = c .before .before .before in
+    let tests = r .before in
+    let f = fit tests in (
+      numbered (start tests .args .size) (f .array .size),
+      (
+        some-sectors (tests .before .before),
+        (f .map, (f .long, chains-fit _ _ _ _ _ _ (passed tests) _ (r .read-all .ensures) _ (c .before .chains .given .1))),
+      ),
+    )
 
 returns-4 : tie.Need-returns-4
 returns-4 c =
-    let a = c .before .before .before .before .before .before .before .before .before .before .before .before .before .before .before .before .args in
-    steps-refused (is-read (c .before .before .before .before)) (a .size) (a .block) (a .array .now) (a .map .now) (passed (c .before .before .before .before .before .before .before .before .before))
-    (sym (c .before .clears .ensures) ∙ not-true _ (c .if3 .taken))
-
-slice-aggregate-restore : tie.Need-slice-aggregate-restore
-slice-aggregate-restore c = search needs
+    let k = c .before .before in
+    let r = k .before .before .before in
+    steps-refused _ _ _ _ _ _ (passed (r .before)) _ (r .read-all .ensures) _ (k .before .chains .given .1)
+    (sym (c .before .all-clear .ensures) ∙ not-true _ (c .if3 .taken))
 
 restore-requires : tie.Need-restore-requires
-unfolding whole
 restore-requires c κs =
-    let a = c .before .before .before .before .before .before .before .before .before .before .before .before .before .before .before .before .before .before .args in
-    let l = is-read (c .before .before .before .before .before .before) in
-    let tests = c .before .before .before .before .before .before .before .before .before .before .before in
-    let array = array-fits (a .size) (a .block) (length (a .array .now)) (sized (tests .before .before)) in (
-      numbered (a .size) (array .size),
+    let k = c .before .before .before in
+    let r = k .before .before .before in
+    let tests = r .before in
+    let a = start tests .args in
+    let f = fit tests in (
+      numbered (a .size) (f .array .size),
       (
-        held (a .size) (a .block) (a .array .now) array,
+        held tests,
         (
-          mapped tests .0,
+          f .map,
           (
-            let few = count-few l in omega arith,
-            peels l (a .size) (a .block) (a .array .now) (a .map .now) (passed tests) (cleared (c .before .before)),
+            f .long,
+            (
+              chains-fit _ _ _ _ _ _ (passed tests) _ (r .read-all .ensures) _ (k .before .chains .given .1),
+              clears-peels (sectors (a .size) (a .block) (a .sector)) (erasures (a .map .now)) _ (cleared (c .before)),
+            ),
           ),
         ),
       ),
@@ -133,41 +143,39 @@ same-length : tie.Need-same-length
 same-length c = search needs
 
 returns-5 : tie.Need-returns-5
-unfolding whole
 returns-5 c =
-    let a = c .before .before .before .before .before .before .before .before .before .before .before .before .before .before .before .before .before .before .before .before .before .before .args in
-    let restore = c .before .before .before .restore in
-    contradicted (is-read (c .before .before .before .before .before .before .before .before .before .before)) (a .size) (a .block) (a .array .now) (a .map .now) (passed (c .before .before .before .before .before .before .before .before .before .before .before .before .before .before .before)) (cleared (c .before .before .before .before .before .before))
-    _ (restore .ensures .1) (sym (restore .ensures .0) ∙ not-true _ (c .if4 .taken))
+    let d = c .before .before .before in
+    let k = d .before .before .before .before in
+    let r = k .before .before .before in
+    contradicted _ _ _ _ _ _ (passed (r .before)) _ (r .read-all .ensures) _ (k .before .chains .given .1) (cleared (d .before .before))
+    _ (d .restore .ensures .1) (sym (d .restore .ensures .0) ∙ not-true _ (c .if4 .taken))
 
 same-length-2 : tie.Need-same-length-2
 same-length-2 c = search needs
 
 returns-6 : tie.Need-returns-6
-unfolding whole
 returns-6 c =
-    let a = c .before .before .before .before .before .before .before .before .before .before .before .before .before .before .before .before .before .before .before .before .before .before .args in
-    let restore = c .before .before .before .restore in
-    agreed (is-read (c .before .before .before .before .before .before .before .before .before .before)) (a .size) (a .block) (a .array .now) (a .map .now) (passed (c .before .before .before .before .before .before .before .before .before .before .before .before .before .before .before)) (cleared (c .before .before .before .before .before .before))
-    _ (restore .ensures .1) (sym (restore .ensures .0) ∙ not-false _ (c .if4 .left))
+    let d = c .before .before .before in
+    let k = d .before .before .before .before in
+    let r = k .before .before .before in
+    agreed _ _ _ _ _ _ (passed (r .before)) _ (r .read-all .ensures) _ (k .before .chains .given .1) (cleared (d .before .before))
+    _ (d .restore .ensures .1) (sym (d .restore .ensures .0) ∙ not-false _ (c .if4 .left))
 
 pub follow-spec : {M : Type 1} → statement M
 follow-spec =
     tie.close
     (tie.spec
-    array-refusal-requires
+    sector-refusal-requires
     returns
+    div-sectors
     sheet-refusal-requires
     returns-2
-    slice-aggregate-read-clean
-    read-clean-requires
-    enum-known-chain
-    enum-known-chain-2
+    read-all-requires
+    enum-known-chains
+    enum-known-chains-2
     returns-3
-    slice-aggregate-clears
-    clears-requires
+    all-clear-requires
     returns-4
-    slice-aggregate-restore
     restore-requires
     same-length
     returns-5

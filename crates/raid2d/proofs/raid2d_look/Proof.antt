@@ -11,13 +11,13 @@ use Rattle.raid2d.proofs.raid2d_look.Statement.{statement}
 use Rattle.raid2d.proofs.raid2d_look.Tie as tie
 
 -- The part's length, which the code tests.
-part-is : (c : tie.After-look) → let a = c .before .before .before .args in length (c .look .result .now) ≡ lookLength (rectangle (a .rows) (a .columns)) (a .block) (a .array .now) (a .map .now) (a .disk)
+part-is : (c : tie.After-look) → let a = c .before .before .before .args in length (c .look .result .now) ≡ lookLength (rectangle (a .rows) (a .columns)) (a .block) (a .sector) (a .array .now) (a .map .now) (a .disk)
 unfolding rectangle
-part-is c = let a = c .before .before .before .args in ap length (c .look .ensures .0) ∙ part-length (rectangle (a .rows) (a .columns)) (a .block) (a .array .now) (a .map .now) (a .disk)
+part-is c = let a = c .before .before .before .args in ap length (c .look .ensures .0) ∙ part-length (rectangle (a .rows) (a .columns)) (a .block) (a .sector) (a .array .now) (a .map .now) (a .disk)
 
-found : (c : tie.Else1) → let a = c .before .before .before .before .args in Found (rectangle (a .rows) (a .columns)) (a .block) (a .array .now) (a .map .now) (a .disk)
+found : (c : tie.Else1) → let a = c .before .before .before .before .args in Found (rectangle (a .rows) (a .columns)) (a .block) (a .sector) (a .array .now) (a .map .now) (a .disk)
 unfolding rectangle
-found c = let a = c .before .before .before .before .args in look-some (rectangle (a .rows) (a .columns)) (a .block) (a .array .now) (a .map .now) (a .disk) (λ e. c .if1 .left (part-is (c .before) ∙ sym e))
+found c = let a = c .before .before .before .before .args in look-some (rectangle (a .rows) (a .columns)) (a .block) (a .sector) (a .array .now) (a .map .now) (a .disk) (λ e. c .if1 .left (part-is (c .before) ∙ sym e))
 
 look-requires : tie.Need-look-requires
 look-requires c κs = search needs
@@ -27,7 +27,7 @@ unfolding rectangle
 returns c =
     let a = c .before .before .before .before .args in
     let e = sym (c .if1 .taken) ∙ part-is (c .before) in
-    (e, look-none (rectangle (a .rows) (a .columns)) (a .block) (a .array .now) (a .map .now) (a .disk) e (a .offset .now))
+    (e, look-none (rectangle (a .rows) (a .columns)) (a .block) (a .sector) (a .array .now) (a .map .now) (a .disk) e (a .offset .now))
 
 mul-offset : tie.Need-mul-offset
 unfolding rectangle

@@ -11,8 +11,8 @@ use Rattle.raid2d.proofs.raid2d_plan_disk.Tie as tie
 plan-disk-requires : tie.Need-plan-disk-requires
 plan-disk-requires c κs = search needs
 
-report-requires : tie.Need-report-requires
-report-requires c κs = search needs
+report-one-requires : tie.Need-report-one-requires
+report-one-requires c κs = search needs
 
 same-length : tie.Need-same-length
 same-length c = search needs
@@ -21,9 +21,9 @@ returns : tie.Need-returns
 unfolding rectangle
 returns c =
     let (outcome, sheet) = c .before .before .before .before .plan-disk .ensures in
-    let (status, count) = c .report .ensures in
+    let (status, count) = c .report-one .ensures in
     let before = c .before .before .before .before .before .before .before .before .args .count .now in
     (status ∙ ap outcomeStatus outcome, (sheet, count ∙ ap (λ (o : Outcome). outcomeCount o before) outcome))
 
 pub raid2d-plan-disk-spec : {M : Type 1} → statement M
-raid2d-plan-disk-spec = tie.close (tie.spec plan-disk-requires report-requires same-length returns)
+raid2d-plan-disk-spec = tie.close (tie.spec plan-disk-requires report-one-requires same-length returns)

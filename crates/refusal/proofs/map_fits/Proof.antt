@@ -1,77 +1,33 @@
--- `refusal::map_fits` meets its contract: the bytes so far are 0 or 1 exactly if what was gathered is.
+-- `refusal::map_fits` meets its contract: a byte for each disk and sector.
 -- Assumes nothing.
-use mathlib.Core.Path.{_≡_, _∙_, sym, ap, refl}
-use mathlib.Core.Bool.{Bool, _&&_}
-use mathlib.Core.List.{List}
-use Prim.Native.Nat.{ℕ, _≤_, _-_}
+use mathlib.Core.Path.{_≡_, _∙_, ap}
+use Prim.Native.Nat.{ℕ, _*_}
 use native.Mathlib.Omega.{arith}
 use borrow.Author.Needs.{needs}
-use borrow.Author.Tests.{eq-eqb, ne-eqb}
-use lib.Dec.{leb}
-use lib.ListN.{length, getD}
-use Rattle.stripes.specs.Fold.{every}
-use Rattle.model.specs.Grid.{mapFits}
-use Rattle.refusal.proofs.Gathered.{small-next}
+use Rattle.model.specs.Grid.{mapBytes, mapFits}
+use Rattle.model.proofs.Grid.{map-bound}
 use Rattle.refusal.proofs.map_fits.Statement.{statement}
 use Rattle.refusal.proofs.map_fits.Tie as tie
 
--- A byte of the map is 0 or 1.
-abbrev small : List ℕ → ℕ → Bool
-small m d = leb (getD m d 0) 1
+disks-requires : tie.Need-disks-requires
+disks-requires c κs = search needs
 
-abbrev Inv-loop : tie.InvT-loop
-Inv-loop map any₀ d₀ any d = (d ≤ length map) × (leb any 1 ≡ every d (small map))
+mul-bytes-fit : tie.Need-mul-bytes-fit
+unfolding mapBytes
+mul-bytes-fit c =
+    let s = c .before .before in
+    let most = map-bound (s .args .size) (s .args .sectors) (s .pre .0) (s .pre .1) in
+    let same = ap (λ (k : ℕ). k * s .args .sectors) (c .disks .ensures) in
+    omega arith
 
-abbrev μ-loop : tie.MeasureT-loop
-μ-loop map any₀ d₀ any d = length map - d
+bytes-fit-requires : tie.Need-bytes-fit-requires
+bytes-fit-requires c κs = search needs
 
-disks-requires : tie.Need-disks-requires Inv-loop μ-loop
-disks-requires c κs = c .before .pre
-
-returns : tie.Need-returns Inv-loop μ-loop
-unfolding mapFits
+returns : tie.Need-returns
+unfolding mapBytes
 returns c =
-    let a = c .before .before .before .args in
-    sym (ap (λ (t : Bool). t && every (length (a .map .now)) (small (a .map .now))) (ne-eqb _ _ (λ e. c .if1 .taken (e ∙ sym (c .before .disks .ensures)))))
-
-loop-holds : tie.Need-loop-holds Inv-loop μ-loop
-unfolding every
-loop-holds c = (search needs, refl)
-
-shared-slice-read-any : tie.Need-shared-slice-read-any Inv-loop μ-loop
-shared-slice-read-any c = search needs
-
-add-d : tie.Need-add-d Inv-loop μ-loop
-add-d c = search needs
-
-loop-less : tie.Need-loop-less Inv-loop μ-loop
-loop-less c = search needs
-
-loop-again : tie.Need-loop-again Inv-loop μ-loop
-loop-again c =
-    let m = c .before .before .before .before .before .before .args .map .now in
-    let l = c .before .before .loop in
-    (search needs, small-next (λ d. getD m d 0) (l .d) (l .any) (l .inv .1))
-
-returns-2 : tie.Need-returns-2 Inv-loop μ-loop
-unfolding mapFits
-returns-2 c =
-    let m = c .before .before .before .before .before .args .map .now in
-    let l = c .before .loop in
-    l .inv .1 ∙ ap (λ (n : ℕ). every n (small m)) (omega arith)
-    ∙ sym (ap (λ (t : Bool). t && every (length m) (small m)) (eq-eqb _ _ (c .before .before .if1 .left ∙ c .before .before .before .disks .ensures)))
+    let s = c .before .before .before in
+    c .bytes-fit .ensures ∙ ap (λ (k : ℕ). mapFits (k * s .args .sectors) (s .args .map .now)) (c .before .disks .ensures)
 
 pub map-fits-spec : {M : Type 1} → statement M
-map-fits-spec =
-    tie.close
-    (tie.spec
-    Inv-loop
-    μ-loop
-    disks-requires
-    returns
-    loop-holds
-    shared-slice-read-any
-    add-d
-    loop-less
-    loop-again
-    returns-2)
+map-fits-spec = tie.close (tie.spec disks-requires mul-bytes-fit bytes-fit-requires returns)

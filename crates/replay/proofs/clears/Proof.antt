@@ -1,15 +1,21 @@
 -- `replay::clears` meets its contract: the memory that it makes is large enough.
 -- Assumes nothing.
-use mathlib.Core.Path.{sym}
+use mathlib.Core.Path.{sym, _∙_}
 use native.Mathlib.Omega.{arith}
 use borrow.Author.Needs.{needs}
 use lib.Seq.{length-take-le}
-use Rattle.layout.proofs.Numbers.{map-few}
+use Rattle.tally.proofs.Column.{disks-few}
 use Rattle.replay.proofs.clears.Statement.{statement}
 use Rattle.replay.proofs.clears.Tie as tie
 
+disks-requires : tie.Need-disks-requires
+disks-requires c κs = search needs
+
 array-borrow-prefix-work : tie.Need-array-borrow-prefix-work
-array-borrow-prefix-work c = let p = c .before .before .pre in map-few _ _ (p .0) _ (p .1 .0)
+array-borrow-prefix-work c =
+    let few = disks-few (c .before .before .before .pre .1 .0) in
+    let all = c .disks .ensures in
+    omega arith
 
 slice-aggregate-clears-in : tie.Need-slice-aggregate-clears-in
 slice-aggregate-clears-in c = sym (length-take-le _ _ (array-borrow-prefix-work (c .before)))
@@ -22,10 +28,11 @@ slice-aggregate-clears-in-3 c = search needs
 
 clears-in-requires : tie.Need-clears-in-requires
 clears-in-requires c κs =
-    let p = c .before .before .before .before .before .pre in
-    let few = map-few _ _ (p .0) _ (p .1 .0) in
-    let long = slice-aggregate-clears-in (c .before .before) in
-    (p .0, (p .1 .0, (p .1 .1, (omega arith, (omega arith, omega arith)))))
+    let w = c .before .before in
+    let p = w .before .before .before .before .pre in
+    let few = array-borrow-prefix-work (w .before) in
+    let long = sym (slice-aggregate-clears-in w) in
+    (p .0, (record { positioned = p .1 .0; room = long ∙ w .before .disks .ensures }, (p .1 .1, (omega arith, omega arith))))
 
 returns : tie.Need-returns
 returns c = search needs
@@ -34,6 +41,7 @@ pub clears-spec : {M : Type 1} → statement M
 clears-spec =
     tie.close
     (tie.spec
+    disks-requires
     array-borrow-prefix-work
     slice-aggregate-clears-in
     slice-aggregate-clears-in-2

@@ -1,6 +1,6 @@
 -- `report::report` meets its contract: each answer has its text.
 -- Assumes nothing.
-use mathlib.Core.Path.{_≡_, sym, _∙_, subst}
+use mathlib.Core.Path.{_≡_, refl, sym, _∙_, ap, subst}
 use mathlib.Core.Bool.{true}
 use mathlib.Core.List.{List}
 use Prim.Native.Nat.{ℕ, _≤_}
@@ -9,8 +9,9 @@ use borrow.Author.Needs.{needs}
 use borrow.Author.Tests.{not-true, not-false}
 use lib.ListN.{length}
 use Rattle.stripes.specs.Erased.{erasures}
-use Rattle.model.specs.Grid.{sizeFits, mapFits}
+use Rattle.model.specs.Grid.{sizeFits, sectorsFit, mapBytes, mapFits}
 use Rattle.model.specs.Plan.{sheetLayout}
+use Rattle.model.proofs.Grid.{one-byte}
 use Rattle.model.specs.Listing.{repairWord, fatalWord}
 use Rattle.solve.specs.Solved.{Solves}
 use Rattle.solve.specs.declared.Solved.{Solved}
@@ -28,7 +29,7 @@ sized c = sym (c .before .size-fits .ensures) ∙ not-false _ (c .if1 .left)
 abbrev start : tie.Else2 → tie.Start
 start c = c .before .before .before .before .before .before
 
-mapped : (c : tie.Else2) → let a = start c .args in mapFits (a .size) (a .map .now) ≡ true
+mapped : (c : tie.Else2) → let a = start c .args in mapFits (mapBytes (a .size) 1) (a .map .now) ≡ true
 mapped c = sym (c .before .map-fits .ensures) ∙ not-false _ (c .if2 .left)
 
 -- The list after it was solved.
@@ -63,7 +64,8 @@ returns c =
     (c .before .before .refused .ensures)
 
 map-fits-requires : tie.Need-map-fits-requires
-map-fits-requires c κs = sized c
+unfolding sectorsFit
+map-fits-requires c κs = (sized c, refl)
 
 refused-requires-2 : tie.Need-refused-requires-2
 refused-requires-2 c κs = search needs
@@ -80,7 +82,9 @@ slice-aggregate-solve : tie.Need-slice-aggregate-solve
 slice-aggregate-solve c = search needs
 
 solve-requires : tie.Need-solve-requires
-solve-requires c κs = (numbered _ (sized (c .before .before .before)), (mapped (c .before), omega arith))
+solve-requires c κs =
+    let a = start (c .before) .args in
+    (numbered _ (sized (c .before .before .before)), (ap (λ (k : ℕ). mapFits k (a .map .now)) (sym (one-byte (a .size))) ∙ mapped (c .before), omega arith))
 
 enum-known-answer : tie.Need-enum-known-answer
 enum-known-answer c = search needs

@@ -1,20 +1,21 @@
 -- `wanted::plan_disk` meets its contract: each refusal keeps the sheet; else it has the list that was found, or plan's draft where there is
 -- none.
 -- Assumes nothing.
-use mathlib.Core.Path.{_≡_, sym, _∙_}
+use mathlib.Core.Path.{_≡_, refl, sym, _∙_, ap}
 use mathlib.Core.Bool.{true}
+use Prim.Native.Nat.{ℕ}
 use native.Mathlib.Omega.{arith}
 use borrow.Author.Needs.{needs}
 use borrow.Author.Tests.{not-true, not-false}
 use lib.ListN.{length}
-use Rattle.model.specs.Grid.{sizeFits}
+use Rattle.model.specs.Grid.{sizeFits, sectorsFit, mapFits}
 use Rattle.model.specs.Refusal.{refusal}
-use Rattle.model.specs.Plan.{planTests}
+use Rattle.model.specs.Plan.{oneTests}
 use Rattle.model.specs.PlanDisk.{canBeWanted}
-use Rattle.model.proofs.Accept.{plan-fits}
+use Rattle.model.proofs.Grid.{one-byte}
+use Rattle.model.proofs.Accept.{one-fits}
 use Rattle.layout.proofs.Numbers.{numbered}
-use Rattle.plan.proofs.Answers.{size-first, size-passed}
-use Rattle.wanted.proofs.Answers.{is-wanted, refused-plan, refused-disk, unreached, small, reaches}
+use Rattle.wanted.proofs.Answers.{size-first, size-passed, is-wanted, refused-plan, refused-disk, unreached, small, reaches}
 use Rattle.wanted.proofs.plan_disk.Statement.{statement}
 use Rattle.wanted.proofs.plan_disk.Tie as tie
 
@@ -23,7 +24,7 @@ sized : (c : tie.Else1) → sizeFits (c .before .before .before .before .args .s
 sized c = sym (c .before .size-fits .ensures) ∙ not-false _ (c .if1 .left)
 
 tested : (c : tie.Else2) → let a = c .before .before .before .before .before .before .args in
-    refusal (planTests (a .size) (a .map .now) (length (a .sheet .now))) ≡ 0
+    refusal (oneTests (a .size) (a .map .now) (length (a .sheet .now))) ≡ 0
 tested c = size-passed _ _ _ (sized (c .before .before)) ∙ sym (c .before .sheet-refusal .ensures) ∙ c .if2 .left
 
 can : (c : tie.Else3) → let a = c .before .before .before .before .before .before .before .before .args in
@@ -38,14 +39,15 @@ returns c =
     refused-plan _ _ _ _ 1 (size-first _ _ _ (sym (c .before .size-fits .ensures) ∙ not-true _ (c .if1 .taken))) (λ q. omega arith)
 
 sheet-refusal-requires : tie.Need-sheet-refusal-requires
-sheet-refusal-requires c κs = sized c
+unfolding sectorsFit
+sheet-refusal-requires c κs = (sized c, refl)
 
 returns-2 : tie.Need-returns-2
 returns-2 c =
     refused-plan _ _ _ _ _ (size-passed _ _ _ (sized (c .before .before)) ∙ sym (c .before .sheet-refusal .ensures)) (c .if2 .taken)
 
 can-be-wanted-requires : tie.Need-can-be-wanted-requires
-can-be-wanted-requires c κs = plan-fits _ _ _ (tested c) .1
+can-be-wanted-requires c κs = one-fits _ _ _ (tested c) .1
 
 returns-3 : tie.Need-returns-3
 returns-3 c = refused-disk _ _ _ _ (tested (c .before .before)) (sym (c .before .can-be-wanted .ensures) ∙ not-true _ (c .if3 .taken))
@@ -56,28 +58,27 @@ slice-aggregate-find c = search needs
 find-requires : tie.Need-find-requires
 find-requires c κs =
     let t = c .before .before .before in
-    let (size, map, long) = plan-fits _ _ _ (tested t) in
+    let (size, map, long) = one-fits _ _ _ (tested t) in
     (numbered _ size, (map, (is-wanted _ _ _ (can (c .before)) .1, search needs)))
 
-slice-aggregate-draft : tie.Need-slice-aggregate-draft
-slice-aggregate-draft c = search needs
-
 draft-requires : tie.Need-draft-requires
+unfolding sectorsFit
 draft-requires c κs =
-    let t = c .before .before .before .before .before .before .before .before in
-    let (size, map, long) = plan-fits _ _ _ (tested t) in
-    (size, (map, (long, search needs)))
+    let t = c .before .before .before .before .before .before .before in
+    let a = t .before .before .before .before .before .before .args in
+    let (size, map, long) = one-fits _ _ _ (tested t) in
+    (size, (refl, (ap (λ (k : ℕ). mapFits k (a .map .now)) (one-byte (a .size)) ∙ map, long)))
 
 same-length : tie.Need-same-length
 same-length c = search needs
 
 returns-4 : tie.Need-returns-4
 returns-4 c =
-    let r = c .before .before .before in
-    let i = r .before .before .before in
+    let r = c .before .before in
+    let i = r .before .before in
     let f = i .before .before in
     let e = f .before .before in
-    unreached _ _ _ _ (tested (e .before .before)) (can e) (f .find .ensures) (i .if4 .taken) 32 _ _ (r .draft .ensures .0) (r .draft .ensures .1 .0)
+    unreached _ _ _ _ (tested (e .before .before)) (can e) (f .find .ensures) (i .if4 .taken) 32 _ _ (r .draft .ensures .0) (r .draft .ensures .1)
 
 slice-aggregate-write : tie.Need-slice-aggregate-write
 slice-aggregate-write c = search needs
@@ -91,7 +92,7 @@ write-requires c κs =
     let s = t .before .before .before .before .before .before .args .sheet .now in
     let fits = small _ _ s _ (tested t) (can e) (f .find .ensures) (i .if4 .left) in
     let few = fits .few in
-    (plan-fits _ _ _ (tested t) .2, (few, (search needs, fits .stripe)))
+    (one-fits _ _ _ (tested t) .2, (few, (search needs, fits .stripe)))
 
 same-length-2 : tie.Need-same-length-2
 same-length-2 c = search needs
@@ -116,7 +117,6 @@ plan-disk-spec =
     returns-3
     slice-aggregate-find
     find-requires
-    slice-aggregate-draft
     draft-requires
     same-length
     returns-4

@@ -5,14 +5,14 @@ use Prim.Native.Nat.{_-_, _≤_, _<_}
 use native.Mathlib.Nat.{not-suc-le-zero}
 use native.Mathlib.Omega.{arith}
 use borrow.Author.Needs.{needs}
-use lib.ListN.{length}
+use lib.ListN.{length, getD}
 use Rattle.tally.proofs.Scanned.{Copied, copied-next, copied-below}
 use Rattle.tally.proofs.load.copy.Statement.{statement}
 use Rattle.stripes.specs.Erased.{erasures}
 use Rattle.tally.proofs.load.copy.Tie as tie
 
 abbrev Inv-loop : tie.InvT-loop
-Inv-loop map k work₀ i₀ work i = (i ≤ k) × (length work ≡ length work₀) × Copied map work i
+Inv-loop map k work₀ i₀ work i = (i ≤ k) × (length work ≡ length work₀) × Copied (λ j. getD map j 0) work i
 
 abbrev μ-loop : tie.MeasureT-loop
 μ-loop map k work₀ i₀ work i = k - i
@@ -36,7 +36,7 @@ loop-again : tie.Need-loop-again Inv-loop μ-loop
 loop-again c =
     let l = c .before .before .loop in
     let fits : l .i < length (l .work) = search needs in
-    (search needs, search needs, copied-next (c .before .before .before .before .before .args .map .now) (l .work) (l .i) fits (l .inv .2))
+    (search needs, search needs, copied-next _ (l .work) (l .i) fits (l .inv .2))
 
 sub-wipe : tie.Need-sub-wipe Inv-loop μ-loop
 sub-wipe c = search needs

@@ -37,7 +37,7 @@ stripes-of-requires : tie.Need-stripes-of-requires
 stripes-of-requires c κs =
     let s = c .before .before .before .before .before .before .before .before .before .before .before .before .before .before .before .before .before .before .before .before in
     let l = inside s in
-    let long = map-length (s .args .size) _ (s .pre .1 .0) in
+    let long = map-length _ _ (s .pre .1 .0) in
     (s .pre .0, omega arith)
 
 -- What was loaded, and where the code began.

@@ -46,7 +46,7 @@ tally-requires c κs =
     let d = room .stripesFit in
     let same = s .pre .1 .1 .1 .1 .1 .1 .1 in
     let few = layout-disks (s .args .size) (s .args .base) in
-    let long = map-length (s .args .size) _ (s .pre .1 .0) in
+    let long = map-length _ _ (s .pre .1 .0) in
     let stripes = t .try-stripe .kept .1 .1 .1 .1 .1 .1 .1 .1 .0 in
     let counts = t .try-stripe .kept .1 .1 .1 .1 .1 .1 .1 .1 .1 .0 in
     (s .pre .0, (omega arith, (λ i h. others-outside (s .args .map .now) _ (s .args .disk) (o .erased) i (omega arith), (omega arith, omega arith))))

@@ -56,7 +56,7 @@ tally-requires c κs =
     let a = room .disksFit in
     let b = room .tableFits in
     let few = layout-disks (s .args .size) (s .args .base) in
-    let long = map-length (s .args .size) _ (s .pre .1 .0) in
+    let long = map-length _ _ (s .pre .1 .0) in
     let same = l .load .kept .1 .1 .1 .1 .1 .1 .1 .0 in
     (s .pre .0, (omega arith, (λ d h. side-outside (layoutOf (s .args .size) (s .args .base)) (s .args .map .now) (s .args .others .now) (s .args .parts .now) _ (s .args .disk) (o .erased) _ (l .load .ensures) d (omega arith), (omega arith, room .stripesFit))))
 

@@ -12,27 +12,27 @@ use Rattle.xor.proofs.picked.fill.Statement.{statement}
 use Rattle.xor.proofs.picked.fill.Tie as tie
 
 -- What is pickedFilled after the parts of 32 bytes, and after those of 16.
-middle : (c : tie.After-fill-parts3)
-    → let a = c .before .before .before .before .before .before .before .before .before .args in c .fill-parts3 .last .0 ≡ pickedFilled (a .len - a .len % 32) (a .a .now) (a .first) (a .step) (a .list .now) (a .count) (a .target)
+middle : (c : tie.After-fill-parts2)
+    → let a = c .before .before .before .before .before .before .before .before .before .args in c .fill-parts2 .last .0 ≡ pickedFilled (a .len - a .len % 32) (a .a .now) (a .first) (a .step) (a .list .now) (a .count) (a .target)
 unfolding pickedFilled
 middle c =
     let s = c .before .before .before .before .before .before .before .before .before in
     let a = s .args in
-    let wide = c .before .before .before .before .fill-parts2 in
+    let wide = c .before .before .before .before .fill-parts in
     filled-then (beside-aside (s .pre)) _ (128 * (a .len / 128)) _ _ _ _ _ _ (omega arith) (le-refl _) (omega arith)
-    (omega arith) (wide .ensures) refl (omega arith) (c .fill-parts3 .ensures)
+    (omega arith) (wide .ensures) refl (omega arith) (c .fill-parts2 .ensures)
 
-narrow : (c : tie.After-fill-parts4)
-    → let a = c .before .before .before .before .before .before .before .before .before .before .before .before .before .args in c .fill-parts4 .last .0 ≡ pickedFilled (a .len - a .len % 16) (a .a .now) (a .first) (a .step) (a .list .now) (a .count) (a .target)
+narrow : (c : tie.After-fill-parts3)
+    → let a = c .before .before .before .before .before .before .before .before .before .before .before .before .before .args in c .fill-parts3 .last .0 ≡ pickedFilled (a .len - a .len % 16) (a .a .now) (a .first) (a .step) (a .list .now) (a .count) (a .target)
 unfolding pickedFilled
 narrow c =
     let s = c .before .before .before .before .before .before .before .before .before .before .before .before .before in
     let a = s .args in
     filled-then (beside-aside (s .pre)) _ (a .len - a .len % 32) _ _ _ _ _ _ (omega arith) (le-refl _) (omega arith)
-    (omega arith) (middle (c .before .before .before .before)) refl (omega arith) (c .fill-parts4 .ensures)
+    (omega arith) (middle (c .before .before .before .before)) refl (omega arith) (c .fill-parts3 .ensures)
 
-fill-parts-requires : tie.Need-fill-parts-requires
-fill-parts-requires c κs = (search needs, beside-later 0 (c .before .before .before .before .pre) (omega arith) refl (omega arith))
+fill-few-requires : tie.Need-fill-few-requires
+fill-few-requires c κs = c .before .before .before .before .pre
 
 same-length : tie.Need-same-length
 same-length c = search needs
@@ -40,10 +40,10 @@ same-length c = search needs
 returns : tie.Need-returns
 returns c =
     let a = c .before .before .before .before .before .before .before .args in
-    c .before .before .fill-parts .ensures ∙ ap (λ (n : ℕ). pickedFilled n (a .a .now) (a .first) (a .step) (a .list .now) (a .count) (a .target)) (omega arith)
+    c .before .before .fill-few .ensures
 
-fill-parts-requires-2 : tie.Need-fill-parts-requires-2
-fill-parts-requires-2 c κs = (search needs, beside-later 0 (c .before .before .before .before .pre) (omega arith) refl (omega arith))
+fill-parts-requires : tie.Need-fill-parts-requires
+fill-parts-requires c κs = (search needs, beside-later 0 (c .before .before .before .before .pre) (omega arith) refl (omega arith))
 
 mul-fill-parts : tie.Need-mul-fill-parts
 mul-fill-parts c = search needs
@@ -51,8 +51,8 @@ mul-fill-parts c = search needs
 add-fill-parts : tie.Need-add-fill-parts
 add-fill-parts c = let s = c .before .before .before .before .before .before .before .before in let h = s .pre .room in omega arith
 
-fill-parts-requires-3 : tie.Need-fill-parts-requires-3
-fill-parts-requires-3 c κs =
+fill-parts-requires-2 : tie.Need-fill-parts-requires-2
+fill-parts-requires-2 c κs =
     let s = c .before .before .before .before .before .before .before .before in
     (search needs, beside-later (128 * (s .args .len / 128)) (s .pre) (omega arith) (omega arith) refl)
 
@@ -62,8 +62,8 @@ sub-fill-parts c = search needs
 add-fill-parts-2 : tie.Need-add-fill-parts-2
 add-fill-parts-2 c = let s = c .before .before .before .before .before .before .before .before .before .before .before .before in let h = s .pre .room in omega arith
 
-fill-parts-requires-4 : tie.Need-fill-parts-requires-4
-fill-parts-requires-4 c κs =
+fill-parts-requires-3 : tie.Need-fill-parts-requires-3
+fill-parts-requires-3 c κs =
     let s = c .before .before .before .before .before .before .before .before .before .before .before .before in
     (search needs, beside-later (s .args .len - s .args .len % 32) (s .pre) (omega arith) (omega arith) refl)
 
@@ -78,8 +78,8 @@ returns-2 c =
 add-fill-parts-3 : tie.Need-add-fill-parts-3
 add-fill-parts-3 c = let s = c .before .before .before .before .before .before .before .before .before .before .before .before .before .before .before .before .before in let h = s .pre .room in omega arith
 
-fill-parts-requires-5 : tie.Need-fill-parts-requires-5
-fill-parts-requires-5 c κs =
+fill-parts-requires-4 : tie.Need-fill-parts-requires-4
+fill-parts-requires-4 c κs =
     let s = c .before .before .before .before .before .before .before .before .before .before .before .before .before .before .before .before .before in
     (search needs, beside-later (s .args .len - 16) (s .pre) (omega arith) (omega arith) refl)
 
@@ -92,25 +92,25 @@ returns-3 c =
     let s = c .before .before .before .before .before .before .before .before .before .before .before .before .before .before .before .before .before .before .before .before in
     let a = s .args in
     filled-then (beside-aside (s .pre)) _ (a .len - 16) _ _ _ _ _ _ (omega arith) (omega arith) (omega arith) (omega arith)
-    (narrow (c .before .before .before .before .before .before .before)) refl (omega arith) (c .before .before .fill-parts5 .ensures)
+    (narrow (c .before .before .before .before .before .before .before)) refl (omega arith) (c .before .before .fill-parts4 .ensures)
 
 pub fill-spec : {M : Type 1} → statement M
 fill-spec =
     tie.close
     (tie.spec
-    fill-parts-requires
+    fill-few-requires
     same-length
     returns
-    fill-parts-requires-2
+    fill-parts-requires
     mul-fill-parts
     add-fill-parts
-    fill-parts-requires-3
+    fill-parts-requires-2
     sub-fill-parts
     add-fill-parts-2
-    fill-parts-requires-4
+    fill-parts-requires-3
     same-length-2
     returns-2
     add-fill-parts-3
-    fill-parts-requires-5
+    fill-parts-requires-4
     same-length-3
     returns-3)
