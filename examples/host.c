@@ -7,7 +7,8 @@
  * at a time between the machine's cuts, repairs first the one disk that is
  * wanted at the counter, meets a survivor that was changed behind its back,
  * saves what can be saved of a cabinet with nine dead cards, tidies a sheet
- * that came by mail, and meets in the end a loss that nothing brings back.
+ * that came by mail, repairs disks that fail in spots, sector by sector, and
+ * meets in the end a loss that nothing brings back.
  * `make example` builds and runs it, and examples/host.expected has what it
  * prints.
  *
@@ -25,7 +26,8 @@ enum { ROWS = 3, COLUMNS = 4, BLOCK = 8 };
 enum { ACROSS = COLUMNS + 1, DOWN = ROWS + 1, SUPERPARITY = 19 };
 
 /* All memory is the host's own: the library allocates nothing. A map of zeros
-   says that every disk is present. */
+   says that every disk is present. But for chapter 11 a disk fails as a whole:
+   it has one sector, which is its block, and there is one sheet. */
 static uint8_t array[RAID2D_ARRAY_BYTES(ROWS, COLUMNS, BLOCK)];
 static uint8_t map[RAID2D_DISKS(ROWS, COLUMNS)];
 static uint8_t sheet[RAID2D_SHEET_BYTES];
@@ -216,7 +218,7 @@ static void look_at(size_t disk)
 {
     size_t offset = 0;
     size_t length = raid2d_look(ROWS, COLUMNS, BLOCK, array, sizeof array,
-                                map, sizeof map, disk, &offset);
+                                BLOCK, map, sizeof map, disk, &offset);
 
     if (length == 0)
         printf("look at disk %zu: nothing there\n", disk);
@@ -230,9 +232,9 @@ static void look_at(size_t disk)
 /* Which repairs bring all disks back, in which order. */
 static void plan(void)
 {
-    size_t count = 0;
-    uint32_t status = raid2d_plan(ROWS, COLUMNS, map, sizeof map,
-                                  sheet, sizeof sheet, &count);
+    size_t count = 0, position = 0;
+    uint32_t status = raid2d_plan(ROWS, COLUMNS, 1, map, sizeof map,
+                                  sheet, sizeof sheet, &count, &position);
 
     printf("plan: %s, %zu repairs\n", raid2d_strerror(status), count);
     expect(status == RAID2D_OK, "plan");
@@ -258,8 +260,11 @@ static uint32_t plan_disk(size_t disk)
    the map. */
 static uint32_t repair(size_t limit, size_t *count)
 {
-    return raid2d_rebuild(ROWS, COLUMNS, BLOCK, array, sizeof array,
-                          map, sizeof map, sheet, sizeof sheet, limit, count);
+    size_t position = 0;
+
+    return raid2d_rebuild(ROWS, COLUMNS, BLOCK, array, sizeof array, BLOCK,
+                          map, sizeof map, sheet, sizeof sheet, limit, count,
+                          &position);
 }
 
 /* Rebuild makes its own plan: a host that does not want to see it first needs
@@ -349,7 +354,7 @@ static void follow(const uint8_t *list, uint32_t expected)
 {
     size_t count = 0;
     uint32_t status = raid2d_follow(ROWS, COLUMNS, BLOCK, array, sizeof array,
-                                    map, sizeof map,
+                                    BLOCK, map, sizeof map,
                                     list, RAID2D_SHEET_BYTES, &count);
 
     printf("follow: %s\n", raid2d_strerror(status));
@@ -520,8 +525,10 @@ static void fill_cabinet(void)
 /* Plan needs no array. */
 static uint32_t plan_cards(size_t *count)
 {
-    return raid2d_plan(SIDE, SIDE, dead, sizeof dead, sheet, sizeof sheet,
-                       count);
+    size_t position = 0;
+
+    return raid2d_plan(SIDE, SIDE, 1, dead, sizeof dead, sheet, sizeof sheet,
+                       count, &position);
 }
 
 /* How many disks are lost, 0 where the loss is not fatal. */
@@ -537,7 +544,7 @@ static void save_cards(void)
 {
     size_t count = 0, i;
     uint32_t status = raid2d_save(SIDE, SIDE, BLOCK, cabinet, sizeof cabinet,
-                                  dead, sizeof dead, &count);
+                                  BLOCK, dead, sizeof dead, &count);
 
     printf("save: %s, %zu card restored\n", raid2d_strerror(status), count);
     expect(status == RAID2D_OK && count == 1, "save");
@@ -619,19 +626,19 @@ static void follow_mail(void)
     memset(map, 0, sizeof map);
 }
 
-/* ---- A fatal loss, with a picture of its loop. */
+/* ---- The picture of a loop. */
 
 /* The disks that are on the loop, in the form of a map. */
 static uint8_t loop[RAID2D_DISKS(ROWS, COLUMNS)];
 
-static void read_loop(void)
+static void read_loop(const uint8_t *list)
 {
     size_t k, disk;
 
-    expect(raid2d_sheet_kind(sheet) == RAID2D_SHEET_CYCLE, "kind of sheet");
-    for (k = raid2d_sheet_first(sheet); k != 0;
-         k = raid2d_sheet_next(sheet, k)) {
-        disk = raid2d_sheet_disk(sheet, k);
+    expect(raid2d_sheet_kind(list) == RAID2D_SHEET_CYCLE, "kind of sheet");
+    memset(loop, 0, sizeof loop);
+    for (k = raid2d_sheet_first(list); k != 0; k = raid2d_sheet_next(list, k)) {
+        disk = raid2d_sheet_disk(list, k);
         expect(map[disk] == 1, "a disk of the loop is erased");
         loop[disk] = 1;
     }
@@ -695,6 +702,149 @@ static void draw_loop(void)
     }
 }
 
+/* ---- Disks that fail in spots. */
+
+/* A block has four sectors of two letters. The sectors at one position are an
+   array by themselves, with bytes of their own in the map and their own
+   sheet. */
+enum { SECTOR = 2, SECTORS = BLOCK / SECTOR };
+
+static uint8_t spots[RAID2D_MAP_BYTES(ROWS, COLUMNS, SECTORS)];
+static uint8_t sheets[RAID2D_SHEETS_BYTES(SECTORS)];
+
+static const size_t four_disks[] = { 0, 2, 10, 12 };
+
+static const uint8_t *sheet_of(size_t position)
+{
+    return sheets + RAID2D_SHEET_BYTES * position;
+}
+
+static void lose_sector(size_t disk, size_t position)
+{
+    spots[disk * SECTORS + position] = 1;
+    memset(block_of(disk) + position * SECTOR, '?', SECTOR);
+}
+
+/* Each of the disks loses two sectors, and each position two disks. */
+static void lose_spots(void)
+{
+    size_t i;
+
+    for (i = 0; i < 4; i++) {
+        lose_sector(four_disks[i], i);
+        lose_sector(four_disks[i], (i + 1) % SECTORS);
+        printf("  %2zu %.*s\n", four_disks[i], BLOCK,
+               (const char *)block_of(four_disks[i]));
+    }
+}
+
+/* As whole disks the four are a loop. */
+static void plan_both_ways(void)
+{
+    size_t count = 0, position = 0, i;
+    uint32_t status;
+
+    for (i = 0; i < 4; i++)
+        map[four_disks[i]] = 1;
+    status = raid2d_plan(ROWS, COLUMNS, 1, map, sizeof map,
+                         sheet, sizeof sheet, &count, &position);
+    printf("plan by disks: %s\n", raid2d_strerror(status));
+    expect(status == RAID2D_FATAL && count == 4, "plan by disks");
+    status = raid2d_plan(ROWS, COLUMNS, SECTORS, spots, sizeof spots,
+                         sheets, sizeof sheets, &count, &position);
+    printf("plan by sectors: %s, %zu repairs\n", raid2d_strerror(status),
+           count);
+    expect(status == RAID2D_OK && count == 8, "plan by sectors");
+}
+
+static uint32_t repair_sectors(size_t limit, size_t *count, size_t *position)
+{
+    return raid2d_rebuild(ROWS, COLUMNS, BLOCK, array, sizeof array, SECTOR,
+                          spots, sizeof spots, sheets, sizeof sheets, limit,
+                          count, position);
+}
+
+/* Three sectors at most. A turn takes the positions in rising order, and may
+   end in the midst of one. */
+static void make_sector_turn(size_t turn, size_t repairs)
+{
+    size_t count = 0, position = 0, p;
+    uint32_t status = repair_sectors(3, &count, &position);
+
+    printf("turn %zu: %s\n", turn, raid2d_strerror(status));
+    expect(status == RAID2D_OK && count == repairs, "a turn by sectors");
+    for (p = 0; status == RAID2D_OK && p < SECTORS; p++)
+        if (raid2d_sheet_first(sheet_of(p)) != 0) {
+            printf("position %zu:\n", p);
+            print_repairs(sheet_of(p));
+        }
+}
+
+/* The map of one position: a byte for each disk. */
+static void take_position(size_t position)
+{
+    size_t disk;
+
+    for (disk = 0; disk < RAID2D_DISKS(ROWS, COLUMNS); disk++)
+        map[disk] = spots[disk * SECTORS + position];
+}
+
+/* One fatal position refuses the repairs of all. Its number says where on the
+   disks to look for old copies, and its sheet on which of them. */
+static void meet_a_fatal_position(void)
+{
+    size_t count = 0, position = 0, i;
+    uint32_t status;
+
+    printf("Then all four fail at position 2, and disk 6 at position 1.\n");
+    for (i = 0; i < 4; i++)
+        lose_sector(four_disks[i], 2);
+    lose_sector(6, 1);
+    status = repair_sectors(SIZE_MAX, &count, &position);
+    printf("rebuild: %s at position %zu, %zu disks are undetermined there\n\n",
+           raid2d_strerror(status), position, count);
+    expect(status == RAID2D_FATAL && position == 2 && count == 4,
+           "rebuild with a fatal position");
+    if (status == RAID2D_FATAL) {
+        take_position(position);
+        read_loop(sheet_of(position));
+        draw_loop();
+    }
+}
+
+/* With the true sector of one disk of the loop the others can be repaired. */
+static void put_letters_back(void)
+{
+    size_t count = 0, position = 0;
+    uint32_t status;
+
+    printf("A door sign has what disk 2 held there: \"%.*s\".\n", SECTOR,
+           names[0][2] + 2 * SECTOR);
+    memcpy(block_of(2) + 2 * SECTOR, names[0][2] + 2 * SECTOR, SECTOR);
+    spots[2 * SECTORS + 2] = 0;
+    status = repair_sectors(SIZE_MAX, &count, &position);
+    printf("rebuild: %s, %zu repairs\n", raid2d_strerror(status), count);
+    expect(status == RAID2D_OK && count == 4, "rebuild by sectors");
+    expect(all_is_there(), "what was restored by sectors");
+    memset(map, 0, sizeof map);
+}
+
+static void repair_spots(void)
+{
+    printf("\n11. Disks 0, 2, 10 and 12 fail in spots: two sectors of each are"
+           " left.\n");
+    lose_spots();
+    plan_both_ways();
+    make_sector_turn(1, 3);
+    make_sector_turn(2, 3);
+    make_sector_turn(3, 2);
+    expect(all_is_there(), "what the turns by sectors have restored");
+    meet_a_fatal_position();
+    put_letters_back();
+}
+
+/* ---- A fatal loss. */
+
 /* Each stripe holds two disks of the loop or none. So one bit changed on all
    of them changes no sum. */
 static void change_along_loop(void)
@@ -726,11 +876,11 @@ static void meet_a_fatal_loss(void)
     static const size_t failed[] = { 0, 3, 6, 8, 10, 11, 19 };
     static uint8_t before[sizeof array];
 
-    printf("\n11. Disks 0, 3, 6, 8, 10, 11 and 19 fail.\n");
+    printf("\n12. Disks 0, 3, 6, 8, 10, 11 and 19 fail.\n");
     memcpy(before, array, sizeof array);
     lose(failed, 7);
     fail_to_rebuild();
-    read_loop();
+    read_loop(sheet);
     draw_loop();
 
     printf("The array as it was, but with a bit changed on each disk of the"
@@ -755,6 +905,7 @@ int main(void)
     meet_a_changed_survivor();
     save_a_card();
     follow_mail();
+    repair_spots();
     meet_a_fatal_loss();
     return failures == 0 ? 0 : 1;
 }
