@@ -3,16 +3,19 @@
  * docs/SPECIFICATION.md has them, without their indent and with an empty line
  * behind each:
  *
- *     CALL     rows N, columns N, block N, disk N, limit N, record N
+ *     CALL     rows N, columns N, block N, sector N, disk N, limit N, record N
  *     array    bytes that are lent; likewise map, data and sheet
- *     returns  N, count N
+ *     returns  N, count N, position N
  *     array    bytes afterwards; what is not named here keeps its bytes
  *
- * Of the numbers those that the call does not take are left out. The
- * out-parameter is called count, stripe or offset, and
- * keeps its value where it is not named. `..` repeats the byte before it up to
- * the buffer's right length. A sheet that is not given is lent with arbitrary
- * bytes. The last line counts the examples.
+ * Of the numbers those that the call does not take are left out; plan takes
+ * `sectors N`. A sector that is not named is a whole block, and the number of
+ * sectors 1. The out-parameter is called count, stripe or offset, that of plan
+ * and rebuild beside it position; each keeps its value where it is not named.
+ * `..` repeats the byte before it up to the buffer's right length. Each
+ * position has a line `sheet` of its own, in their order, and `..` goes to the
+ * end of that sheet. Sheets that are not given are lent with arbitrary bytes.
+ * The last line counts the examples.
  */
 #include <stdio.h>
 #include <stdlib.h>
@@ -20,7 +23,7 @@
 
 #include "raid2d.h"
 
-enum { LINE_MAX_BYTES = 4096, BYTES_MAX = 1024, ARBITRARY = 0xaa };
+enum { LINE_MAX_BYTES = 8192, BYTES_MAX = 2048, ARBITRARY = 0xaa };
 
 /* What an out-parameter holds before each call. */
 #define OUT_BEFORE 123456789u
@@ -38,10 +41,11 @@ struct buffer {
 
 struct example {
     char call[16];
-    size_t rows, columns, block, disk, limit, record;
+    size_t rows, columns, block, sector, sectors, disk, limit, record;
     struct buffer buffers[BUFFERS];
-    int returned; /* whether the line `returns` has been read */
-    size_t result, out;
+    size_t sheets; /* how many lines `sheet` there were, before and after */
+    int returned;  /* whether the line `returns` has been read */
+    size_t result, out, position;
 };
 
 static void stop(const char *why, const char *line)
@@ -50,14 +54,14 @@ static void stop(const char *why, const char *line)
     exit(1);
 }
 
-/* The length that a buffer should have. */
+/* The length that a buffer should have, or one sheet. */
 static size_t right_length(const struct example *e, int buffer)
 {
     switch (buffer) {
     case ARRAY:
         return RAID2D_ARRAY_BYTES(e->rows, e->columns, e->block);
     case MAP:
-        return RAID2D_DISKS(e->rows, e->columns);
+        return RAID2D_MAP_BYTES(e->rows, e->columns, e->sectors);
     case DATA:
         return e->block;
     default:
@@ -102,15 +106,67 @@ static size_t read_bytes(const char *line, uint8_t *bytes, size_t right)
     return len;
 }
 
+/* The next sheet. Before the call the first one sets the length to its own, and
+   each further one adds to it. */
+static void read_sheet(struct example *e, const char *line)
+{
+    struct buffer *b = &e->buffers[SHEET];
+    size_t at = e->sheets++ * RAID2D_SHEET_BYTES;
+    uint8_t *bytes = e->returned ? b->expected : b->bytes;
+    uint8_t sheet[BYTES_MAX];
+    size_t length = read_bytes(line, sheet, RAID2D_SHEET_BYTES);
+
+    if (at + length > (e->returned ? b->len : BYTES_MAX))
+        stop("more sheets than there is room for", line);
+    if (e->returned && length < RAID2D_SHEET_BYTES && at + length < b->len)
+        stop("less than a sheet", line);
+    memcpy(bytes + at, sheet, length);
+    if (!e->returned) {
+        b->len = at + length;
+        memcpy(b->expected, b->bytes, b->len);
+    }
+}
+
 static void read_buffer(struct example *e, int which, const char *line)
 {
     struct buffer *b = &e->buffers[which];
 
-    if (!e->returned) {
+    if (which == SHEET)
+        read_sheet(e, line);
+    else if (!e->returned) {
         b->len = read_bytes(line, b->bytes, right_length(e, which));
         memcpy(b->expected, b->bytes, b->len);
     } else if (read_bytes(line, b->expected, b->len) != b->len)
         stop("another length than before", line);
+}
+
+/* How many sectors the numbers ask for: 1 where they ask for none. */
+static size_t sectors_of(const struct example *e, const char *line)
+{
+    if (strcmp(e->call, "plan") == 0)
+        return number(line, "sectors", 1);
+    return e->sector > 0 && e->sector <= e->block ? e->block / e->sector : 1;
+}
+
+/* The first line of an example. */
+static void read_call(struct example *e, const char *line)
+{
+    struct buffer *sheets = &e->buffers[SHEET];
+
+    sscanf(line, "%15s", e->call);
+    e->rows = number(line, "rows", 0);
+    e->columns = number(line, "columns", 0);
+    e->block = number(line, "block", 0);
+    e->sector = number(line, "sector", e->block);
+    e->sectors = sectors_of(e, line);
+    e->disk = number(line, "disk", 0);
+    e->limit = number(line, "limit", 0);
+    e->record = number(line, "record", 0);
+    sheets->len = RAID2D_SHEETS_BYTES(e->sectors > 0 ? e->sectors : 1);
+    if (sheets->len > BYTES_MAX)
+        sheets->len = RAID2D_SHEET_BYTES;
+    memset(sheets->bytes, ARBITRARY, BYTES_MAX);
+    memset(sheets->expected, ARBITRARY, BYTES_MAX);
 }
 
 /* One line of an example. The first has the call. */
@@ -119,23 +175,16 @@ static void read_line(struct example *e, const char *line)
     int i;
 
     if (e->call[0] == '\0') {
-        sscanf(line, "%15s", e->call);
-        e->rows = number(line, "rows", 0);
-        e->columns = number(line, "columns", 0);
-        e->block = number(line, "block", 0);
-        e->disk = number(line, "disk", 0);
-        e->limit = number(line, "limit", 0);
-        e->record = number(line, "record", 0);
-        e->buffers[SHEET].len = RAID2D_SHEET_BYTES;
-        memset(e->buffers[SHEET].bytes, ARBITRARY, RAID2D_SHEET_BYTES);
-        memset(e->buffers[SHEET].expected, ARBITRARY, RAID2D_SHEET_BYTES);
+        read_call(e, line);
         return;
     }
     if (strncmp(line, "returns ", 8) == 0) {
         e->returned = 1;
+        e->sheets = 0;
         e->result = number(line, "returns", 0);
         e->out = number(line, "count", number(line, "stripe",
                         number(line, "offset", OUT_BEFORE)));
+        e->position = number(line, "position", OUT_BEFORE);
         return;
     }
     for (i = 0; i < BUFFERS; i++) {
@@ -173,14 +222,14 @@ static size_t run_small(const struct example *e)
 }
 
 /* The calls that write a sheet and take no array. */
-static size_t run_sheet(struct example *e, size_t *out)
+static size_t run_sheet(struct example *e, size_t *out, size_t *position)
 {
     uint8_t *map = e->buffers[MAP].bytes, *sheet = e->buffers[SHEET].bytes;
     size_t map_len = e->buffers[MAP].len, sheet_len = e->buffers[SHEET].len;
 
     if (strcmp(e->call, "plan") == 0)
-        return raid2d_plan(e->rows, e->columns, map, map_len,
-                           sheet, sheet_len, out);
+        return raid2d_plan(e->rows, e->columns, e->sectors, map, map_len,
+                           sheet, sheet_len, out, position);
     if (strcmp(e->call, "plan_disk") == 0)
         return raid2d_plan_disk(e->rows, e->columns, map, map_len,
                                 sheet, sheet_len, e->disk, out);
@@ -189,9 +238,10 @@ static size_t run_sheet(struct example *e, size_t *out)
     return run_small(e);
 }
 
-static size_t run(struct example *e, size_t *out)
+static size_t run(struct example *e, size_t *out, size_t *position)
 {
     size_t rows = e->rows, columns = e->columns, block = e->block;
+    size_t sector = e->sector;
     uint8_t *array = e->buffers[ARRAY].bytes, *map = e->buffers[MAP].bytes;
     uint8_t *data = e->buffers[DATA].bytes, *sheet = e->buffers[SHEET].bytes;
     size_t array_len = e->buffers[ARRAY].len, map_len = e->buffers[MAP].len;
@@ -205,30 +255,32 @@ static size_t run(struct example *e, size_t *out)
         return raid2d_write(rows, columns, block, array, array_len, e->disk,
                             data, data_len);
     if (strcmp(e->call, "look") == 0)
-        return raid2d_look(rows, columns, block, array, array_len,
+        return raid2d_look(rows, columns, block, array, array_len, sector,
                            map, map_len, e->disk, out);
     if (strcmp(e->call, "rebuild") == 0)
-        return raid2d_rebuild(rows, columns, block, array, array_len,
-                              map, map_len, sheet, sheet_len, e->limit, out);
+        return raid2d_rebuild(rows, columns, block, array, array_len, sector,
+                              map, map_len, sheet, sheet_len, e->limit, out,
+                              position);
     if (strcmp(e->call, "follow") == 0)
-        return raid2d_follow(rows, columns, block, array, array_len,
+        return raid2d_follow(rows, columns, block, array, array_len, sector,
                              map, map_len, sheet, sheet_len, out);
     if (strcmp(e->call, "save") == 0)
-        return raid2d_save(rows, columns, block, array, array_len,
+        return raid2d_save(rows, columns, block, array, array_len, sector,
                            map, map_len, out);
-    return run_sheet(e, out);
+    return run_sheet(e, out, position);
 }
 
 /* Whether the call answers and leaves what the example says. */
 static int holds(struct example *e, unsigned number)
 {
-    size_t out = OUT_BEFORE, i;
-    size_t result = run(e, &out);
-    int good = e->returned && result == e->result && out == e->out;
+    size_t out = OUT_BEFORE, position = OUT_BEFORE, i;
+    size_t result = run(e, &out, &position);
+    int good = e->returned && result == e->result && out == e->out
+               && position == e->position;
 
     if (!good)
-        printf("FAILED: example %u, %s: returns %zu, out-parameter %zu\n",
-               number, e->call, result, out);
+        printf("FAILED: example %u, %s: returns %zu, out-parameter %zu, "
+               "position %zu\n", number, e->call, result, out, position);
     for (i = 0; i < BUFFERS; i++) {
         struct buffer *b = &e->buffers[i];
         size_t k;

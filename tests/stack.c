@@ -1,8 +1,9 @@
 /*
  * How much stack each call takes, at the largest size and at the least square
- * ones, on its longest ways. A call runs on a stack of its own that was filled
- * with a pattern before; the lowest byte that it has changed tells how deep it
- * went. tests/archive builds and runs this.
+ * ones, on its longest ways, with blocks as one sector and with as many sectors
+ * as can be. A call runs on a stack of its own that was filled with a pattern
+ * before; the lowest byte that it has changed tells how deep it went.
+ * tests/archive builds and runs this.
  *
  * usage: stack LIMIT. Prints a line for each run, with FAILED where it takes
  * LIMIT bytes or more, or answers something else than it should.
@@ -16,19 +17,19 @@
 #include "raid2d.h"
 
 enum { SIDE = RAID2D_SIDE_MAX, BLOCK = RAID2D_BLOCK_MAX };
-enum { STACK_BYTES = 1 << 16 };
+enum { SECTORS = RAID2D_SECTORS_MAX, STACK_BYTES = 1 << 16 };
 
-/* The size of the array that is lent. */
-static size_t rows, columns;
+/* The size of the array that is lent, and how many sectors a block has. */
+static size_t rows, columns, sectors;
 
 /* All that is lent, with room for the largest size, the lengths that are
    passed, and where the answer is expected. */
 static uint8_t array[RAID2D_ARRAY_BYTES(SIDE, SIDE, BLOCK)];
-static uint8_t map[RAID2D_DISKS(SIDE, SIDE)];
-static uint8_t sheet[RAID2D_SHEET_BYTES];
+static uint8_t map[RAID2D_MAP_BYTES(SIDE, SIDE, SECTORS)];
+static uint8_t sheets[RAID2D_SHEETS_BYTES(SECTORS)];
 static uint8_t data[BLOCK];
-static size_t disks, array_len, wanted;
-static size_t out;
+static size_t disks, array_len, map_len, sheets_len, wanted;
+static size_t out, position;
 static size_t result;
 
 static uint8_t stack[STACK_BYTES];
@@ -57,26 +58,27 @@ static void write(void)
 
 static void look(void)
 {
-    result = raid2d_look(rows, columns, BLOCK, array, array_len, map, disks,
-                         disks - 1, &out);
+    result = raid2d_look(rows, columns, BLOCK, array, array_len,
+                         BLOCK / sectors, map, map_len, disks - 1, &out);
 }
 
 static void plan(void)
 {
-    result = raid2d_plan(rows, columns, map, disks, sheet, sizeof sheet,
-                         &out);
+    result = raid2d_plan(rows, columns, sectors, map, map_len, sheets,
+                         sheets_len, &out, &position);
 }
 
 static void plan_disk(void)
 {
-    result = raid2d_plan_disk(rows, columns, map, disks, sheet, sizeof sheet,
+    result = raid2d_plan_disk(rows, columns, map, map_len, sheets, sheets_len,
                               wanted, &out);
 }
 
 static void rebuild_some(size_t limit)
 {
-    result = raid2d_rebuild(rows, columns, BLOCK, array, array_len, map,
-                            disks, sheet, sizeof sheet, limit, &out);
+    result = raid2d_rebuild(rows, columns, BLOCK, array, array_len,
+                            BLOCK / sectors, map, map_len, sheets, sheets_len,
+                            limit, &out, &position);
 }
 
 static void rebuild(void)
@@ -91,19 +93,20 @@ static void rebuild_one(void)
 
 static void follow(void)
 {
-    result = raid2d_follow(rows, columns, BLOCK, array, array_len, map, disks,
-                           sheet, sizeof sheet, &out);
+    result = raid2d_follow(rows, columns, BLOCK, array, array_len,
+                           BLOCK / sectors, map, map_len, sheets, sheets_len,
+                           &out);
 }
 
 static void save(void)
 {
-    result = raid2d_save(rows, columns, BLOCK, array, array_len, map, disks,
-                         &out);
+    result = raid2d_save(rows, columns, BLOCK, array, array_len,
+                         BLOCK / sectors, map, map_len, &out);
 }
 
 static void tidy(void)
 {
-    result = raid2d_tidy(sheet, sizeof sheet);
+    result = raid2d_tidy(sheets, sheets_len);
 }
 
 /* What a run starts from: arbitrary data, sealed, and no disk erased. Disk 0 is
@@ -119,7 +122,7 @@ static void prepare(void)
     }
     memcpy(data, array + 7, sizeof data);
     memset(map, 0, sizeof map);
-    memset(sheet, 0, sizeof sheet);
+    memset(sheets, 0, sizeof sheets);
     wanted = 0;
     raid2d_seal(rows, columns, BLOCK, array, array_len);
 }
@@ -136,9 +139,10 @@ static void damaged(void)
     array[array_len - 1 - BLOCK] ^= 1;
 }
 
+/* All sectors of a disk. */
 static void lose(size_t row, size_t column)
 {
-    map[row * (columns + 1) + column] = 1;
+    memset(map + (row * (columns + 1) + column) * sectors, 1, sectors);
 }
 
 /* Row 0 and column 0: the most disks that come back, 31 at the largest size. */
@@ -153,14 +157,14 @@ static void cross(void)
             lose(i - columns, 0);
 }
 
-/* The sheet for the same loss, as from elsewhere. */
+/* The sheets for the same loss, as from elsewhere. */
 static void cross_and_sheet(void)
 {
     cross();
     plan();
 }
 
-/* One disk, and survivors that contradict each other; the sheet for it. */
+/* One disk, and survivors that contradict each other; the sheets for it. */
 static void contradicted(void)
 {
     damaged();
@@ -168,28 +172,29 @@ static void contradicted(void)
     plan();
 }
 
-/* A sheet of 32 records that leads back to its first. */
+/* A last sheet of 32 records that leads back to its first. */
 static void ring(void)
 {
+    uint8_t *last = sheets + sheets_len - RAID2D_SHEET_BYTES;
     size_t k;
 
     cross_and_sheet();
     for (k = 0; k < RAID2D_SHEET_RECORDS; k++)
-        sheet[4 + 3 * k] = (uint8_t)((k + 1) % RAID2D_SHEET_RECORDS + 1);
+        last[4 + 3 * k] = (uint8_t)((k + 1) % RAID2D_SHEET_RECORDS + 1);
 }
 
 /* The same records, the last of which leads nowhere. */
 static void full_chain(void)
 {
     ring();
-    sheet[sizeof sheet - 1] = 0;
+    sheets[sheets_len - 1] = 0;
 }
 
 /* The last byte of record 32, which no list of repairs gets to. */
 static void leftover(void)
 {
     cross_and_sheet();
-    sheet[sizeof sheet - 1] = 1;
+    sheets[sheets_len - 1] = 1;
 }
 
 /* The longest cycle: two disks in each row and column of the largest square
@@ -206,7 +211,7 @@ static void stairs(void)
 
 static void all_lost(void)
 {
-    memset(map, 1, sizeof map);
+    memset(map, 1, map_len);
 }
 
 /* Four disks at a time along the diagonal, and a disk between each four and the
@@ -336,6 +341,13 @@ static size_t depth_of(const struct run *run)
     return depth;
 }
 
+static int takes_sectors(const struct run *run)
+{
+    return run->call == look || run->call == plan || run->call == rebuild
+           || run->call == rebuild_one || run->call == follow
+           || run->call == save;
+}
+
 /* Makes all runs at the size that is set. Empty is the stack that a function
    takes which does nothing. Returns how many runs fail. */
 static int run_all(size_t limit, size_t empty)
@@ -345,14 +357,29 @@ static int run_all(size_t limit, size_t empty)
 
     for (i = 0; i < sizeof runs / sizeof runs[0]; i++) {
         const struct run *run = &runs[i];
-        size_t depth = depth_of(run) - empty;
-        int good = depth < limit && result == run->expected;
+        size_t depth;
+        int good;
 
-        printf("%2zu by %2zu %-9s %-24s %4zu bytes of stack%s\n", rows, columns,
-               run->name, run->on, depth, good ? "" : "  FAILED");
+        if (sectors > 1 && !takes_sectors(run))
+            continue;
+        depth = depth_of(run) - empty;
+        good = depth < limit && result == run->expected;
+        printf("%2zu by %2zu, sectors %4zu: %-9s %-24s %4zu bytes of stack%s\n",
+               rows, columns, sectors, run->name, run->on, depth,
+               good ? "" : "  FAILED");
         failed += !good;
     }
     return failed;
+}
+
+/* The lengths for so many sectors in a block. */
+static void set_lengths(size_t number)
+{
+    sectors = number;
+    disks = RAID2D_DISKS(rows, columns);
+    array_len = RAID2D_ARRAY_BYTES(rows, columns, BLOCK);
+    map_len = RAID2D_MAP_BYTES(rows, columns, sectors);
+    sheets_len = RAID2D_SHEETS_BYTES(sectors);
 }
 
 int main(int argc, char **argv)
@@ -368,8 +395,9 @@ int main(int argc, char **argv)
     for (i = 0; i < sizeof sizes / sizeof sizes[0]; i++) {
         rows = sizes[i][0];
         columns = sizes[i][1];
-        disks = RAID2D_DISKS(rows, columns);
-        array_len = RAID2D_ARRAY_BYTES(rows, columns, BLOCK);
+        set_lengths(1);
+        failed += run_all(limit, empty);
+        set_lengths(SECTORS);
         failed += run_all(limit, empty);
     }
     return failed != 0;

@@ -4,9 +4,10 @@
  * kind that guard bytes, sums, samples, squares and rebuilds of all disks do not
  * show: a byte that is only read, or written as it was, single losses among
  * millions, rows that are taken for columns, and turns that do not end as they
- * should. wrong_disk.c has plan_disk, wrong_save.c save, wrong_tidy.c tidy and
- * what follow makes of a sheet. tests/wrong renames the archive's functions and
- * sees that the tests fail.
+ * should. These are in what a call makes of blocks as one sector;
+ * wrong_sectors.c has the faults in several. wrong_disk.c has plan_disk,
+ * wrong_save.c save, wrong_tidy.c tidy and what follow makes of a sheet.
+ * tests/wrong renames the archive's functions and sees that the tests fail.
  */
 #include <stdlib.h>
 #include <string.h>
@@ -14,6 +15,7 @@
 #include "raid2d.h"
 #include "wrong.h"
 #include "wrong_disk.h"
+#include "wrong_sectors.h"
 #include "wrong_tidy.h"
 
 size_t right_sheet_next(const uint8_t *sheet, size_t record);
@@ -24,16 +26,6 @@ uint32_t right_check(size_t rows, size_t columns, size_t block,
 uint32_t right_write(size_t rows, size_t columns, size_t block,
                      uint8_t *array, size_t array_len, size_t disk,
                      const uint8_t *data, size_t data_len);
-size_t right_look(size_t rows, size_t columns, size_t block,
-                  const uint8_t *array, size_t array_len,
-                  const uint8_t *map, size_t map_len,
-                  size_t disk, size_t *offset);
-uint32_t right_rebuild(size_t rows, size_t columns, size_t block,
-                       uint8_t *array, size_t array_len,
-                       uint8_t *map, size_t map_len,
-                       uint8_t *sheet, size_t sheet_len, size_t limit,
-                       size_t *count);
-
 /* Asked so often that the environment is looked at only once. */
 const char *wanted(void)
 {
@@ -137,6 +129,16 @@ static int too_many(const char *call, size_t rows, size_t columns,
 
 /* ---- Single losses ---- */
 
+uint32_t plan_one(size_t rows, size_t columns,
+                  const uint8_t *map, size_t map_len,
+                  uint8_t *sheet, size_t sheet_len, size_t *count)
+{
+    size_t position;
+
+    return right_plan(rows, columns, 1, map, map_len, sheet, sheet_len, count,
+                      &position);
+}
+
 /* Four disks at one size. */
 struct loss {
     struct size size;
@@ -201,27 +203,31 @@ static uint32_t spoil_plan(uint32_t status, size_t rows, size_t columns,
 struct turn {
     size_t rows, columns, block;
     uint8_t *array;
-    size_t array_len;
+    size_t array_len, sector;
     uint8_t *map;
     size_t map_len;
     uint8_t *sheet;
     size_t sheet_len, limit;
-    size_t *count;
+    size_t *count, *position;
 };
 
 static uint32_t make(const struct turn *t)
 {
-    return right_rebuild(t->rows, t->columns, t->block, t->array, t->array_len,
-                         t->map, t->map_len, t->sheet, t->sheet_len, t->limit,
-                         t->count);
+    const struct cut c = { t->rows, t->columns, t->block, t->array,
+                           t->array_len, t->sector, 1, t->map, t->map_len,
+                           t->sheet, t->sheet_len, t->limit, 0, t->count,
+                           t->position };
+
+    return rebuild_in_sectors(c);
 }
 
-/* All lengths are right, so that copies can be made. */
+/* Blocks are one sector, and all lengths are right, so that copies can be
+   made. */
 static int has_lengths(const struct turn *t)
 {
     size_t bytes = right_array_bytes(t->rows, t->columns, t->block);
 
-    return bytes > 0 && t->array_len == bytes
+    return bytes > 0 && t->array_len == bytes && t->sector == t->block
            && t->map_len == right_disks(t->rows, t->columns)
            && t->sheet_len == RAID2D_SHEET_BYTES;
 }
@@ -248,14 +254,16 @@ static struct rest rest_of(const struct turn *t)
 {
     struct rest rest = { 0, malloc(t->array_len), { 0 }, 0 };
     uint8_t map[RAID2D_DISKS(RAID2D_SIDE_MAX, RAID2D_SIDE_MAX)];
+    size_t position;
 
     if (rest.array == NULL)
         abort();
     memcpy(rest.array, t->array, t->array_len);
     memcpy(map, t->map, t->map_len);
     rest.status = right_rebuild(t->rows, t->columns, t->block, rest.array,
-                                t->array_len, map, t->map_len, rest.sheet,
-                                sizeof rest.sheet, SIZE_MAX, &rest.count);
+                                t->array_len, t->block, map, t->map_len,
+                                rest.sheet, sizeof rest.sheet, SIZE_MAX,
+                                &rest.count, &position);
     return rest;
 }
 
@@ -312,8 +320,8 @@ static uint32_t spoil_turn(const struct turn *t, const uint8_t *before,
     size_t all;
 
     if (wrong("rebuild lists all of plan's repairs"))
-        right_plan(t->rows, t->columns, before, t->map_len, t->sheet,
-                   t->sheet_len, &all);
+        plan_one(t->rows, t->columns, before, t->map_len, t->sheet,
+                 t->sheet_len, &all);
     if (wrong("rebuild leaves the map"))
         memcpy(t->map, before, t->map_len);
     if (wrong("rebuild checks in every turn")) {
@@ -354,8 +362,8 @@ static size_t limit_of(const struct turn *t)
     if (wrong("rebuild shortens the limit to a byte"))
         return (uint8_t)t->limit;
     if (wrong("rebuild tests the limit behind the loss") && t->limit == 0
-        && right_plan(t->rows, t->columns, t->map, t->map_len, sheet,
-                      sizeof sheet, &count) == 6)
+        && plan_one(t->rows, t->columns, t->map, t->map_len, sheet,
+                    sizeof sheet, &count) == 6)
         return 1;
     return t->limit;
 }
@@ -426,68 +434,84 @@ uint32_t raid2d_write(size_t rows, size_t columns, size_t block,
     return status;
 }
 
-/* A look that takes every number of rows and columns. */
-static size_t look_untested(size_t rows, size_t columns, size_t block,
-                            size_t array_len,
-                            const uint8_t *map, size_t map_len,
-                            size_t disk, size_t *offset)
+/* A look that takes every number of rows and columns, on blocks as one
+   sector. */
+static size_t look_untested(const struct cut *c)
 {
-    size_t disks = RAID2D_DISKS(rows, columns);
+    size_t disks = RAID2D_DISKS(c->rows, c->columns);
     size_t other;
 
-    if (block < RAID2D_BLOCK_MIN || block > RAID2D_BLOCK_MAX
-        || array_len != disks * block || map_len != disks || disk >= disks
-        || map[disk] != 0)
+    if (c->block < RAID2D_BLOCK_MIN || c->block > RAID2D_BLOCK_MAX
+        || c->array_len != disks * c->block || c->sector != c->block
+        || c->map_len != disks || c->disk >= disks || c->map[c->disk] != 0)
         return 0;
     for (other = 0; other < disks; other++)
-        if (map[other] > 1)
+        if (c->map[other] > 1)
             return 0;
-    *offset = disk * block;
-    return block;
+    *c->count = c->disk * c->block;
+    return c->block;
 }
 
 /* To swap the numbers would be no fault here. */
 size_t raid2d_look(size_t rows, size_t columns, size_t block,
-                   const uint8_t *array, size_t array_len,
+                   const uint8_t *array, size_t array_len, size_t sector,
                    const uint8_t *map, size_t map_len,
                    size_t disk, size_t *offset)
 {
+    const struct cut c = { rows, columns, block, (uint8_t *)(size_t)array,
+                           array_len, sector, 1, (uint8_t *)(size_t)map,
+                           map_len, NULL, 0, 0, disk, offset, NULL };
+
     if ((wrong("look tests only the rows") && fits(rows) && !fits(columns))
         || (wrong("look tests only the columns") && fits(columns)
             && !fits(rows)))
-        return look_untested(rows, columns, block, array_len, map, map_len,
-                             disk, offset);
-    return right_look(rows, columns, block, array, array_len, map, map_len,
-                      disk, offset);
+        return look_untested(&c);
+    return look_in_sectors(c);
 }
 
-uint32_t raid2d_plan(size_t rows, size_t columns,
+/* A byte that is not lent is read or cleared, or one that is only read is
+   written. */
+static void touch_plan(const struct cut *c)
+{
+    if (wrong("reads a byte behind the map"))
+        read_at(c->map + c->map_len);
+    if (wrong("reads a byte before the map"))
+        read_at(c->map - 1);
+    if (wrong("reads a byte behind the count"))
+        read_at(c->count + 1);
+    if (wrong("reads a byte before the count"))
+        read_at((uint8_t *)c->count - 1);
+    if (wrong("reads a byte behind the position"))
+        read_at(c->position + 1);
+    if (wrong("reads a byte before the position"))
+        read_at((uint8_t *)c->position - 1);
+    if (wrong("writes the map, the same bytes"))
+        write_at(c->map);
+    if (wrong("clears a byte behind the sheet"))
+        set_bytes(c->sheets + c->sheets_len, 0, 1);
+}
+
+uint32_t raid2d_plan(size_t rows, size_t columns, size_t sectors,
                      const uint8_t *map, size_t map_len,
-                     uint8_t *sheet, size_t sheet_len, size_t *count)
+                     uint8_t *sheets, size_t sheets_len,
+                     size_t *count, size_t *position)
 {
     struct size size = passed_on("plan", rows, columns);
-    uint32_t status = right_plan(size.rows, size.columns, map, map_len, sheet,
-                                 sheet_len, count);
+    const struct cut c = { size.rows, size.columns, 0, NULL, 0, 0, sectors,
+                           (uint8_t *)(size_t)map, map_len, sheets,
+                           sheets_len, 0, 0, count, position };
+    uint32_t status = plan_in_sectors(c);
 
     if (status != 0 && status != 6)
         return status;
-    if (wrong("reads a byte behind the map"))
-        read_at(map + map_len);
-    if (wrong("reads a byte before the map"))
-        read_at(map - 1);
-    if (wrong("reads a byte behind the count"))
-        read_at(count + 1);
-    if (wrong("reads a byte before the count"))
-        read_at((uint8_t *)count - 1);
-    if (wrong("writes the map, the same bytes"))
-        write_at(map);
-    if (wrong("clears a byte behind the sheet"))
-        set_bytes(sheet + sheet_len, 0, 1);
+    touch_plan(&c);
+    if (sectors != 1)
+        return status;
     if (status == 0 && too_many("plan", rows, columns, *count))
         return 6;
     if (wrong("plan counts what no repair reaches") && status == 6)
         *count = count_left(rows, columns, map);
-    return spoil_plan(status, rows, columns, map, map_len, sheet, count);
+    return spoil_plan(status, rows, columns, map, map_len, sheets, count);
 }
 
 /* A byte that is not lent is read or cleared, or one that is only read is
@@ -530,16 +554,19 @@ uint32_t raid2d_plan_disk(size_t rows, size_t columns,
 }
 
 uint32_t raid2d_rebuild(size_t rows, size_t columns, size_t block,
-                        uint8_t *array, size_t array_len,
+                        uint8_t *array, size_t array_len, size_t sector,
                         uint8_t *map, size_t map_len,
-                        uint8_t *sheet, size_t sheet_len, size_t limit,
-                        size_t *count)
+                        uint8_t *sheets, size_t sheets_len, size_t limit,
+                        size_t *count, size_t *position)
 {
     struct size size = passed_on("rebuild", rows, columns);
     struct turn turn = { size.rows, size.columns, block, array, array_len,
-                         map, map_len, sheet, sheet_len, limit, count };
+                         sector, map, map_len, sheets, sheets_len, limit,
+                         count, position };
     uint32_t status = make_wrongly(turn);
 
+    if (sector != block)
+        return status;
     if (status == 0 && too_many("rebuild", rows, columns, *count))
         return 6;
     if (wrong("rebuild counts what no repair reaches") && status == 6)
@@ -547,12 +574,13 @@ uint32_t raid2d_rebuild(size_t rows, size_t columns, size_t block,
     return status;
 }
 
-uint32_t raid2d_follow(size_t rows, size_t columns, size_t block,
-                       uint8_t *array, size_t array_len,
-                       const uint8_t *map, size_t map_len,
-                       const uint8_t *sheet, size_t sheet_len, size_t *count)
+/* Follow on blocks as one sector. */
+static uint32_t follow_one(struct size size, size_t block,
+                           uint8_t *array, size_t array_len,
+                           const uint8_t *map, size_t map_len,
+                           const uint8_t *sheet, size_t sheet_len,
+                           size_t *count)
 {
-    struct size size = passed_on("follow", rows, columns);
     uint32_t status = follow_wrongly(size.rows, size.columns, block, array,
                                      array_len, map, map_len, sheet, sheet_len,
                                      count);
@@ -567,6 +595,26 @@ uint32_t raid2d_follow(size_t rows, size_t columns, size_t block,
         read_at(sheet - 1);
     if (wrong("writes the sheet, the same bytes") && status == 11)
         write_at(sheet);
+    return status;
+}
+
+uint32_t raid2d_follow(size_t rows, size_t columns, size_t block,
+                       uint8_t *array, size_t array_len, size_t sector,
+                       const uint8_t *map, size_t map_len,
+                       const uint8_t *sheets, size_t sheets_len,
+                       size_t *count)
+{
+    struct size size = passed_on("follow", rows, columns);
+    const struct cut c = { size.rows, size.columns, block, array, array_len,
+                           sector, 1, (uint8_t *)(size_t)map, map_len,
+                           (uint8_t *)(size_t)sheets, sheets_len, 0, 0, count,
+                           NULL };
+    uint32_t status;
+
+    if (sector != block)
+        return follow_in_sectors(c);
+    status = follow_one(size, block, array, array_len, map, map_len, sheets,
+                        sheets_len, count);
     if (status == 0 && too_many("follow", rows, columns, *count))
         return 11;
     return status;

@@ -8,9 +8,11 @@
 
 size_t right_disks(size_t rows, size_t columns);
 size_t right_array_bytes(size_t rows, size_t columns, size_t block);
-uint32_t right_plan(size_t rows, size_t columns,
-                    const uint8_t *map, size_t map_len,
-                    uint8_t *sheet, size_t sheet_len, size_t *count);
+
+/* The archive's plan for one position. */
+uint32_t plan_one(size_t rows, size_t columns,
+                  const uint8_t *map, size_t map_len,
+                  uint8_t *sheet, size_t sheet_len, size_t *count);
 
 /* The fault, empty for none, and whether it is this one. */
 const char *wanted(void);

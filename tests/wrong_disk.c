@@ -304,16 +304,18 @@ static void clear_listed(const struct asked *a, const struct list *l)
 static int is_fatal(const struct asked *a)
 {
     uint8_t sheet[BYTES];
-    size_t count;
+    size_t count, position;
 
-    return raid2d_plan(a->rows, a->columns, a->map, a->map_len, sheet, BYTES,
-                       &count) == RAID2D_FATAL;
+    return raid2d_plan(a->rows, a->columns, 1, a->map, a->map_len, sheet,
+                       BYTES, &count, &position) == RAID2D_FATAL;
 }
 
 static uint32_t as_plan(const struct asked *a)
 {
-    return raid2d_plan(a->rows, a->columns, a->map, a->map_len, a->sheet,
-                       BYTES, a->count);
+    size_t position;
+
+    return raid2d_plan(a->rows, a->columns, 1, a->map, a->map_len, a->sheet,
+                       BYTES, a->count, &position);
 }
 
 static uint32_t spoil_list(const struct asked *a)
@@ -356,11 +358,12 @@ static uint32_t plan_without(const struct asked *a, size_t disk,
                              uint8_t *sheet, size_t *count)
 {
     uint8_t map[DISKS];
+    size_t position;
 
     memcpy(map, a->map, a->map_len);
     map[disk] = 0;
-    return raid2d_plan(a->rows, a->columns, map, a->map_len, sheet, BYTES,
-                       count);
+    return raid2d_plan(a->rows, a->columns, 1, map, a->map_len, sheet, BYTES,
+                       count, &position);
 }
 
 /* A cycle without some disk of the one that plan shows, where there is such. */

@@ -1,17 +1,15 @@
 /*
  * Save before the archive's own, with the one fault that is wanted, or none:
  * disks that no repair reaches are not saved, or lost ones are written to,
- * survivors are judged too late or not at all.
+ * survivors are judged too late or not at all. These faults are in what save
+ * makes of one position; wrong_sectors.c has those in several.
  */
 #include <stdlib.h>
 #include <string.h>
 
 #include "raid2d.h"
 #include "wrong.h"
-
-uint32_t right_save(size_t rows, size_t columns, size_t block,
-                    uint8_t *array, size_t array_len,
-                    const uint8_t *map, size_t map_len, size_t *count);
+#include "wrong_sectors.h"
 
 enum {
     DISKS = RAID2D_DISKS(RAID2D_SIDE_MAX, RAID2D_SIDE_MAX),
@@ -79,8 +77,8 @@ static size_t count_lost(const struct saving *s, const uint8_t *map)
 {
     uint8_t sheet[RAID2D_SHEET_BYTES];
     size_t count = 0;
-    uint32_t status = right_plan(s->rows, s->columns, map, s->map_len, sheet,
-                                 sizeof sheet, &count);
+    uint32_t status = plan_one(s->rows, s->columns, map, s->map_len, sheet,
+                               sizeof sheet, &count);
 
     return status == RAID2D_FATAL ? count : 0;
 }
@@ -199,7 +197,7 @@ static uint32_t save_wrongly(struct saving s)
         abort();
     memcpy(s.before, s.array, s.array_len);
     status = right_save(s.rows, s.columns, s.block, s.array, s.array_len,
-                        s.map, s.map_len, s.count);
+                        s.block, s.map, s.map_len, s.count);
     if (status == 0)
         status = spoil_saved(&s);
     else if (status == RAID2D_ERR_SURVIVORS)
@@ -223,23 +221,32 @@ static void touch(const struct saving *s)
         write_at(s->map);
 }
 
+/* Blocks are one sector, and all lengths are right. */
+static int fits(const struct saving *s, size_t sector)
+{
+    size_t bytes = right_array_bytes(s->rows, s->columns, s->block);
+
+    return bytes > 0 && s->array_len == bytes && sector == s->block
+           && s->map_len == right_disks(s->rows, s->columns);
+}
+
 uint32_t raid2d_save(size_t rows, size_t columns, size_t block,
-                     uint8_t *array, size_t array_len,
+                     uint8_t *array, size_t array_len, size_t sector,
                      const uint8_t *map, size_t map_len, size_t *count)
 {
     struct size size = passed_on("save", rows, columns);
     struct saving s = { size.rows, size.columns, block, array, NULL,
                         array_len, map, map_len, count };
-    size_t bytes = right_array_bytes(size.rows, size.columns, block);
+    struct cut c = { size.rows, size.columns, block, array, array_len,
+                     sector, 1, (uint8_t *)(size_t)map, map_len, NULL, 0, 0,
+                     0, count, NULL };
     uint32_t status;
 
-    if (strncmp(wanted(), "save ", 5) == 0 && bytes > 0 && array_len == bytes
-        && map_len == right_disks(size.rows, size.columns)) {
+    if (strncmp(wanted(), "save ", 5) == 0 && fits(&s, sector)) {
         status = save_wrongly(s);
         if (status == 0)
             touch(&s);
         return status;
     }
-    return right_save(size.rows, size.columns, block, array, array_len, map,
-                      map_len, count);
+    return save_in_sectors(c);
 }

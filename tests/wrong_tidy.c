@@ -132,7 +132,7 @@ static int repairs_are_refused(size_t rows, size_t columns,
 
     memcpy(cleared, sheet, BYTES);
     clear_off_chain(cleared);
-    return right_follow(rows, columns, 1, blocks, map_len, map, map_len,
+    return right_follow(rows, columns, 1, blocks, map_len, 1, map, map_len,
                         cleared, BYTES, &unused) == RAID2D_ERR_REPAIRS;
 }
 
@@ -164,12 +164,12 @@ uint32_t follow_wrongly(size_t rows, size_t columns, size_t block,
     uint32_t status;
 
     if (sheet_len != BYTES)
-        return right_follow(rows, columns, block, array, array_len, map,
+        return right_follow(rows, columns, block, array, array_len, block, map,
                             map_len, sheet, sheet_len, count);
     memcpy(seen, sheet, BYTES);
     overlook(seen);
-    status = right_follow(rows, columns, block, array, array_len, map, map_len,
-                          seen, BYTES, count);
+    status = right_follow(rows, columns, block, array, array_len, block, map,
+                          map_len, seen, BYTES, count);
     if (wrong("follow gives 14 after 11") && status == RAID2D_ERR_LEFTOVERS
         && repairs_are_refused(rows, columns, map, map_len, sheet))
         return RAID2D_ERR_REPAIRS;

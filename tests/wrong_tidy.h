@@ -11,14 +11,16 @@
 
 /* The right ones. */
 uint32_t right_follow(size_t rows, size_t columns, size_t block,
-                      uint8_t *array, size_t array_len,
+                      uint8_t *array, size_t array_len, size_t sector,
                       const uint8_t *map, size_t map_len,
-                      const uint8_t *sheet, size_t sheet_len, size_t *count);
+                      const uint8_t *sheets, size_t sheets_len,
+                      size_t *count);
 uint32_t right_tidy(uint8_t *sheet, size_t sheet_len);
 
 /* Whether this is the fault that is wanted. */
 int wrong(const char *name);
 
+/* With blocks as one sector. */
 uint32_t follow_wrongly(size_t rows, size_t columns, size_t block,
                         uint8_t *array, size_t array_len,
                         const uint8_t *map, size_t map_len,

@@ -12,8 +12,13 @@
 static uint8_t largest[RAID2D_ARRAY_BYTES(RAID2D_SIDE_MAX, RAID2D_SIDE_MAX,
                                           RAID2D_BLOCK_MAX)];
 
+/* The largest map, and the most sheets. */
+static uint8_t largest_map[RAID2D_MAP_BYTES(RAID2D_SIDE_MAX, RAID2D_SIDE_MAX,
+                                            RAID2D_SECTORS_MAX)];
+static uint8_t most_sheets[RAID2D_SHEETS_BYTES(RAID2D_SECTORS_MAX)];
+
 static const uint32_t statuses[] = {
-    0, 1, 2, 3, 4, 5, 6, 7, 8, 9, 10, 11, 12, 13, 14, 15, 64
+    0, 1, 2, 3, 4, 5, 6, 7, 8, 9, 10, 11, 12, 13, 14, 15, 16, 64
 };
 
 #define STATUSES (sizeof statuses / sizeof statuses[0])
@@ -24,6 +29,12 @@ static void limits_and_sizes(void)
     expect(RAID2D_BLOCK_MIN == 1 && RAID2D_BLOCK_MAX == 4096, "range of block");
     expect(sizeof largest == 1048576 && largest[0] == 0,
            "bytes of the largest array");
+    expect(RAID2D_SECTORS_MIN == 1 && RAID2D_SECTORS_MAX == 4096,
+           "range of sectors");
+    expect(sizeof largest_map == 1048576 && largest_map[0] == 0,
+           "bytes of the largest map");
+    expect(sizeof most_sheets == 401408 && most_sheets[0] == 0,
+           "bytes of the most sheets");
     expect(RAID2D_COLUMN_STRIPE == 16, "stripe of column 0");
     expect(RAID2D_DISKS(2, 2) == 9 && RAID2D_DISKS(15, 15) == 256
                && RAID2D_DISKS(2, 15) == 48 && RAID2D_DISKS(15, 2) == 48,
@@ -31,6 +42,10 @@ static void limits_and_sizes(void)
     expect(RAID2D_DISKS(1 + 1, 1 + 2) == 12, "disks, from expressions");
     expect(RAID2D_ARRAY_BYTES(1 + 1, 1 + 2, 2 + 3) == 60,
            "bytes, from expressions");
+    expect(RAID2D_MAP_BYTES(1 + 1, 1 + 2, 2 + 3) == 60,
+           "bytes of a map, from expressions");
+    expect(RAID2D_SHEETS_BYTES(1 + 1) == 196,
+           "bytes of sheets, from expressions");
     expect(RAID2D_SHEET_BYTES == 98, "bytes of a sheet");
     expect(RAID2D_SHEET_RECORDS == 32, "records of a sheet");
     expect(RAID2D_SHEET_REPAIRS == 1 && RAID2D_SHEET_CYCLE == 2, "kinds");
@@ -63,13 +78,14 @@ static void numbers_of_statuses(void)
     expect(RAID2D_ERR_RING == 13, "number of a record reached twice");
     expect(RAID2D_ERR_LEFTOVERS == 14, "number of leftovers");
     expect(RAID2D_ERR_WANTED == 15, "number of a wrong wanted disk");
+    expect(RAID2D_ERR_SECTOR == 16, "number of a wrong sector");
     expect(RAID2D_NOT_SEALED == 64, "number of an array that is not sealed");
 }
 
 /* Each status has words of its own; all other numbers share theirs. */
 static void words_of_statuses(void)
 {
-    static const uint32_t others[] = { 16, 63, 65, 256, 0xffffffffu };
+    static const uint32_t others[] = { 17, 63, 65, 256, 0xffffffffu };
     const char *unknown = raid2d_strerror(others[0]);
     size_t i, j;
 

@@ -515,11 +515,11 @@ static void cases_10_and_11(void)
 static size_t fatal_sets(uint8_t *map, struct size s, size_t from, size_t more)
 {
     uint8_t sheet[RAID2D_SHEET_BYTES];
-    size_t count = 0, fatal = 0, disk;
+    size_t count = 0, position = 0, fatal = 0, disk;
 
     if (more == 0)
-        return raid2d_plan(s.rows, s.columns, map, disks_of(s), sheet,
-                           sizeof sheet, &count) == RAID2D_FATAL;
+        return raid2d_plan(s.rows, s.columns, 1, map, disks_of(s), sheet,
+                           sizeof sheet, &count, &position) == RAID2D_FATAL;
     for (disk = from; disk < disks_of(s); disk++) {
         map[disk] = 1;
         fatal += fatal_sets(map, s, disk + 1, more - 1);

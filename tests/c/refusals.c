@@ -1,8 +1,9 @@
 /*
  * Refusals: every wrong argument alone, and every pair of them, from calls
  * that are otherwise right; wrong rows with wrong columns count as one. Of a
- * pair the one that comes first in the order's list is returned. Nothing that
- * is lent may change, but for what the order says of 6 and 7.
+ * pair the one that comes first in the order's list is returned, also where the
+ * two are wrong at different positions of the block. Nothing that is lent may
+ * change, but for what the order says of 6 and 7.
  */
 #include <string.h>
 
@@ -21,6 +22,8 @@
 /* What can be wrong with a call. */
 enum argument {
     ROWS, COLUMNS, BLOCK, ARRAY_LENGTH,
+    SECTOR,                                /* all with a map but plan's */
+    SECTORS,                               /* plan only */
     PARITY_DISK, DATA_LENGTH,              /* write only */
     MAP_LENGTH, MAP_BYTE,                  /* from look on */
     NO_DISK, ERASED,                       /* look only */
@@ -34,10 +37,12 @@ enum argument {
     ARGUMENTS
 };
 
-/* A value for each, and the size of the array that the call starts from. */
+/* A value for each, the size of the array that the call starts from, and into
+   how many sectors its blocks are cut. */
 struct arguments {
     size_t of[ARGUMENTS];
     struct size size;
+    size_t sectors;
 };
 
 /* The values that one argument is tried with: a right one, then wrong ones. */
@@ -57,12 +62,13 @@ struct tests {
     struct {
         enum argument argument;
         size_t status;
-    } test[13];
+    } test[14];
 };
 
 /* Tests that several calls make. */
 #define SIZE_TESTS { ROWS, 1 }, { COLUMNS, 1 }
 #define ARRAY_TESTS SIZE_TESTS, { BLOCK, 2 }, { ARRAY_LENGTH, 3 }
+#define SECTOR_TESTS ARRAY_TESTS, { SECTOR, 16 }
 #define MAP_TESTS { MAP_LENGTH, 4 }, { MAP_BYTE, 4 }
 #define SHEET_TESTS MAP_TESTS, { SHEET_LENGTH, 5 }
 #define CHAIN_TESTS { CHAIN, 10 }, { RING, 13 }
@@ -71,22 +77,22 @@ static const struct tests tests[] = {
     { SEAL, 0, 4, { ARRAY_TESTS } },
     { CHECK, 64, 4, { ARRAY_TESTS } },
     { WRITE, 0, 6, { ARRAY_TESTS, { PARITY_DISK, 8 }, { DATA_LENGTH, 9 } } },
-    { LOOK, 0, 8, { { ROWS, 0 }, { COLUMNS, 0 }, { BLOCK, 0 },
-                    { ARRAY_LENGTH, 0 }, { MAP_LENGTH, 0 }, { MAP_BYTE, 0 },
-                    { NO_DISK, 0 }, { ERASED, 0 } } },
-    { PLAN, 0, 6, { SIZE_TESTS, SHEET_TESTS, { LOSS, 6 } } },
+    { LOOK, 0, 9, { { ROWS, 0 }, { COLUMNS, 0 }, { BLOCK, 0 },
+                    { ARRAY_LENGTH, 0 }, { SECTOR, 0 }, { MAP_LENGTH, 0 },
+                    { MAP_BYTE, 0 }, { NO_DISK, 0 }, { ERASED, 0 } } },
+    { PLAN, 0, 7, { SIZE_TESTS, { SECTORS, 16 }, SHEET_TESTS, { LOSS, 6 } } },
     { PLAN_DISK, 0, 7, { SIZE_TESTS, SHEET_TESTS, { WANTED, 15 },
                          { LOSS, 6 } } },
-    { REBUILD, 0, 10, { ARRAY_TESTS, SHEET_TESTS, { LIMIT, 12 }, { LOSS, 6 },
+    { REBUILD, 0, 11, { SECTOR_TESTS, SHEET_TESTS, { LIMIT, 12 }, { LOSS, 6 },
                         { DAMAGE, 7 } } },
-    { FOLLOW, 0, 13, { ARRAY_TESTS, SHEET_TESTS, CHAIN_TESTS,
+    { FOLLOW, 0, 14, { SECTOR_TESTS, SHEET_TESTS, CHAIN_TESTS,
                        { LEFTOVER, 14 }, { STEP, 11 }, { LOSS, 11 },
                        { DAMAGE, 7 } } },
-    { SAVE, 0, 7, { ARRAY_TESTS, MAP_TESTS, { DAMAGE, 7 } } },
+    { SAVE, 0, 8, { SECTOR_TESTS, MAP_TESTS, { DAMAGE, 7 } } },
     { TIDY, 0, 3, { { SHEET_LENGTH, 5 }, CHAIN_TESTS } }
 };
 
-/* The sheet of follow and tidy has one record, number 32: disk 1 by row 0.
+/* Each sheet of follow and tidy has one record, number 32: disk 1 by row 0.
    These are bytes that make it wrong. In its chain: another kind, a number that
    no record has. */
 struct sheet_byte {
@@ -171,6 +177,39 @@ static struct values blocks(size_t block)
     return v;
 }
 
+/* The length of the sectors that a block is cut into, then 0, longer ones,
+   such that do not divide the block, and such that would be right if they were
+   shortened. */
+static struct values sector_lengths(size_t block, size_t sectors)
+{
+    size_t right = block / sectors, i;
+    const size_t wrong[] = {
+        0, block + 1, 2 * block, 2, 3, 4, 5, right + 1, right + 256,
+        right + 65536, right + TWO_TO(32), right + TWO_TO(63), TWO_TO(63),
+        SIZE_MAX
+    };
+    struct values v = { 1, { right } };
+
+    for (i = 0; i < COUNT(wrong); i++)
+        if (wrong[i] == 0 || block % wrong[i] != 0)
+            add(&v, wrong[i]);
+    return v;
+}
+
+/* The number of sectors, then numbers out of range; with some of these the
+   right lengths of map and sheets come out, if numbers wrap or are
+   shortened. */
+static struct values sector_counts(size_t sectors)
+{
+    const struct values v = { 10, {
+        sectors, 0, 4097, sectors + 65536, sectors + TWO_TO(32),
+        sectors + TWO_TO(56), sectors + TWO_TO(60), sectors + TWO_TO(63),
+        TWO_TO(63), SIZE_MAX
+    } };
+
+    return v;
+}
+
 /* The right length and those wrong ones that can be lent. */
 static struct values lengths(size_t right)
 {
@@ -225,7 +264,7 @@ static size_t wanted_disk(const struct arguments *a)
     return disks[a->of[WANTED]];
 }
 
-/* Wrong bytes of a map as 256 * disk + byte: on the disk looked at, and on
+/* Wrong bytes of a map as 256 * index + byte: on the disk looked at, and on
    the last disk. */
 static struct values map_bytes(size_t map_len)
 {
@@ -240,10 +279,10 @@ static struct values map_bytes(size_t map_len)
     return v;
 }
 
-/* The least limit, and the only wrong one. */
-static struct values limits(void)
+/* The least limit that allows all repairs, and the only wrong one. */
+static struct values limits(size_t repairs)
 {
-    const struct values v = { 2, { 1, 0 } };
+    const struct values v = { 2, { repairs, 0 } };
 
     return v;
 }
@@ -268,8 +307,29 @@ static size_t fitting(const struct arguments *a, size_t block, size_t base)
     return length <= LENDABLE ? length : disks_of(a->size) * base;
 }
 
-/* How many things can be wrong with an argument that has a number for each. */
-static size_t wrong_numbers(enum argument argument)
+/* How many sectors the arguments ask for: what plan is passed, or how often the
+   sector goes into the block; where that is none, those the call started
+   from. */
+static size_t sectors_of(enum function function, const struct arguments *a)
+{
+    if (function == PLAN)
+        return a->of[SECTORS];
+    if (function == PLAN_DISK || function == TIDY || a->of[SECTOR] == 0)
+        return a->sectors;
+    return a->of[BLOCK] / a->of[SECTOR];
+}
+
+/* The length of the sheets for so many sectors, likewise. */
+static size_t fitting_sheets(const struct arguments *a, size_t sectors)
+{
+    size_t length = RAID2D_SHEETS_BYTES(sectors);
+
+    return length <= LENDABLE ? length : RAID2D_SHEETS_BYTES(a->sectors);
+}
+
+/* How many things can be wrong with an argument that has a number for each. A
+   loss and an erased sector can be at each position. */
+static size_t wrong_numbers(enum argument argument, size_t sectors)
 {
     switch (argument) {
     case WANTED:
@@ -285,13 +345,15 @@ static size_t wrong_numbers(enum argument argument)
     case DAMAGE:
         return 3;
     default:
-        return 1;
+        return sectors;
     }
 }
 
-static struct values values_of(enum argument argument,
+static struct values values_of(enum function function, enum argument argument,
                                const struct arguments *a)
 {
+    size_t sectors = sectors_of(function, a);
+
     switch (argument) {
     case ROWS:
         return sides(a->size.rows);
@@ -301,35 +363,48 @@ static struct values values_of(enum argument argument,
         return blocks(a->size.block);
     case ARRAY_LENGTH:
         return lengths(fitting(a, a->of[BLOCK], a->size.block));
+    case SECTOR:
+        return sector_lengths(a->size.block, a->sectors);
+    case SECTORS:
+        return sector_counts(a->sectors);
     case PARITY_DISK:
         return parity_disks(a->size);
     case DATA_LENGTH:
         return lengths(a->of[BLOCK] <= LENDABLE ? a->of[BLOCK]
                                                 : a->size.block);
     case MAP_LENGTH:
-        return lengths(fitting(a, 1, 1));
+        return lengths(fitting(a, sectors, a->sectors));
     case MAP_BYTE:
         return map_bytes(a->of[MAP_LENGTH]);
     case NO_DISK:
         return no_disks(a->size);
     case SHEET_LENGTH:
-        return lengths(RAID2D_SHEET_BYTES);
+        return lengths(fitting_sheets(a, sectors));
     case LIMIT:
-        return limits();
+        return limits(a->sectors);
     default:
-        return numbered(wrong_numbers(argument));
+        return numbered(wrong_numbers(argument, a->sectors));
     }
 }
 
-/* Erases a disk and puts arbitrary bytes there, where the buffers have it. */
-static void lose(struct call *c, struct size s, size_t r, size_t k)
+/* The position of what is wrong with an argument that has a number for each:
+   they take the positions in turn. */
+static size_t position_of(const struct arguments *a, enum argument argument)
 {
-    size_t disk = disk_at(s, r, k);
+    return (a->of[argument] - 1) % a->sectors;
+}
 
-    if (disk < c->map.len)
-        c->map.bytes[disk] = 1;
-    if (disk < c->array.len / s.block)
-        fill(c->array.bytes + disk * s.block, s.block);
+/* Erases a sector and puts arbitrary bytes there, where the buffers have it. */
+static void lose(struct call *c, const struct arguments *a, size_t position,
+                 size_t disk)
+{
+    size_t sector = a->size.block / a->sectors;
+    size_t number = disk * a->sectors + position;
+
+    if (number < c->map.len)
+        c->map.bytes[number] = 1;
+    if (number < c->array.len / sector)
+        fill(c->array.bytes + number * sector, sector);
 }
 
 /* A change on a survivor in row 1, the same there and on another survivor of
@@ -337,7 +412,8 @@ static void lose(struct call *c, struct size s, size_t r, size_t k)
 static void damage(struct call *c, const struct arguments *a)
 {
     struct size s = a->size;
-    size_t place = s.block - 1;
+    size_t sector = s.block / a->sectors;
+    size_t place = (position_of(a, DAMAGE) + 1) * sector - 1;
 
     *cell(c->array.bytes, s, 1, 1, place) ^= 64;
     if (a->of[DAMAGE] == 2)
@@ -346,62 +422,76 @@ static void damage(struct call *c, const struct arguments *a)
         *cell(c->array.bytes, s, s.rows, 1, place) ^= 64;
 }
 
-/* What calls from plan on are tried on: a sealed array that has lost
-   disk 1, or the four corners of the grid, which is fatal. */
-static void prepare_loss(struct call *c, const struct arguments *a)
+/* The four corners of the grid are lost at a position, which is fatal. */
+static void lose_corners(struct call *c, const struct arguments *a,
+                         size_t position)
 {
     struct size s = a->size;
-    int fits = c->array.len == disks_of(s) * s.block;
+
+    lose(c, a, position, disk_at(s, 0, 0));
+    lose(c, a, position, disk_at(s, 0, s.columns));
+    lose(c, a, position, disk_at(s, s.rows, 0));
+    lose(c, a, position, disk_at(s, s.rows, s.columns));
+}
+
+/* What calls from plan on are tried on: a sealed array that has lost disk 1 at
+   every position, or at one of them the four corners. */
+static void prepare_loss(struct call *c, const struct arguments *a)
+{
+    int fits = c->array.len == disks_of(a->size) * a->size.block;
+    size_t position;
 
     if (fits)
-        define_parities(c->array.bytes, s);
-    if (a->of[LOSS]) {
-        lose(c, s, 0, 0);
-        lose(c, s, 0, s.columns);
-        lose(c, s, s.rows, 0);
-        lose(c, s, s.rows, s.columns);
-    } else {
-        lose(c, s, 0, 1);
-    }
+        define_parities(c->array.bytes, a->size);
+    for (position = 0; position < a->sectors; position++)
+        if (a->of[LOSS] && position == position_of(a, LOSS))
+            lose_corners(c, a, position);
+        else
+            lose(c, a, position, 1);
     if (fits && a->of[DAMAGE])
         damage(c, a);
 }
 
-/* Sets a byte of the sheet, where it has it. */
-static void put(struct call *c, struct sheet_byte b)
+/* Sets a byte of the sheet of a position, where it has it. */
+static void put(struct call *c, size_t position, struct sheet_byte b)
 {
-    if (b.place < c->sheet.len)
-        c->sheet.bytes[b.place] = b.byte;
+    size_t place = position * RAID2D_SHEET_BYTES + b.place;
+
+    if (place < c->sheet.len)
+        c->sheet.bytes[place] = b.byte;
 }
 
-/* Off its chain follow's sheet is zero, and tidy's says arbitrary things. A
-   number that no record has comes in the place of one that leads back. */
-static void prepare_sheet(struct call *c, const struct arguments *a)
+/* Off their chains follow's sheets are zero, and tidy's says arbitrary things.
+   A number that no record has comes in the place of one that leads back. */
+static void prepare_sheets(struct call *c, const struct arguments *a)
 {
     static const struct sheet_byte right[] = {
         { 0, 1 }, { 1, 32 }, { 95, 1 }, { 96, 0 }, { 97, 0 }
     };
-    size_t i;
+    size_t i, position;
 
     if (c->function == FOLLOW && c->sheet.len > 0)
         memset(c->sheet.bytes, 0, c->sheet.len);
-    for (i = 0; i < sizeof right / sizeof right[0]; i++)
-        put(c, right[i]);
+    for (position = 0; position < a->sectors; position++)
+        for (i = 0; i < COUNT(right); i++)
+            put(c, position, right[i]);
     if (a->of[STEP])
-        put(c, wrong_step[a->of[STEP] - 1]);
+        put(c, position_of(a, STEP), wrong_step[a->of[STEP] - 1]);
     if (a->of[LEFTOVER])
-        put(c, leftover[a->of[LEFTOVER] - 1]);
+        put(c, position_of(a, LEFTOVER), leftover[a->of[LEFTOVER] - 1]);
     for (i = 0; i < 2 && a->of[RING]; i++)
-        put(c, ring[a->of[RING] - 1][i]);
+        put(c, position_of(a, RING), ring[a->of[RING] - 1][i]);
     if (a->of[CHAIN])
-        put(c, wrong_chain[a->of[CHAIN] - 1]);
+        put(c, position_of(a, CHAIN), wrong_chain[a->of[CHAIN] - 1]);
 }
 
-/* With 6 the sheet lists the corners; with 7 the erased disk 1 is zero, and
-   the sheet but for follow and save. Returns what the out-parameter is expected to
-   be. */
-static size_t expect_refusal(struct call *c, struct size s, size_t status)
+/* With 6 the sheet of its position lists the corners, and all others are zero;
+   with 7 the erased disk 1 is zero, and the sheets but for follow and save.
+   Returns what the out-parameter is expected to be. */
+static size_t expect_refusal(struct call *c, const struct arguments *a,
+                             size_t status)
 {
+    struct size s = a->size;
     uint8_t rows = (uint8_t)s.rows, columns = (uint8_t)s.columns;
     const uint8_t corners[] = {
         2, 1,
@@ -413,8 +503,11 @@ static size_t expect_refusal(struct call *c, struct size s, size_t status)
 
     if (status == 6 || (status == 7 && c->function == REBUILD))
         memset(c->sheet.expected, 0, c->sheet.len);
-    if (status == 6)
-        memcpy(c->sheet.expected, corners, sizeof corners);
+    if (status == 6) {
+        c->fatal = position_of(a, LOSS);
+        memcpy(c->sheet.expected + c->fatal * RAID2D_SHEET_BYTES, corners,
+               sizeof corners);
+    }
     if (status == 7)
         memset(c->array.expected + s.block, 0, s.block);
     return status == 6 ? 4 : OUT_BEFORE;
@@ -436,12 +529,14 @@ static struct call call_with(enum function function, const struct arguments *a)
 
     c.disk = disk_of(function, a);
     c.limit = a->of[LIMIT];
-    if (a->of[ERASED] && c.disk < c.map.len)
-        c.map.bytes[c.disk] = 1;
+    c.sector = a->of[SECTOR];
+    c.sectors = a->of[SECTORS];
+    if (a->of[ERASED] && c.disk < c.map.len / a->sectors)
+        c.map.bytes[c.disk * a->sectors + position_of(a, ERASED)] = 1;
     if (function >= PLAN)
         prepare_loss(&c, a);
     if (function == FOLLOW || function == TIDY)
-        prepare_sheet(&c, a);
+        prepare_sheets(&c, a);
     if (a->of[MAP_BYTE])
         c.map.bytes[a->of[MAP_BYTE] / 256] = (uint8_t)(a->of[MAP_BYTE] % 256);
     expect_as_now(&c);
@@ -456,11 +551,11 @@ static void try_call(const struct tests *t, const struct arguments *a,
     size_t accepted = t->function == LOOK ? a->size.block : t->accepted;
 
     if (wrong > 0)
-        expect_run(&c, status, expect_refusal(&c, a->size, status), "refusal");
+        expect_run(&c, status, expect_refusal(&c, a, status), "refusal");
     else
         expect(run(&c) == accepted,
-               "call %d with nothing wrong, %zu rows, %zu columns",
-               (int)t->function, c.size.rows, c.size.columns);
+               "call %d with nothing wrong, %zu rows, %zu columns, %zu sectors",
+               (int)t->function, c.size.rows, c.size.columns, a->sectors);
     end_call(&c);
 }
 
@@ -484,7 +579,7 @@ static void try_from(const struct tests *t, size_t i, struct arguments a,
         return;
     }
     argument = t->test[i].argument;
-    v = values_of(argument, &a);
+    v = values_of(t->function, argument, &a);
     a.of[argument] = v.value[0];
     try_from(t, i + 1, a, wrong, status);
     for (k = 1; k < v.count && wrong < 2; k++) {
@@ -494,14 +589,23 @@ static void try_from(const struct tests *t, size_t i, struct arguments a,
     }
 }
 
-static void one_and_two_wrong(struct size size)
+static int takes_sectors(enum function function)
 {
-    struct arguments start = { { 0 }, { 0, 0, 0 } };
+    return function == LOOK || function == PLAN || function == REBUILD
+           || function == FOLLOW || function == SAVE;
+}
+
+/* Where blocks are cut, the calls that take sectors. */
+static void one_and_two_wrong(struct size size, size_t sectors)
+{
+    struct arguments start = { { 0 }, { 0, 0, 0 }, 0 };
     size_t i;
 
     start.size = size;
-    for (i = 0; i < sizeof tests / sizeof tests[0]; i++)
-        try_from(&tests[i], 0, start, 0, 0);
+    start.sectors = sectors;
+    for (i = 0; i < COUNT(tests); i++)
+        if (sectors == 1 || takes_sectors(tests[i].function))
+            try_from(&tests[i], 0, start, 0, 0);
 }
 
 /* A size of which one number is wrong, or more, and lengths that would fit it
@@ -621,8 +725,12 @@ void test_refusals(void)
     size_t i;
 
     for (i = 0; i < sizeof sizes / sizeof sizes[0]; i++) {
-        one_and_two_wrong(sizes[i]);
+        one_and_two_wrong(sizes[i], 1);
         empty_buffers(sizes[i]);
     }
+    one_and_two_wrong((struct size){ 2, 3, 6 }, 3);
+    one_and_two_wrong((struct size){ 3, 2, 3 }, 3);
+    one_and_two_wrong((struct size){ 2, 2, 8 }, 2);
+    one_and_two_wrong((struct size){ 15, 15, 2 }, 2);
     lengths_that_wrap();
 }

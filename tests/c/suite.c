@@ -5,7 +5,8 @@
  * also meant without an argument; right before or right behind a page without
  * access, with a guard on the other side; or bare, in memory of just their
  * length, for tools that watch its ends. Prints the checks that fail, then one
- * line that counts all of them. The exit status is 0 where none failed.
+ * line that counts all of them. The exit status is 0 where none failed. With
+ * RAID2D_STOP in the environment the first that fails is the last.
  */
 #include <stdarg.h>
 #include <stdio.h>
@@ -13,6 +14,7 @@
 #include <string.h>
 
 #include "raid2d.h"
+#include "split.h"
 #include "suite.h"
 
 const struct known array_a = {
@@ -39,6 +41,14 @@ static enum placement placement;
 
 static unsigned long passed, failed;
 
+/* Whether the program ends with the first check that fails. */
+static int stops;
+
+static void print_count(void)
+{
+    printf("%lu passed, %lu failed\n", passed, failed);
+}
+
 void expect(int holds, const char *format, ...)
 {
     va_list rest;
@@ -53,6 +63,10 @@ void expect(int holds, const char *format, ...)
         vprintf(format, rest);
         printf("\n");
         va_end(rest);
+    }
+    if (stops) {
+        print_count();
+        exit(1);
     }
 }
 
@@ -190,11 +204,15 @@ struct call new_call(enum function function, struct size size,
     c.size = size;
     c.disk = 0;
     c.limit = SIZE_MAX;
+    c.sectors = 1;
+    c.sector = size.block;
+    c.fatal = 0;
     c.array = lend(array_len, GUARD);
     c.map = lend(map_len, GUARD);
     c.data = lend(data_len, GUARD);
     c.sheet = lend(sheet_len, GUARD);
     c.out = lend(sizeof(size_t), OUT_GUARD);
+    c.position = lend(sizeof(size_t), OUT_GUARD);
     clear_map(&c.map, function == PLAN_DISK);
     expect_as_now(&c);
     return c;
@@ -202,15 +220,30 @@ struct call new_call(enum function function, struct size size,
 
 struct call fitting_call(enum function function, struct size size)
 {
-    size_t disks = disks_of(size);
+    return cut_call(function, size, 1);
+}
 
-    return new_call(function, size, disks * size.block, disks, size.block,
-                    RAID2D_SHEET_BYTES);
+struct call cut_call(enum function function, struct size size, size_t sectors)
+{
+    size_t disks = disks_of(size);
+    struct call c = new_call(function, size, disks * size.block,
+                             disks * sectors, size.block,
+                             RAID2D_SHEET_BYTES * sectors);
+
+    c.sectors = sectors;
+    c.sector = size.block / sectors;
+    return c;
 }
 
 struct call sealed_call(enum function function, struct size size)
 {
-    struct call c = fitting_call(function, size);
+    return sealed_cut_call(function, size, 1);
+}
+
+struct call sealed_cut_call(enum function function, struct size size,
+                            size_t sectors)
+{
+    struct call c = cut_call(function, size, sectors);
 
     define_parities(c.array.bytes, size);
     expect_as_now(&c);
@@ -293,9 +326,11 @@ void expect_as_now(struct call *c)
     expect_lent_as_now(&c->data);
     expect_lent_as_now(&c->sheet);
     expect_lent_as_now(&c->out);
+    expect_lent_as_now(&c->position);
 }
 
-static size_t call_library(struct call *c, size_t *out)
+/* The calls of an array without a map, and those that judge a sheet alone. */
+static size_t call_without_map(struct call *c, size_t *out)
 {
     size_t rows = c->size.rows, columns = c->size.columns;
     size_t block = c->size.block;
@@ -309,28 +344,40 @@ static size_t call_library(struct call *c, size_t *out)
     case WRITE:
         return raid2d_write(rows, columns, block, c->array.bytes,
                             c->array.len, c->disk, c->data.bytes, c->data.len);
+    default:
+        return raid2d_tidy(c->sheet.bytes, c->sheet.len);
+    }
+}
+
+static size_t call_library(struct call *c, size_t *out, size_t *position)
+{
+    size_t rows = c->size.rows, columns = c->size.columns;
+    size_t block = c->size.block;
+
+    switch (c->function) {
     case LOOK:
         return raid2d_look(rows, columns, block, c->array.bytes, c->array.len,
-                           c->map.bytes, c->map.len, c->disk, out);
+                           c->sector, c->map.bytes, c->map.len, c->disk, out);
     case PLAN:
-        return raid2d_plan(rows, columns, c->map.bytes, c->map.len,
-                           c->sheet.bytes, c->sheet.len, out);
+        return raid2d_plan(rows, columns, c->sectors, c->map.bytes, c->map.len,
+                           c->sheet.bytes, c->sheet.len, out, position);
     case PLAN_DISK:
         return raid2d_plan_disk(rows, columns, c->map.bytes, c->map.len,
                                 c->sheet.bytes, c->sheet.len, c->disk, out);
     case REBUILD:
         return raid2d_rebuild(rows, columns, block, c->array.bytes,
-                              c->array.len, c->map.bytes, c->map.len,
-                              c->sheet.bytes, c->sheet.len, c->limit, out);
+                              c->array.len, c->sector, c->map.bytes,
+                              c->map.len, c->sheet.bytes, c->sheet.len,
+                              c->limit, out, position);
     case FOLLOW:
         return raid2d_follow(rows, columns, block, c->array.bytes,
-                             c->array.len, c->map.bytes, c->map.len,
+                             c->array.len, c->sector, c->map.bytes, c->map.len,
                              c->sheet.bytes, c->sheet.len, out);
     case SAVE:
         return raid2d_save(rows, columns, block, c->array.bytes, c->array.len,
-                           c->map.bytes, c->map.len, out);
+                           c->sector, c->map.bytes, c->map.len, out);
     default:
-        return raid2d_tidy(c->sheet.bytes, c->sheet.len);
+        return call_without_map(c, out);
     }
 }
 
@@ -357,33 +404,73 @@ size_t run(struct call *c)
     size_t before = OUT_BEFORE, result;
 
     memcpy(c->out.bytes, &before, sizeof before);
+    memcpy(c->position.bytes, &before, sizeof before);
     set_access(c, forbid_writes);
-    result = call_library(c, (size_t *)(void *)c->out.bytes);
+    result = call_library(c, (size_t *)(void *)c->out.bytes,
+                          (size_t *)(void *)c->position.bytes);
     set_access(c, allow_writes);
     return result;
 }
 
-void expect_run(struct call *c, size_t result, size_t out, const char *what)
+static size_t number_in(const struct lent *l)
+{
+    size_t number;
+
+    memcpy(&number, l->bytes, sizeof number);
+    return number;
+}
+
+/* Sets what is expected of both out-parameters. */
+static void expect_out(struct call *c, size_t result, size_t out)
+{
+    int names_position = c->function == PLAN || c->function == REBUILD;
+    size_t position =
+        names_position && result == 6 ? c->fatal : OUT_BEFORE;
+
+    memcpy(c->out.expected, &out, sizeof out);
+    memcpy(c->position.expected, &position, sizeof position);
+}
+
+/* The call as it is. */
+static void expect_this_run(struct call *c, size_t result, size_t out,
+                            const char *what)
 {
     static const char *const names[] = {
         "seal", "check", "write", "look", "plan", "plan_disk", "rebuild",
         "follow", "save", "tidy"
     };
-    size_t actual = run(c), actual_out;
+    size_t actual = run(c);
     int bytes = lent_is_as_expected(&c->array) && lent_is_as_expected(&c->map)
                 && lent_is_as_expected(&c->data)
                 && lent_is_as_expected(&c->sheet);
 
-    memcpy(&actual_out, c->out.bytes, sizeof actual_out);
-    memcpy(c->out.expected, &out, sizeof out);
-    expect(actual == result && lent_is_as_expected(&c->out) && bytes,
-           "%s: %s with %zu rows, %zu columns, block %zu, disk %zu, limit %zu, "
-           "lengths %zu (array), %zu (map), %zu (data), %zu (sheet): result "
-           "%zu for %zu, out-parameter %zu for %zu, bytes %s",
+    expect_out(c, result, out);
+    expect(actual == result && lent_is_as_expected(&c->out)
+               && lent_is_as_expected(&c->position) && bytes,
+           "%s: %s with %zu rows, %zu columns, block %zu, %zu sectors of %zu, "
+           "disk %zu, limit %zu, lengths %zu (array), %zu (map), %zu (data), "
+           "%zu (sheet): result %zu for %zu, out-parameter %zu for %zu, "
+           "position %zu, bytes %s",
            what, names[c->function], c->size.rows, c->size.columns,
-           c->size.block, c->disk, c->limit, c->array.len, c->map.len,
-           c->data.len, c->sheet.len, actual, result, actual_out, out,
+           c->size.block, c->sectors, c->sector, c->disk, c->limit,
+           c->array.len, c->map.len, c->data.len, c->sheet.len, actual, result,
+           number_in(&c->out), out, number_in(&c->position),
            bytes ? "as expected" : "NOT as expected");
+}
+
+void expect_run(struct call *c, size_t result, size_t out, const char *what)
+{
+    size_t sectors = split_into(c, result);
+    struct call smaller;
+
+    if (sectors > 1)
+        smaller = split_call(c, result, sectors);
+    expect_this_run(c, result, out, what);
+    if (sectors > 1) {
+        expect_this_run(&smaller, result, split_out(c, result, out, sectors),
+                        what);
+        end_call(&smaller);
+    }
 }
 
 void end_call(struct call *c)
@@ -393,6 +480,7 @@ void end_call(struct call *c)
     end_lent(&c->data);
     end_lent(&c->sheet);
     end_lent(&c->out);
+    end_lent(&c->position);
 }
 
 /* Every length at squares and at the two sizes that are the least square; else
@@ -447,6 +535,7 @@ int main(int argc, char **argv)
 {
     if (argc > 1)
         placement = placement_of(argv[1]);
+    stops = getenv("RAID2D_STOP") != NULL;
     /* A library that crashes should not take the lines before it along. */
     setvbuf(stdout, NULL, _IOLBF, BUFSIZ);
     test_header();
@@ -459,6 +548,8 @@ int main(int argc, char **argv)
     test_saves();
     test_sheets();
     test_tidies();
-    printf("%lu passed, %lu failed\n", passed, failed);
+    test_sectors();
+    test_sector_turns();
+    print_count();
     return failed == 0 ? 0 : 1;
 }

@@ -48,22 +48,27 @@ enum function {
     SEAL, CHECK, WRITE, LOOK, PLAN, PLAN_DISK, REBUILD, FOLLOW, SAVE, TIDY
 };
 
-/* A call: its numbers, what it is lent, and its out-parameter, a size_t that
-   is lent too. Calls pass over what they have no parameter for. */
+/* A call: its numbers, what it is lent, and its out-parameters, each a size_t
+   that is lent too: one that most calls have, and the position of plan and
+   rebuild. Plan is passed the number of sectors, others their length. The sheet
+   is all sheets, one behind the other. Calls pass over what they have no
+   parameter for. */
 struct call {
     enum function function;
     struct size size;
-    size_t disk, limit;
-    struct lent array, map, data, sheet, out;
+    size_t disk, limit, sectors, sector;
+    size_t fatal; /* the position that is expected with 6 of plan and rebuild */
+    struct lent array, map, data, sheet, out, position;
 };
 
-/* What an out-parameter holds before each call: no stripe, no offset and no
-   count, and no byte of it zero. */
+/* What an out-parameter holds before each call: no stripe, no offset, no count
+   and no position, and no byte of it zero. */
 #define OUT_BEFORE (SIZE_MAX / 255 * 0x5a)
 
 /* A call lent buffers of these lengths. The array, the data and the sheet are
    filled with arbitrary bytes, the same in every run; the map says that all
-   disks are present. The disk is 0 and the limit is the largest. */
+   disks are present. The disk is 0 and the limit is the largest. A block is one
+   sector, and 6 is expected at position 0. */
 struct call new_call(enum function function, struct size size,
                      size_t array_len, size_t map_len, size_t data_len,
                      size_t sheet_len);
@@ -71,8 +76,13 @@ struct call new_call(enum function function, struct size size,
 /* The same, with the lengths that the size asks for. */
 struct call fitting_call(enum function function, struct size size);
 
-/* The same, on an array that is sealed by its definition. */
+/* The same for blocks that are cut into so many sectors. */
+struct call cut_call(enum function function, struct size size, size_t sectors);
+
+/* The same two on an array that is sealed by its definition. */
 struct call sealed_call(enum function function, struct size size);
+struct call sealed_cut_call(enum function function, struct size size,
+                            size_t sectors);
 
 /* The number of disks; how many of them can be restored at most; the number of
    the disk in row r and column c; and the byte at a place of its block. */
@@ -101,7 +111,10 @@ void expect_as_now(struct call *call);
 size_t run(struct call *call);
 
 /* Makes the call and counts one check: its result is this, its out-parameter
-   is then that, and all bytes and guards are as expected. */
+   is then that, its position the one that is expected with 6 or as before, and
+   all bytes and guards are as expected. Where the call has a whole block for a
+   sector, the same is expected of smaller sectors, as split.h says, and counted
+   as one more check. */
 void expect_run(struct call *call, size_t result, size_t out, const char *what);
 
 void end_call(struct call *call);
@@ -122,5 +135,7 @@ void test_turns(void);
 void test_saves(void);
 void test_sheets(void);
 void test_tidies(void);
+void test_sectors(void);
+void test_sector_turns(void);
 
 #endif

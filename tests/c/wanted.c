@@ -18,10 +18,10 @@
 /* The sheet is plan's for the call's map, and a cycle. Returns plan's count. */
 static size_t expect_plans_cycle(struct call *c)
 {
-    size_t count = OUT_BEFORE;
+    size_t count = OUT_BEFORE, position = 0;
 
-    raid2d_plan(c->size.rows, c->size.columns, c->map.bytes, c->map.len,
-                c->sheet.expected, c->sheet.len, &count);
+    raid2d_plan(c->size.rows, c->size.columns, 1, c->map.bytes, c->map.len,
+                c->sheet.expected, c->sheet.len, &count, &position);
     c->sheet.expected[0] = RAID2D_SHEET_CYCLE;
     return count;
 }

@@ -31,6 +31,17 @@ static const size_t aparts[] = {
     256, (size_t)1 << 16, (size_t)1 << 31 << 1, SIZE_MAX / 2 + 1, SIZE_MAX - 255
 };
 
+/* Lengths of a sector and numbers of sectors that are wrong, most of them right
+   if they were shortened. The first of a pair is added to the block, or stands
+   for itself if it is 0 or great. */
+static const struct {
+    size_t sector, sectors;
+} wrong_sectors[] = {
+    {0, 0}, {1, 4097}, {2, 4098}, {(size_t)1 << 16, ((size_t)1 << 16) + 1},
+    {(size_t)1 << 31 << 1, ((size_t)1 << 31 << 1) + 1},
+    {SIZE_MAX / 2 + 1, SIZE_MAX / 2 + 2}, {SIZE_MAX, SIZE_MAX}
+};
+
 struct numbers numbers_from(uint32_t seed)
 {
     struct numbers r;
@@ -90,8 +101,32 @@ static size_t apart_of(uint8_t code)
     return aparts[(code - APART_CODES - 1) % (sizeof aparts / sizeof *aparts)];
 }
 
-enum call call_of(uint8_t flags)
+int takes_sectors(enum call call)
 {
+    return call != PLAN_DISK && call != TIDY;
+}
+
+size_t column_of_position(size_t position, size_t positions)
+{
+    if (positions <= COLUMNS)
+        return position;
+    return position == positions - 1 ? COLUMNS - 1 : position % (COLUMNS - 1);
+}
+
+size_t sheet_in_input(size_t column)
+{
+    return column == 0 ? AT_SHEET : AT_MORE + (column - 1) * COLUMN_BYTES;
+}
+
+size_t map_in_input(size_t column)
+{
+    return sheet_in_input(column) + 98;
+}
+
+enum call call_of(uint8_t flags, uint8_t look)
+{
+    if (look & 1)
+        return LOOK;
     if (flags & FLAG_PLAN_DISK)
         return PLAN_DISK;
     if (flags & FLAG_TIDY)
@@ -116,20 +151,86 @@ static size_t small_side(size_t side)
     return side <= SIDE_CODES ? side : side % 16;
 }
 
-static void read_lengths(struct input *in, const uint8_t *head)
+/* As many sectors as can be: of one byte each, or for plan any number. */
+static void read_most_sectors(struct input *in)
+{
+    size_t most = disks_of(in->small) <= FEW_DISKS ? POSITIONS_OF_FEW
+                                                   : POSITIONS;
+
+    in->sector = 1;
+    in->sectors = most;
+    in->positions = in->call == PLAN || in->block_len > most ? most
+                                                             : in->block_len;
+}
+
+static void read_sectors(struct input *in, uint8_t code)
+{
+    size_t wrong = sizeof wrong_sectors / sizeof *wrong_sectors;
+    size_t which = code <= SECTOR_CODES
+                       ? 0 : (code - SECTOR_CODES - 1u) % (wrong + 1);
+
+    in->positions = in->sectors = 1;
+    in->sector = in->block;
+    if (code <= 1 || !takes_sectors(in->call))
+        return;
+    if (code <= SECTOR_CODES) {
+        in->positions = in->sectors = code;
+        in->sector = in->block / code;
+    } else if (which == wrong) {
+        read_most_sectors(in);
+    } else {
+        in->sectors = wrong_sectors[which].sectors;
+        in->sector = wrong_sectors[which].sector;
+        if (in->sector != 0 && in->sector != SIZE_MAX)
+            in->sector += in->block;
+    }
+}
+
+static void read_lengths(struct input *in, const uint8_t *all)
 {
     size_t disks;
 
-    in->grid.rows = side_of(head[AT_ROWS]);
-    in->grid.columns = side_of(head[AT_COLUMNS]);
+    in->grid.rows = side_of(all[AT_ROWS]);
+    in->grid.columns = side_of(all[AT_COLUMNS]);
     in->small.rows = small_side(in->grid.rows);
     in->small.columns = small_side(in->grid.columns);
-    in->block = block_of(head[AT_BLOCK]);
+    in->block = block_of(all[AT_BLOCK]);
     in->block_len = in->block <= 4098 ? in->block : in->block % 4096;
+    read_sectors(in, all[AT_SECTORS]);
     disks = disks_of(in->small);
-    in->array_len = changed_length(disks * in->block_len, head[AT_ARRAY_LEN]);
-    in->map_len = changed_length(disks, head[AT_MAP_LEN]);
-    in->sheet_len = changed_length(98, head[AT_SHEET_LEN]);
+    in->array_len = changed_length(disks * in->block_len, all[AT_ARRAY_LEN]);
+    in->map_len = changed_length(disks * in->positions, all[AT_MAP_LEN]);
+    in->sheet_len = changed_length(98 * in->positions, all[AT_SHEET_LEN]);
+}
+
+/* The bytes of a map: for one position as the input has them, also where the
+   map is too long, else those of each position side by side. */
+static void read_map(struct input *in, const uint8_t *all)
+{
+    size_t n = in->positions, disks = disks_of(in->small), i;
+
+    memset(in->map, 0, in->map_len);
+    if (n == 1)
+        memcpy(in->map, all + AT_MAP,
+               in->map_len < 18 * 18 ? in->map_len : 18 * 18);
+    for (i = 0; n > 1 && i < in->map_len && i < disks * n; i++)
+        in->map[i] =
+            all[map_in_input(column_of_position(i % n, n)) + i / n];
+}
+
+static void read_sheets(struct input *in, const uint8_t *all)
+{
+    size_t position, at, rest;
+
+    memset(in->sheet, 0, in->sheet_len);
+    for (position = 0; position < in->positions; position++) {
+        at = 98 * position;
+        rest = at < in->sheet_len ? in->sheet_len - at : 0;
+        memcpy(in->sheet + at,
+               all + sheet_in_input(column_of_position(position,
+                                                       in->positions)),
+               rest < 98 ? rest : 98);
+    }
 }
 
 void read_input(struct input *in, const uint8_t *data, size_t size)
@@ -137,7 +238,7 @@ void read_input(struct input *in, const uint8_t *data, size_t size)
     uint8_t all[INPUT_MAX] = {0};
 
     memcpy(all, data, size < INPUT_MAX ? size : INPUT_MAX);
-    in->call = call_of(all[AT_FLAGS]);
+    in->call = call_of(all[AT_FLAGS], all[AT_LOOK]);
     in->behind = (all[AT_FLAGS] & FLAG_BEHIND) != 0;
     in->pass_null = (all[AT_FLAGS] & FLAG_NULL) != 0;
     read_lengths(in, all);
@@ -148,10 +249,8 @@ void read_input(struct input *in, const uint8_t *data, size_t size)
                (uint32_t)all[AT_SEED + 2] << 16 |
                (uint32_t)all[AT_SEED + 3] << 24;
     in->limit = limit_of(all[AT_LIMIT]);
-    memset(in->sheet, 0, sizeof in->sheet);
-    memcpy(in->sheet, all + AT_SHEET, AT_MAP - AT_SHEET);
-    memset(in->map, 0, sizeof in->map);
-    memcpy(in->map, all + AT_MAP, INPUT_MAX - AT_MAP);
+    read_sheets(in, all);
+    read_map(in, all);
 }
 
 /* The sum of so many bytes, each so far behind the one before. */
@@ -215,15 +314,17 @@ static void damage(const struct input *in, uint8_t *array)
         change(in, array, row + down, column + right);
 }
 
-/* Arbitrary bytes on the erased disks, others than before. */
+/* Arbitrary bytes in the erased sectors, others than before, as far as sectors
+   of that many positions fit the block. */
 static void spoil_erased(const struct input *in, uint8_t *array, size_t disks)
 {
-    size_t disk;
+    size_t number, n = in->positions, sector = in->block_len / n;
 
-    for (disk = 0; disk < disks && disk < in->map_len; disk++)
-        if (in->map[disk] == 1)
-            fill_arbitrary(in->seed + 1 + (uint32_t)disk,
-                           array + disk * in->block_len, in->block_len);
+    for (number = 0; number < disks * n && number < in->map_len; number++)
+        if (in->map[number] == 1)
+            fill_arbitrary(in->seed + 1 + (uint32_t)number,
+                           array + number / n * in->block_len +
+                               number % n * sector, sector);
 }
 
 void fill_array(const struct input *in, uint8_t *array)

@@ -1,6 +1,6 @@
 /*
- * The model: what plan, plan_disk, follow, rebuild, save and tidy must answer.
- * Written from the order's words, and from nothing of the library.
+ * The model: what plan, plan_disk, follow, rebuild, save, look and tidy must
+ * answer. Written from the order's words, and from nothing of the library.
  */
 #include <string.h>
 
@@ -21,7 +21,8 @@ enum {
     WRONG_LIMIT = 12,
     REACHED_TWICE = 13,
     LEFTOVERS = 14,
-    NOT_WANTED = 15
+    NOT_WANTED = 15,
+    WRONG_SECTOR = 16
 };
 
 /* ---- the grid */
@@ -117,16 +118,41 @@ size_t count_erased(const uint8_t *map, size_t disks)
     return count;
 }
 
-static int map_fits(struct grid g, const uint8_t *map, size_t map_len)
+static int map_fits(struct grid g, size_t sectors, const uint8_t *map,
+                    size_t map_len)
+{
+    size_t i;
+
+    if (map_len != disks_of(g) * sectors)
+        return 0;
+    for (i = 0; i < map_len; i++)
+        if (map[i] != 0 && map[i] != 1)
+            return 0;
+    return 1;
+}
+
+/* All sectors of disk 0 come first in a map, then all of disk 1, and so on. */
+void read_column(struct grid g, size_t sectors, const uint8_t *map,
+                 size_t position, uint8_t *column)
 {
     size_t disk;
 
-    if (map_len != disks_of(g))
-        return 0;
-    for (disk = 0; disk < map_len; disk++)
-        if (map[disk] != 0 && map[disk] != 1)
-            return 0;
-    return 1;
+    for (disk = 0; disk < disks_of(g); disk++)
+        column[disk] = map[disk * sectors + position];
+}
+
+/* ---- parts of blocks */
+
+/* The bytes of each block that a position has. */
+struct places {
+    size_t first, length;
+};
+
+static struct places places_of(size_t sector, size_t position)
+{
+    struct places p = {position * sector, sector};
+
+    return p;
 }
 
 /* ---- equations */
@@ -159,21 +185,24 @@ static void put_in(struct equation *e, size_t disk, int erased,
         add_bytes(e->sum, bytes, block);
 }
 
-/* A block of 0 bytes says that nothing but the map is of interest. */
+/* The equations of one position, with its bytes of the map. That it has 0 bytes
+   of each block says that nothing but the map is of interest. */
 static void set_up(struct grid g, size_t block, const uint8_t *array,
-                   const uint8_t *map)
+                   struct places p, const uint8_t *map)
 {
     size_t disk, k;
 
     for (k = 0; k < STRIPES; k++) {
         memset(equations[k].disks, 0, DISKS_MAX);
-        memset(equations[k].sum, 0, block);
+        memset(equations[k].sum, 0, p.length);
     }
     for (disk = 0; disk < disks_of(g); disk++) {
-        const uint8_t *bytes = block > 0 ? array + disk * block : NULL;
+        const uint8_t *bytes =
+            p.length > 0 ? array + disk * block + p.first : NULL;
 
-        put_in(&equations[row_of(g, disk)], disk, map[disk], bytes, block);
-        put_in(&equations[column_of(g, disk)], disk, map[disk], bytes, block);
+        put_in(&equations[row_of(g, disk)], disk, map[disk], bytes, p.length);
+        put_in(&equations[column_of(g, disk)], disk, map[disk], bytes,
+               p.length);
     }
 }
 
@@ -233,9 +262,10 @@ static int is_contradiction(const struct equation *e, size_t disks,
 
 size_t find_lost(struct grid g, const uint8_t *map, uint8_t *is_lost)
 {
+    const struct places none = {0, 0};
     size_t disks = disks_of(g), disk, k;
 
-    set_up(g, 0, NULL, map);
+    set_up(g, 0, NULL, none, map);
     solve(disks, 0);
     memcpy(is_lost, map, disks);
     for (k = 0; k < STRIPES; k++) {
@@ -399,42 +429,44 @@ static int two_on_each_stripe(struct grid g, const uint8_t *sheet,
 
 /* Record k of a loop: an erased disk of the grid, not below the first, and the
    stripe that it shares with the next: a row for odd k, a column for even. */
-static const char *judge_loop_record(const struct planned *p, size_t k,
+static const char *judge_loop_record(struct grid g, const uint8_t *map,
+                                     const uint8_t *sheet, size_t k,
                                      size_t length)
 {
     size_t next = k == length ? 1 : k + 1;
-    size_t disk = p->sheet[record_at(k)];
-    size_t stripe = p->sheet[record_at(k) + 1];
-    size_t after = p->sheet[record_at(next)];
+    size_t disk = sheet[record_at(k)];
+    size_t stripe = sheet[record_at(k) + 1];
+    size_t after = sheet[record_at(next)];
 
-    if (disk >= disks_of(p->grid) || p->map[disk] != 1)
+    if (disk >= disks_of(g) || map[disk] != 1)
         return "a loop has a disk that is not erased";
-    if (k > 1 && disk <= p->sheet[record_at(1)])
+    if (k > 1 && disk <= sheet[record_at(1)])
         return "a loop does not begin with its lowest disk";
     if ((k % 2 == 1) != (stripe < COLUMN_STRIPE))
         return "a loop's rows and columns do not take turns";
-    if (!on_stripe(p->grid, disk, stripe) ||
-        !on_stripe(p->grid, after, stripe))
+    if (!on_stripe(g, disk, stripe) || !on_stripe(g, after, stripe))
         return "a loop's disk does not share its stripe with the next";
     return NULL;
 }
 
-static const char *judge_loop(const struct planned *p)
+/* The sheet of a position shows a loop among the disks erased there. */
+static const char *judge_loop(struct grid g, const uint8_t *map,
+                              const uint8_t *sheet)
 {
-    size_t length = loop_length(p->sheet), k, other;
+    size_t length = loop_length(sheet), k, other;
 
     if (length < 4 || length % 2 != 0)
         return "the sheet is not a loop of four disks or more";
     for (k = 1; k <= length; k++) {
-        const char *wrong = judge_loop_record(p, k, length);
+        const char *wrong = judge_loop_record(g, map, sheet, k, length);
 
         if (wrong != NULL)
             return wrong;
         for (other = 1; other < k; other++)
-            if (p->sheet[record_at(other)] == p->sheet[record_at(k)])
+            if (sheet[record_at(other)] == sheet[record_at(k)])
                 return "a loop has a disk twice";
     }
-    if (!two_on_each_stripe(p->grid, p->sheet, length))
+    if (!two_on_each_stripe(g, sheet, length))
         return "a loop's stripe does not hold two of its disks";
     return NULL;
 }
@@ -446,51 +478,103 @@ static const char *judge_refusal(const struct planned *p, uint32_t status)
         return "the refusal of plan or plan_disk is another one";
     if (p->count != p->count_before)
         return "plan or plan_disk refused and changed the count";
-    if (memcmp(p->sheet, p->sheet_before, p->sheet_len) != 0)
+    if (p->position != p->position_before)
+        return "plan or plan_disk refused and changed the position";
+    if (memcmp(p->sheets, p->sheets_before, p->sheets_len) != 0)
         return "plan or plan_disk refused and changed the sheet";
     return NULL;
 }
 
-/* A list of so many repairs. */
-static const char *judge_list(const struct planned *p, const uint8_t *sheet,
-                              size_t repairs)
+/* A success with so many repairs. */
+static const char *judge_count(const struct planned *p, size_t repairs)
 {
     if (p->status != DONE)
         return "a list of repairs is refused";
     if (p->count != repairs)
         return "the count of repairs is another one";
-    if (memcmp(p->sheet, sheet, SHEET_BYTES) != 0)
-        return "the list of repairs is another one";
+    if (p->position != p->position_before)
+        return "plan or plan_disk names a position that is not fatal";
     return NULL;
 }
 
-/* A fatal loss, with so many lost disks. */
-static const char *judge_fatal(const struct planned *p, size_t lost)
+static int is_zero(const uint8_t *bytes, size_t len)
 {
-    if (p->status != FATAL)
-        return "a fatal loss is not refused";
-    if (p->count != lost)
-        return "the count of lost disks is another one";
-    return judge_loop(p);
+    size_t i;
+
+    for (i = 0; i < len; i++)
+        if (bytes[i] != 0)
+            return 0;
+    return 1;
 }
 
+/* A fatal loss at a position, with these bytes of the map. */
+static const char *judge_fatal(const struct planned *p, size_t position,
+                               const uint8_t *column)
+{
+    const uint8_t *sheet = p->sheets + position * SHEET_BYTES;
+    uint8_t is_lost[DISKS_MAX];
+
+    if (p->status != FATAL)
+        return "a fatal loss is not refused";
+    if (p->count != find_lost(p->grid, column, is_lost))
+        return "the count of lost disks is another one";
+    if (!is_zero(p->sheets, position * SHEET_BYTES) ||
+        !is_zero(sheet + SHEET_BYTES,
+                 (p->sheets_len / SHEET_BYTES - position - 1) * SHEET_BYTES))
+        return "a sheet beside that of a fatal position is not zero";
+    return judge_loop(p->grid, column, sheet);
+}
+
+/* Plan's sheet for one position. Returns the number of repairs, or one more
+   than any if the position is fatal. */
+static size_t plan_position(struct grid g, const uint8_t *column,
+                            uint8_t *sheet)
+{
+    uint8_t work[DISKS_MAX];
+    size_t repairs;
+
+    memcpy(work, column, disks_of(g));
+    repairs = plan_repairs(g, work, sheet);
+    return count_erased(work, disks_of(g)) > 0 ? RECORDS + 1 : repairs;
+}
+
+/* Each fatal position has lost disks, and no other has. */
+static int lost_where_fatal(struct grid g, const uint8_t *column,
+                            size_t repairs)
+{
+    uint8_t is_lost[DISKS_MAX];
+
+    return (find_lost(g, column, is_lost) > 0) == (repairs > RECORDS);
+}
+
+/* Positions are planned from the first on, up to a fatal one. */
 static const char *judge_outcome(const struct planned *p)
 {
-    uint8_t work[DISKS_MAX], is_lost[DISKS_MAX], sheet[SHEET_BYTES];
-    size_t repairs, lost;
+    uint8_t column[DISKS_MAX], sheet[SHEET_BYTES];
+    const char *list = NULL;
+    size_t position, repairs, all = 0;
 
-    memcpy(work, p->map, p->map_len);
-    repairs = plan_repairs(p->grid, work, sheet);
-    lost = find_lost(p->grid, p->map, is_lost);
-    if ((lost > 0) != (count_erased(work, p->map_len) > 0))
-        return "the model contradicts itself";
-    return lost > 0 ? judge_fatal(p, lost) : judge_list(p, sheet, repairs);
+    for (position = 0; position < p->sectors; position++) {
+        read_column(p->grid, p->sectors, p->map, position, column);
+        repairs = plan_position(p->grid, column, sheet);
+        if (position < 4 && !lost_where_fatal(p->grid, column, repairs))
+            return "the model contradicts itself";
+        if (repairs > RECORDS && p->position != position)
+            return "the position is not the first that is fatal";
+        if (repairs > RECORDS)
+            return judge_fatal(p, position, column);
+        if (memcmp(p->sheets + position * SHEET_BYTES, sheet,
+                   SHEET_BYTES) != 0)
+            list = "the list of repairs is another one";
+        all += repairs;
+    }
+    return list != NULL ? list : judge_count(p, all);
 }
 
 /* A disk that plan reaches has a list, and no other. */
 static const char *judge_disk(const struct planned *p, size_t disk)
 {
-    uint8_t work[DISKS_MAX], is_lost[DISKS_MAX], sheet[SHEET_BYTES];
+    uint8_t work[DISKS_MAX], sheet[SHEET_BYTES];
     size_t repairs;
 
     memcpy(work, p->map, p->map_len);
@@ -498,8 +582,11 @@ static const char *judge_disk(const struct planned *p, size_t disk)
     repairs = plan_for_disk(p->grid, p->map, disk, sheet);
     if ((repairs == 0) != (work[disk] == 1))
         return "the model contradicts itself about a disk";
-    return repairs > 0 ? judge_list(p, sheet, repairs)
-                       : judge_fatal(p, find_lost(p->grid, p->map, is_lost));
+    if (repairs == 0)
+        return judge_fatal(p, 0, p->map);
+    if (memcmp(p->sheets, sheet, SHEET_BYTES) != 0)
+        return "the list of repairs is another one";
+    return judge_count(p, repairs);
 }
 
 /* The refusals with which both begin. */
@@ -507,9 +594,11 @@ static uint32_t plan_refusal(const struct planned *p)
 {
     if (!grid_fits(p->grid))
         return WRONG_SIDE;
-    if (!map_fits(p->grid, p->map, p->map_len))
+    if (p->sectors < 1 || p->sectors > SECTORS_MAX)
+        return WRONG_SECTOR;
+    if (!map_fits(p->grid, p->sectors, p->map, p->map_len))
         return WRONG_MAP;
-    return p->sheet_len != SHEET_BYTES ? WRONG_SHEET : DONE;
+    return p->sheets_len != SHEET_BYTES * p->sectors ? WRONG_SHEET : DONE;
 }
 
 const char *judge_plan(const struct planned *p)
@@ -528,11 +617,11 @@ const char *judge_plan_disk(const struct planned *p, size_t disk)
     return refused != DONE ? judge_refusal(p, refused) : judge_disk(p, disk);
 }
 
-/* ---- follow, rebuild, save and tidy */
+/* ---- follow, rebuild, save, look and tidy */
 
-/* The refusals with which all begin. */
+/* The refusals with which all but tidy begin. */
 static uint32_t refusal(struct grid g, size_t block, size_t array_len,
-                        const uint8_t *map, size_t map_len)
+                        size_t sector, const uint8_t *map, size_t map_len)
 {
     if (!grid_fits(g))
         return WRONG_SIDE;
@@ -540,19 +629,21 @@ static uint32_t refusal(struct grid g, size_t block, size_t array_len,
         return WRONG_BLOCK;
     if (array_len != disks_of(g) * block)
         return WRONG_ARRAY;
-    if (!map_fits(g, map, map_len))
+    if (sector == 0 || block % sector != 0)
+        return WRONG_SECTOR;
+    if (!map_fits(g, block / sector, map, map_len))
         return WRONG_MAP;
     return DONE;
 }
 
-/* The same, and that of the sheet. */
+/* The same, and that of the sheets. */
 static uint32_t sheet_refusal(struct grid g, size_t block, size_t array_len,
-                              const uint8_t *map, size_t map_len,
-                              size_t sheet_len)
+                              size_t sector, const uint8_t *map,
+                              size_t map_len, size_t sheets_len)
 {
-    uint32_t status = refusal(g, block, array_len, map, map_len);
+    uint32_t status = refusal(g, block, array_len, sector, map, map_len);
 
-    if (status == DONE && sheet_len != SHEET_BYTES)
+    if (status == DONE && sheets_len != SHEET_BYTES * (block / sector))
         return WRONG_SHEET;
     return status;
 }
@@ -649,53 +740,103 @@ static int is_sealed(struct grid g, size_t block, const uint8_t *array)
     return 1;
 }
 
-void make_repair(struct grid g, size_t block, uint8_t *array,
-                 const uint8_t *record)
+/* A repair at some places of the block. */
+static void repair_places(struct grid g, size_t block, uint8_t *array,
+                          struct places p, const uint8_t *record)
 {
     size_t disk = record[0], place;
 
-    for (place = 0; place < block; place++)
+    for (place = p.first; place < p.first + p.length; place++)
         array[disk * block + place] =
             sum_without(g, block, array, record[1], place, disk);
 }
 
-static void zero_erased(size_t block, uint8_t *array,
+void make_repair(struct grid g, size_t block, uint8_t *array,
+                 const uint8_t *record)
+{
+    repair_places(g, block, array, places_of(block, 0), record);
+}
+
+/* The sectors stand in the order of the map. */
+static void zero_erased(size_t sector, uint8_t *array,
                         const uint8_t *map, size_t map_len)
 {
-    size_t disk;
+    size_t i;
 
-    for (disk = 0; disk < map_len; disk++)
-        if (map[disk] == 1)
-            memset(array + disk * block, 0, block);
+    for (i = 0; i < map_len; i++)
+        if (map[i] == 1)
+            memset(array + i * sector, 0, sector);
+}
+
+/* What follow says of the sheets: each number is tested on all of them before
+   the next number. */
+static uint32_t judge_sheets(struct grid g, size_t sectors,
+                             const uint8_t *map, const uint8_t *sheets)
+{
+    static const uint32_t numbers[] = {BROKEN_CHAIN, REACHED_TWICE, LEFTOVERS,
+                                       NOT_ALLOWED};
+    uint8_t order[RECORDS], column[DISKS_MAX];
+    size_t i, position;
+
+    for (i = 0; i < sizeof numbers / sizeof *numbers; i++)
+        for (position = 0; position < sectors; position++) {
+            const uint8_t *sheet = sheets + position * SHEET_BYTES;
+            int steps = read_chain(sheet, order), wrong = 0;
+
+            if (numbers[i] == BROKEN_CHAIN || numbers[i] == REACHED_TWICE)
+                wrong = steps == -(int)numbers[i];
+            else if (numbers[i] == LEFTOVERS)
+                wrong = has_leftovers(sheet, order, steps);
+            else {
+                read_column(g, sectors, map, position, column);
+                wrong = !steps_allowed(g, column, sheet, order, steps);
+            }
+            if (wrong)
+                return numbers[i];
+        }
+    return DONE;
+}
+
+/* Makes the repairs of all sheets. Returns how many. */
+static size_t follow_sheets(struct grid g, size_t block, uint8_t *array,
+                            size_t sector, const uint8_t *sheets)
+{
+    uint8_t order[RECORDS];
+    size_t position, made = 0;
+    int steps, i;
+
+    for (position = 0; position < block / sector; position++) {
+        const uint8_t *sheet = sheets + position * SHEET_BYTES;
+
+        steps = read_chain(sheet, order);
+        for (i = 0; i < steps; i++)
+            repair_places(g, block, array, places_of(sector, position),
+                          sheet + record_at(order[i]));
+        made += (size_t)steps;
+    }
+    return made;
 }
 
 uint32_t model_follow(struct grid g, size_t block,
-                      uint8_t *array, size_t array_len,
+                      uint8_t *array, size_t array_len, size_t sector,
                       const uint8_t *map, size_t map_len,
-                      const uint8_t *sheet, size_t sheet_len,
+                      const uint8_t *sheets, size_t sheets_len,
                       size_t *count)
 {
-    uint8_t order[RECORDS];
-    uint32_t status = sheet_refusal(g, block, array_len, map, map_len,
-                                    sheet_len);
-    int steps, i;
+    uint32_t status = sheet_refusal(g, block, array_len, sector, map, map_len,
+                                    sheets_len);
+    size_t made;
 
+    if (status == DONE)
+        status = judge_sheets(g, block / sector, map, sheets);
     if (status != DONE)
         return status;
-    steps = read_chain(sheet, order);
-    if (steps < 0)
-        return (uint32_t)-steps;
-    if (has_leftovers(sheet, order, steps))
-        return LEFTOVERS;
-    if (!steps_allowed(g, map, sheet, order, steps))
-        return NOT_ALLOWED;
-    for (i = 0; i < steps; i++)
-        make_repair(g, block, array, sheet + record_at(order[i]));
+    made = follow_sheets(g, block, array, sector, sheets);
     if (!is_sealed(g, block, array)) {
-        zero_erased(block, array, map, map_len);
+        zero_erased(sector, array, map, map_len);
         return CONTRADICTION;
     }
-    *count = (size_t)steps;
+    *count = made;
     return DONE;
 }
 
@@ -728,65 +869,158 @@ static void list_first(uint8_t *sheet, const uint8_t *planned, size_t made)
     memcpy(sheet, planned, end);
 }
 
-uint32_t model_rebuild(struct grid g, size_t block,
-                       uint8_t *array, size_t array_len,
-                       uint8_t *map, size_t map_len,
-                       uint8_t *sheet, size_t sheet_len,
-                       size_t limit, size_t *count)
+/* The first position that is fatal, as many as there are if none is. */
+static size_t first_fatal(struct grid g, size_t sectors, const uint8_t *map,
+                          uint8_t *column)
 {
-    uint8_t left[DISKS_MAX], is_lost[DISKS_MAX], planned[SHEET_BYTES];
-    uint32_t status = sheet_refusal(g, block, array_len, map, map_len,
-                                    sheet_len);
-    size_t repairs, made, k;
+    uint8_t sheet[SHEET_BYTES];
+    size_t position;
+
+    for (position = 0; position < sectors; position++) {
+        read_column(g, sectors, map, position, column);
+        if (plan_position(g, column, sheet) > RECORDS)
+            return position;
+    }
+    return sectors;
+}
+
+/* Makes the first repairs of one position, so many at most, and lists them. */
+static size_t turn_at(struct grid g, size_t block, uint8_t *array,
+                      size_t sector, uint8_t *map, size_t position,
+                      uint8_t *sheet, size_t most)
+{
+    uint8_t column[DISKS_MAX], planned[SHEET_BYTES];
+    size_t sectors = block / sector, made, k;
+
+    read_column(g, sectors, map, position, column);
+    made = plan_position(g, column, planned);
+    if (made > most)
+        made = most;
+    for (k = 1; k <= made; k++) {
+        const uint8_t *record = planned + record_at(k);
+
+        repair_places(g, block, array, places_of(sector, position), record);
+        map[record[0] * sectors + position] = 0;
+    }
+    list_first(sheet, planned, made);
+    return made;
+}
+
+/* The repairs of position 0 come first, then those of position 1, and so on. */
+static size_t turn_over(struct grid g, size_t block, uint8_t *array,
+                        size_t sector, uint8_t *map, uint8_t *sheets,
+                        size_t limit)
+{
+    size_t position, made = 0;
+
+    for (position = 0; position < block / sector; position++)
+        made += turn_at(g, block, array, sector, map, position,
+                        sheets + position * SHEET_BYTES, limit - made);
+    return made;
+}
+
+uint32_t model_rebuild(struct grid g, size_t block,
+                       uint8_t *array, size_t array_len, size_t sector,
+                       uint8_t *map, size_t map_len,
+                       uint8_t *sheets, size_t sheets_len,
+                       size_t limit, size_t *count, size_t *position)
+{
+    static uint8_t map_before[DISKS_MAX * SECTORS_MAX];
+    uint8_t column[DISKS_MAX], is_lost[DISKS_MAX];
+    uint32_t status = sheet_refusal(g, block, array_len, sector, map, map_len,
+                                    sheets_len);
+    size_t fatal, made;
 
     if (status != DONE)
         return status;
     if (limit == 0)
         return WRONG_LIMIT;
-    memcpy(left, map, map_len);
-    repairs = plan_repairs(g, left, planned);
-    if (count_erased(left, map_len) > 0) {
-        *count = find_lost(g, map, is_lost);
+    fatal = first_fatal(g, block / sector, map, column);
+    if (fatal < block / sector) {
+        *count = find_lost(g, column, is_lost);
+        *position = fatal;
         return FATAL;
     }
-    made = limit < repairs ? limit : repairs;
-    for (k = 1; k <= made; k++)
-        make_repair(g, block, array, planned + record_at(k));
-    if (made == repairs && !is_sealed(g, block, array)) {
-        zero_erased(block, array, map, map_len);
-        memset(sheet, 0, SHEET_BYTES);
+    memcpy(map_before, map, map_len);
+    made = turn_over(g, block, array, sector, map, sheets, limit);
+    if (count_erased(map, map_len) == 0 && !is_sealed(g, block, array)) {
+        memcpy(map, map_before, map_len);
+        zero_erased(sector, array, map, map_len);
+        memset(sheets, 0, sheets_len);
         return CONTRADICTION;
     }
-    for (k = 1; k <= made; k++)
-        map[planned[record_at(k)]] = 0;
-    list_first(sheet, planned, made);
     *count = made;
     return DONE;
 }
 
-uint32_t model_save(struct grid g, size_t block,
-                    uint8_t *array, size_t array_len,
-                    const uint8_t *map, size_t map_len, size_t *count)
+/* What is known of one position. */
+static void solve_at(struct grid g, size_t block, const uint8_t *array,
+                     size_t sector, const uint8_t *map, size_t position)
 {
-    uint32_t status = refusal(g, block, array_len, map, map_len);
-    size_t disk, k, saved = 0;
+    uint8_t column[DISKS_MAX];
 
-    if (status != DONE)
-        return status;
-    set_up(g, block, array, map);
-    solve(map_len, block);
-    for (k = 0; k < STRIPES; k++)
-        if (is_contradiction(&equations[k], map_len, block)) {
-            zero_erased(block, array, map, map_len);
-            return CONTRADICTION;
-        }
+    read_column(g, block / sector, map, position, column);
+    set_up(g, block, array, places_of(sector, position), column);
+    solve(disks_of(g), sector);
+}
+
+/* Writes what the equations of a position determine. Returns how many
+   sectors. */
+static size_t save_at(struct grid g, size_t block, uint8_t *array,
+                      size_t sector, size_t position)
+{
+    size_t k, saved = 0;
+
     for (k = 0; k < STRIPES; k++) {
-        disk = determined_by(&equations[k], map_len);
-        if (disk < map_len) {
-            memcpy(array + disk * block, equations[k].sum, block);
+        size_t disk = determined_by(&equations[k], disks_of(g));
+
+        if (disk < disks_of(g)) {
+            memcpy(array + disk * block + position * sector,
+                   equations[k].sum, sector);
             saved++;
         }
     }
+    return saved;
+}
+
+uint32_t model_save(struct grid g, size_t block,
+                    uint8_t *array, size_t array_len, size_t sector,
+                    const uint8_t *map, size_t map_len, size_t *count)
+{
+    uint32_t status = refusal(g, block, array_len, sector, map, map_len);
+    size_t position, k, saved = 0;
+
+    if (status != DONE)
+        return status;
+    for (position = 0; position < block / sector; position++) {
+        solve_at(g, block, array, sector, map, position);
+        for (k = 0; k < STRIPES; k++)
+            if (is_contradiction(&equations[k], disks_of(g), sector)) {
+                zero_erased(sector, array, map, map_len);
+                return CONTRADICTION;
+            }
+    }
+    for (position = 0; position < block / sector; position++) {
+        solve_at(g, block, array, sector, map, position);
+        saved += save_at(g, block, array, sector, position);
+    }
     *count = saved;
     return DONE;
+}
+
+size_t model_look(struct grid g, size_t block, size_t array_len,
+                  size_t sector, const uint8_t *map, size_t map_len,
+                  size_t disk, size_t *offset)
+{
+    size_t sectors, position;
+
+    if (refusal(g, block, array_len, sector, map, map_len) != DONE ||
+        disk >= disks_of(g))
+        return 0;
+    sectors = block / sector;
+    for (position = 0; position < sectors; position++)
+        if (map[disk * sectors + position] == 1)
+            return 0;
+    *offset = disk * block;
+    return block;
 }

@@ -1,8 +1,8 @@
 /*
- * What plan, plan_disk, follow, rebuild, save and tidy must answer, in plain C,
- * written from the order alone: its rules, its numbers and its formats. Only
- * the words are those of include/raid2d.h. It goes disk by disk and byte by
- * byte.
+ * What plan, plan_disk, follow, rebuild, save, look and tidy must answer, in
+ * plain C, written from the order alone: its rules, its numbers and its
+ * formats. Only the words are those of include/raid2d.h. It goes position by
+ * position, disk by disk and byte by byte.
  */
 #ifndef MODEL_H
 #define MODEL_H
@@ -16,7 +16,8 @@ enum {
     COLUMN_STRIPE = 16, /* the stripe number of column 0 */
     STRIPES = 32,
     SHEET_BYTES = 98,
-    RECORDS = 32
+    RECORDS = 32,
+    SECTORS_MAX = 4096
 };
 
 /* The size of an array: its data rows and data columns. The grid of all disks
@@ -82,6 +83,10 @@ int read_chain(const uint8_t *sheet, uint8_t order[RECORDS]);
 void make_repair(struct grid g, size_t block, uint8_t *array,
                  const uint8_t *record);
 
+/* The bytes of a map for one position, one for each disk. */
+void read_column(struct grid g, size_t sectors, const uint8_t *map,
+                 size_t position, uint8_t *column);
+
 /* The stripe's sum is zero at every byte place, or the grid has no such
    stripe. */
 int stripe_is_sealed(struct grid g, size_t block, const uint8_t *array,
@@ -89,38 +94,44 @@ int stripe_is_sealed(struct grid g, size_t block, const uint8_t *array,
 
 /* What raid2d_follow must do, with its parameters. */
 uint32_t model_follow(struct grid g, size_t block,
-                      uint8_t *array, size_t array_len,
+                      uint8_t *array, size_t array_len, size_t sector,
                       const uint8_t *map, size_t map_len,
-                      const uint8_t *sheet, size_t sheet_len,
+                      const uint8_t *sheets, size_t sheets_len,
                       size_t *count);
 
 /*
  * What raid2d_rebuild must do in one turn, with its parameters. For a fatal
- * loss the sheet is left alone, since which loop it shows is free.
+ * loss the sheets are left alone, since which loop is shown is free.
  */
 uint32_t model_rebuild(struct grid g, size_t block,
-                       uint8_t *array, size_t array_len,
+                       uint8_t *array, size_t array_len, size_t sector,
                        uint8_t *map, size_t map_len,
-                       uint8_t *sheet, size_t sheet_len,
-                       size_t limit, size_t *count);
+                       uint8_t *sheets, size_t sheets_len,
+                       size_t limit, size_t *count, size_t *position);
 
 /* What raid2d_tidy must do, with its parameters. */
 uint32_t model_tidy(uint8_t *sheet, size_t sheet_len);
 
 /* What raid2d_save must do, with its parameters. */
 uint32_t model_save(struct grid g, size_t block,
-                    uint8_t *array, size_t array_len,
+                    uint8_t *array, size_t array_len, size_t sector,
                     const uint8_t *map, size_t map_len, size_t *count);
 
+/* What raid2d_look must do, with its parameters but for the array itself. */
+size_t model_look(struct grid g, size_t block, size_t array_len,
+                  size_t sector, const uint8_t *map, size_t map_len,
+                  size_t disk, size_t *offset);
+
 /* A call of raid2d_plan or raid2d_plan_disk: what it was lent, and what it left
-   and returned. */
+   and returned. Plan_disk has one sector. */
 struct planned {
     struct grid grid;
+    size_t sectors;
     const uint8_t *map;
     size_t map_len;
-    const uint8_t *sheet_before, *sheet;
-    size_t sheet_len;
-    size_t count_before, count;
+    const uint8_t *sheets_before, *sheets;
+    size_t sheets_len;
+    size_t count_before, count, position_before, position;
     uint32_t status;
 };
 

@@ -1,8 +1,9 @@
 /*
- * Changes inputs in ways that keep most of them near to a valid call: a loss
- * that can be repaired or just not, with a sheet that lists its repairs, with a
- * limit for its turns or a disk that is wanted, and from there one small fault
- * or another. The general mutator of the fuzzer has its turn too.
+ * Changes inputs in ways that keep most of them near to a valid call: a loss at
+ * each position that can be repaired or just not, with a sheet that lists its
+ * repairs, with a limit for its turns or a disk that is wanted, and from there
+ * one small fault or another at one of the positions. The general mutator of
+ * the fuzzer has its turn too.
  */
 #include <string.h>
 
@@ -13,10 +14,13 @@ size_t LLVMFuzzerMutate(uint8_t *data, size_t size, size_t max_size);
 size_t LLVMFuzzerCustomMutator(uint8_t *data, size_t size, size_t max_size,
                                unsigned int seed);
 
-/* An input while it is being changed: all its bytes, and what they mean. */
+/* An input while it is being changed: all its bytes, and what they mean. It has
+   a sheet and a map for each of the first positions, one of which is being
+   changed. */
 struct draft {
     uint8_t bytes[INPUT_MAX];
     uint8_t *sheet, *map;
+    size_t columns; /* how many of these count */
     struct grid grid;
     size_t disks;
     struct numbers random;
@@ -32,12 +36,30 @@ static size_t kept_in_range(uint8_t side)
     return side < 2 || side > SIDE_MAX ? 2 : side;
 }
 
-/* The grid that the input asks for, kept to what the library takes. */
+static int is_call(const struct draft *d, enum call call)
+{
+    return call_of(d->bytes[AT_FLAGS], d->bytes[AT_LOOK]) == call;
+}
+
+/* From now on this sheet and map are changed. */
+static void at_column(struct draft *d, size_t column)
+{
+    d->sheet = d->bytes + sheet_in_input(column);
+    d->map = d->bytes + map_in_input(column);
+}
+
+/* The grid that the input asks for, kept to what the library takes, and how
+   many of its sheets and maps count. */
 static void read_grid(struct draft *d)
 {
+    size_t sectors = d->bytes[AT_SECTORS];
+
     d->grid.rows = kept_in_range(d->bytes[AT_ROWS]);
     d->grid.columns = kept_in_range(d->bytes[AT_COLUMNS]);
     d->disks = disks_of(d->grid);
+    d->columns = sectors > COLUMNS ? COLUMNS : sectors < 1 ? 1 : sectors;
+    if (is_call(d, PLAN_DISK) || is_call(d, TIDY))
+        d->columns = 1;
 }
 
 /* ---- losses */
@@ -151,7 +173,7 @@ static void draw_loss(struct draft *d)
     size_t longest = (rows < columns ? rows : columns) + 1;
     uint32_t most = (uint32_t)(rows + columns + 1);
 
-    memset(d->map, 0, INPUT_MAX - AT_MAP);
+    memset(d->map, 0, COLUMN_BYTES - SHEET_BYTES);
     switch (draw(&d->random, 10)) {
     case 0:
         draw_forest(d, most);
@@ -476,13 +498,16 @@ static void change_sheet(struct draft *d)
    it, or nearly; else any. */
 static uint8_t draw_limit(struct draft *d)
 {
-    size_t erased = count_erased(d->map, d->disks);
+    size_t erased = 0, column;
+
+    for (column = 0; column < d->columns; column++)
+        erased += count_erased(d->bytes + map_in_input(column), d->disks);
 
     switch (draw(&d->random, 4)) {
     case 0:
         return (uint8_t)draw(&d->random, 4);
     case 1:
-        return (uint8_t)(1 + draw(&d->random, (uint32_t)erased + 1));
+        return (uint8_t)(1 + draw(&d->random, (uint32_t)erased % 250 + 1));
     case 2:
         return (uint8_t)(erased + draw(&d->random, 3) - 1);
     default:
@@ -509,18 +534,13 @@ static void draw_wanted(struct draft *d)
 
 /* ---- what matters to each call */
 
-static int is_call(const struct draft *d, enum call call)
-{
-    return call_of(d->bytes[AT_FLAGS]) == call;
-}
-
-/* What a call needs beside the loss: rebuild a limit, plan_disk a disk, others
-   plan's sheet. Save does not look at it. */
+/* What a call needs beside the loss: rebuild a limit, plan_disk and look a
+   disk, others plan's sheet. Save does not look at it. */
 static void fit_to_loss(struct draft *d)
 {
     if (is_call(d, REBUILD))
         d->bytes[AT_LIMIT] = draw_limit(d);
-    else if (is_call(d, PLAN_DISK))
+    else if (is_call(d, PLAN_DISK) || is_call(d, LOOK))
         draw_wanted(d);
     else
         plan_sheet(d);
@@ -550,6 +570,75 @@ static void change_turns(struct draft *d)
         change_survivors(d);
 }
 
+/* ---- sectors */
+
+/* Mostly a number that divides the block, none too great; else any. */
+static uint8_t draw_sectors(struct draft *d)
+{
+    uint8_t block = d->bytes[AT_BLOCK], sectors;
+    uint32_t most = one_in(d, 4) ? 16 : 4;
+
+    if (one_in(d, 16))
+        return (uint8_t)draw(&d->random, 256);
+    if (is_call(d, PLAN) || block > BLOCK_CODES)
+        return (uint8_t)(1 + draw(&d->random, most));
+    for (sectors = (uint8_t)(1 + draw(&d->random, most));
+         block % sectors != 0; sectors--)
+        ;
+    return sectors;
+}
+
+/* A block that can be cut. */
+static void draw_block_in_sectors(struct draft *d)
+{
+    d->bytes[AT_BLOCK] = (uint8_t)((2 + draw(&d->random, 3)) *
+                                   (1 + draw(&d->random, 4)));
+    d->bytes[AT_SECTORS] = draw_sectors(d);
+    read_grid(d);
+}
+
+/* The same sheet and map as at position 0. */
+static void copy_first(struct draft *d)
+{
+    memcpy(d->sheet, d->bytes + AT_SHEET, SHEET_BYTES);
+    memcpy(d->map, d->bytes + AT_MAP, COLUMN_BYTES - SHEET_BYTES);
+}
+
+/* A loss at each position but the first that counts: that of the first or one
+   of its own, with what the call needs for it. */
+static void draw_other_columns(struct draft *d)
+{
+    size_t column;
+
+    for (column = 1; column < d->columns; column++) {
+        at_column(d, column);
+        if (one_in(d, 3)) {
+            copy_first(d);
+        } else {
+            draw_loss(d);
+            if (one_in(d, 2))
+                draw_sheet(d);
+            else
+                plan_sheet(d);
+        }
+    }
+    at_column(d, 0);
+}
+
+/* Another number of sectors. Positions that come in with it are drawn. */
+static void change_sectors(struct draft *d)
+{
+    size_t before = d->columns;
+
+    if (one_in(d, 2))
+        draw_block_in_sectors(d);
+    else
+        d->bytes[AT_SECTORS] = draw_sectors(d);
+    read_grid(d);
+    if (d->columns > before || one_in(d, 4))
+        draw_other_columns(d);
+}
+
 /* ---- the rest of an input */
 
 static void change_map(struct draft *d)
@@ -575,7 +664,7 @@ static uint8_t draw_length(struct draft *d)
 }
 
 /* Follow mostly, or another call; what is lent on either side of a page. */
-static uint8_t draw_flags(struct draft *d)
+static void draw_call(struct draft *d)
 {
     static const uint8_t others[] = {FLAG_REBUILD, FLAG_SAVE, FLAG_TIDY,
                                      FLAG_PLAN_DISK};
@@ -583,7 +672,16 @@ static uint8_t draw_flags(struct draft *d)
 
     if (one_in(d, 2))
         flags |= others[draw(&d->random, sizeof others)];
-    return flags;
+    d->bytes[AT_FLAGS] = flags;
+    d->bytes[AT_LOOK] = (uint8_t)one_in(d, 8);
+}
+
+/* One length, or two. */
+static void change_lengths(struct draft *d, size_t at)
+{
+    d->bytes[at] = draw_length(d);
+    if (one_in(d, 4))
+        d->bytes[AT_ARRAY_LEN + draw(&d->random, 3)] = draw_length(d);
 }
 
 static void change_head(struct draft *d)
@@ -591,9 +689,9 @@ static void change_head(struct draft *d)
     size_t at = draw(&d->random, AT_SHEET);
 
     if (at >= AT_ARRAY_LEN && at <= AT_SHEET_LEN)
-        d->bytes[at] = draw_length(d);
+        change_lengths(d, at);
     else if (at == AT_FLAGS && !one_in(d, 4))
-        d->bytes[at] = draw_flags(d);
+        draw_call(d);
     else if ((at == AT_ROWS || at == AT_COLUMNS) && !one_in(d, 4))
         d->bytes[at] = (uint8_t)draw(&d->random, SIDE_CODES + 1);
     else if (at == AT_BLOCK && !one_in(d, 4))
@@ -626,8 +724,9 @@ static void draw_input(struct draft *d)
 {
     size_t i;
 
-    memset(d->bytes, 0, AT_MAP);
-    d->bytes[AT_FLAGS] = draw_flags(d);
+    memset(d->bytes, 0, INPUT_MAX);
+    at_column(d, 0);
+    draw_call(d);
     d->bytes[AT_ROWS] = draw_side(d);
     d->bytes[AT_COLUMNS] = draw_side(d);
     d->bytes[AT_BLOCK] = (uint8_t)(1 + draw(&d->random, one_in(d, 2) ? 4 : 40));
@@ -635,8 +734,11 @@ static void draw_input(struct draft *d)
     for (i = AT_DISK; i < AT_SHEET; i++)
         d->bytes[i] = (uint8_t)draw(&d->random, 256);
     read_grid(d);
+    if (one_in(d, 3))
+        draw_block_in_sectors(d);
     draw_loss(d);
-    if (!is_call(d, REBUILD) && !is_call(d, PLAN_DISK) && one_in(d, 2))
+    draw_other_columns(d);
+    if ((is_call(d, FOLLOW) || is_call(d, TIDY)) && one_in(d, 2))
         draw_any_sheet(d);
     else
         fit_to_loss(d);
@@ -650,15 +752,17 @@ static void change_rest(struct draft *d)
         change_survivors(d);
     else if (is_call(d, REBUILD))
         change_turns(d);
-    else if (is_call(d, PLAN_DISK))
+    else if (is_call(d, PLAN_DISK) || is_call(d, LOOK))
         draw_wanted(d);
     else
         change_sheet(d);
 }
 
+/* At one of the positions, where they are several. */
 static void change(struct draft *d)
 {
-    switch (draw(&d->random, 16)) {
+    at_column(d, draw(&d->random, (uint32_t)d->columns));
+    switch (draw(&d->random, 17)) {
     case 0:
         draw_input(d);
         break;
@@ -683,9 +787,22 @@ static void change(struct draft *d)
     case 8:
         swap_sides(d);
         break;
+    case 9:
+        change_sectors(d);
+        break;
     default:
         change_rest(d);
     }
+}
+
+/* The bytes of an input that count. */
+static size_t length_of(const struct draft *d)
+{
+    if (d->columns > 1)
+        return map_in_input(d->columns - 1) + d->disks;
+    if (d->bytes[AT_SECTORS] != 0 || d->bytes[AT_LOOK] != 0)
+        return AT_MORE;
+    return AT_MAP + d->disks;
 }
 
 size_t LLVMFuzzerCustomMutator(uint8_t *data, size_t size, size_t max_size,
@@ -693,17 +810,17 @@ size_t LLVMFuzzerCustomMutator(uint8_t *data, size_t size, size_t max_size,
 {
     struct draft d;
     uint32_t left;
+    size_t length;
 
     d.random = numbers_from(seed);
     if (max_size < INPUT_MAX || one_in(&d, 16))
         return LLVMFuzzerMutate(data, size, max_size);
-    d.sheet = d.bytes + AT_SHEET;
-    d.map = d.bytes + AT_MAP;
     memset(d.bytes, 0, INPUT_MAX);
     memcpy(d.bytes, data, size < INPUT_MAX ? size : INPUT_MAX);
     read_grid(&d);
     for (left = 1 + draw(&d.random, 3); left > 0; left--)
         change(&d);
-    memcpy(data, d.bytes, AT_MAP + d.disks);
-    return AT_MAP + d.disks;
+    length = length_of(&d);
+    memcpy(data, d.bytes, length);
+    return length;
 }

@@ -14,14 +14,16 @@
 
 int LLVMFuzzerTestOneInput(const uint8_t *data, size_t size);
 
-/* What is lent; the same memory in every call. */
-static struct lent array, map, sheet, count;
+/* What is lent; the same memory in every call. The sheet is all sheets, one
+   behind the other. */
+static struct lent array, map, sheet, count, position;
 
 /* The array, the map and the sheet as the model leaves them. */
 static uint8_t *model_array;
 static uint8_t model_map[MAP_LEN_MAX], model_sheet[SHEET_LEN_MAX];
 
-/* What the count holds before each call: no byte of it is zero. */
+/* What the count and the position hold before each call: no byte of it is
+   zero. */
 #define COUNT_BEFORE (SIZE_MAX / 255 * 0x5a)
 
 static void make_all_room(void)
@@ -32,6 +34,7 @@ static void make_all_room(void)
     make_room(&map, MAP_LEN_MAX);
     make_room(&sheet, SHEET_LEN_MAX);
     make_room(&count, sizeof(size_t));
+    make_room(&position, sizeof(size_t));
     model_array = malloc(ARRAY_LEN_MAX);
     if (model_array == NULL) {
         fprintf(stderr, "no memory\n");
@@ -44,6 +47,7 @@ static void set_count(void)
     size_t before = COUNT_BEFORE;
 
     memcpy(count.bytes, &before, sizeof before);
+    memcpy(position.bytes, &before, sizeof before);
 }
 
 /* All but the array. */
@@ -54,6 +58,7 @@ static void lend_all(const struct input *in)
     lend(&sheet, in->sheet_len, in->behind);
     memcpy(sheet.bytes, in->sheet, in->sheet_len);
     lend(&count, sizeof(size_t), in->behind);
+    lend(&position, sizeof(size_t), in->behind);
     set_count();
 }
 
@@ -70,12 +75,23 @@ static uint8_t *passed(const struct input *in, const struct lent *l)
     return in->pass_null && l->len == 0 ? NULL : l->bytes;
 }
 
-static size_t count_now(void)
+static size_t now_in(const struct lent *l)
 {
     size_t now;
 
-    memcpy(&now, count.bytes, sizeof now);
+    memcpy(&now, l->bytes, sizeof now);
     return now;
+}
+
+static size_t count_now(void)
+{
+    return now_in(&count);
+}
+
+/* As an out-parameter. */
+static size_t *out(const struct lent *l)
+{
+    return (size_t *)(void *)l->bytes;
 }
 
 static uint32_t call_follow(const struct input *in)
@@ -85,10 +101,9 @@ static uint32_t call_follow(const struct input *in)
     forbid_writes(&map.memory);
     forbid_writes(&sheet.memory);
     status = raid2d_follow(in->grid.rows, in->grid.columns, in->block,
-                           passed(in, &array), in->array_len,
+                           passed(in, &array), in->array_len, in->sector,
                            passed(in, &map), in->map_len,
-                           passed(in, &sheet), in->sheet_len,
-                           (size_t *)(void *)count.bytes);
+                           passed(in, &sheet), in->sheet_len, out(&count));
     allow_writes(&map.memory);
     allow_writes(&sheet.memory);
     return status;
@@ -115,8 +130,8 @@ static const char *try_follow(const struct input *in)
     lend_all(in);
     lend_array(in);
     status = model_follow(in->grid, in->block, model_array, in->array_len,
-                          in->map, in->map_len, in->sheet, in->sheet_len,
-                          &expected);
+                          in->sector, in->map, in->map_len, in->sheet,
+                          in->sheet_len, &expected);
     return judge_array(in, call_follow(in), status, expected);
 }
 
@@ -126,9 +141,8 @@ static uint32_t call_save(const struct input *in)
 
     forbid_writes(&map.memory);
     status = raid2d_save(in->grid.rows, in->grid.columns, in->block,
-                         passed(in, &array), in->array_len,
-                         passed(in, &map), in->map_len,
-                         (size_t *)(void *)count.bytes);
+                         passed(in, &array), in->array_len, in->sector,
+                         passed(in, &map), in->map_len, out(&count));
     allow_writes(&map.memory);
     return status;
 }
@@ -141,8 +155,39 @@ static const char *try_save(const struct input *in)
     lend_all(in);
     lend_array(in);
     status = model_save(in->grid, in->block, model_array, in->array_len,
-                        in->map, in->map_len, &expected);
+                        in->sector, in->map, in->map_len, &expected);
     return judge_array(in, call_save(in), status, expected);
+}
+
+static size_t call_look(const struct input *in)
+{
+    size_t length;
+
+    forbid_writes(&map.memory);
+    forbid_writes(&array.memory);
+    length = raid2d_look(in->grid.rows, in->grid.columns, in->block,
+                         passed(in, &array), in->array_len, in->sector,
+                         passed(in, &map), in->map_len, in->wanted,
+                         out(&count));
+    allow_writes(&map.memory);
+    allow_writes(&array.memory);
+    return length;
+}
+
+/* What is wrong with look, which does not read the array. */
+static const char *try_look(const struct input *in)
+{
+    size_t expected = COUNT_BEFORE;
+    size_t length = model_look(in->grid, in->block, in->array_len, in->sector,
+                               in->map, in->map_len, in->wanted, &expected);
+
+    lend_all(in);
+    lend(&array, in->array_len, in->behind);
+    if (call_look(in) != length)
+        return "look's length is another one";
+    if (count_now() != expected)
+        return "look's offset is another one";
+    return NULL;
 }
 
 /* What is wrong with tidy. */
@@ -166,10 +211,10 @@ static uint32_t call_plan(const struct input *in)
     uint32_t status;
 
     forbid_writes(&map.memory);
-    status = raid2d_plan(in->grid.rows, in->grid.columns,
+    status = raid2d_plan(in->grid.rows, in->grid.columns, in->sectors,
                          passed(in, &map), in->map_len,
                          passed(in, &sheet), in->sheet_len,
-                         (size_t *)(void *)count.bytes);
+                         out(&count), out(&position));
     allow_writes(&map.memory);
     return status;
 }
@@ -182,19 +227,23 @@ static void fill_sheets(const struct input *in, uint32_t turn)
     memcpy(sheet.bytes, model_sheet, in->sheet_len);
 }
 
-/* A status, with the count and the sheet that came with it. */
-static struct planned answer(const struct input *in, uint32_t status)
+/* A status, with the count, the position and the sheets that came with it, for
+   so many sectors. */
+static struct planned answer(const struct input *in, size_t sectors,
+                             uint32_t status)
 {
     struct planned p;
 
     p.grid = in->grid;
+    p.sectors = sectors;
     p.map = in->map;
     p.map_len = in->map_len;
-    p.sheet_before = model_sheet;
-    p.sheet = sheet.bytes;
-    p.sheet_len = in->sheet_len;
-    p.count_before = COUNT_BEFORE;
+    p.sheets_before = model_sheet;
+    p.sheets = sheet.bytes;
+    p.sheets_len = in->sheet_len;
+    p.count_before = p.position_before = COUNT_BEFORE;
     p.count = count_now();
+    p.position = now_in(&position);
     p.status = status;
     return p;
 }
@@ -207,7 +256,7 @@ static const char *try_plan(const struct input *in)
     lend_all(in);
     lend(&array, 0, in->behind);
     fill_sheets(in, 0);
-    p = answer(in, call_plan(in));
+    p = answer(in, in->sectors, call_plan(in));
     return judge_plan(&p);
 }
 
@@ -219,20 +268,20 @@ static uint32_t call_plan_disk(const struct input *in)
     status = raid2d_plan_disk(in->grid.rows, in->grid.columns,
                               passed(in, &map), in->map_len,
                               passed(in, &sheet), in->sheet_len,
-                              in->wanted, (size_t *)(void *)count.bytes);
+                              in->wanted, out(&count));
     allow_writes(&map.memory);
     return status;
 }
 
-/* The sheet of a fatal loss is that of plan. */
-static int is_plans_sheet(const struct input *in)
+/* The sheets of a fatal loss are those of plan. */
+static int is_plans_sheet(const struct input *in, size_t sectors)
 {
-    uint8_t planned[SHEET_BYTES];
-    size_t lost;
+    static uint8_t planned[SHEET_LEN_MAX];
+    size_t lost, at;
 
-    raid2d_plan(in->grid.rows, in->grid.columns, in->map, in->map_len,
-                planned, sizeof planned, &lost);
-    return memcmp(sheet.bytes, planned, sizeof planned) == 0;
+    raid2d_plan(in->grid.rows, in->grid.columns, sectors, in->map,
+                in->map_len, planned, in->sheet_len, &lost, &at);
+    return memcmp(sheet.bytes, planned, in->sheet_len) == 0;
 }
 
 /* What is wrong with plan_disk. */
@@ -244,9 +293,9 @@ static const char *try_plan_disk(const struct input *in)
     lend_all(in);
     lend(&array, 0, in->behind);
     fill_sheets(in, 0);
-    p = answer(in, call_plan_disk(in));
+    p = answer(in, 1, call_plan_disk(in));
     wrong = judge_plan_disk(&p, in->wanted);
-    if (wrong == NULL && p.status == RAID2D_FATAL && !is_plans_sheet(in))
+    if (wrong == NULL && p.status == RAID2D_FATAL && !is_plans_sheet(in, 1))
         return "plan_disk's loop is not that of plan";
     return wrong;
 }
@@ -254,18 +303,19 @@ static const char *try_plan_disk(const struct input *in)
 static uint32_t call_rebuild(const struct input *in)
 {
     return raid2d_rebuild(in->grid.rows, in->grid.columns, in->block,
-                          passed(in, &array), in->array_len,
+                          passed(in, &array), in->array_len, in->sector,
                           passed(in, &map), in->map_len,
                           passed(in, &sheet), in->sheet_len,
-                          in->limit, (size_t *)(void *)count.bytes);
+                          in->limit, out(&count), out(&position));
 }
 
-/* What is wrong with the sheet of a fatal loss. */
+/* What is wrong with the sheets of a fatal loss. */
 static const char *try_loop(const struct input *in)
 {
-    struct planned p = answer(in, RAID2D_FATAL);
+    size_t sectors = in->block / in->sector;
+    struct planned p = answer(in, sectors, RAID2D_FATAL);
 
-    if (!is_plans_sheet(in))
+    if (!is_plans_sheet(in, sectors))
         return "rebuild's loop is not that of plan";
     return judge_plan(&p);
 }
@@ -273,15 +323,17 @@ static const char *try_loop(const struct input *in)
 /* What is wrong with one turn of rebuild, which should end with *status. */
 static const char *try_turn(const struct input *in, uint32_t *status)
 {
-    size_t expected = COUNT_BEFORE;
+    size_t expected = COUNT_BEFORE, at = COUNT_BEFORE;
 
     *status = model_rebuild(in->grid, in->block, model_array, in->array_len,
-                            model_map, in->map_len, model_sheet,
-                            in->sheet_len, in->limit, &expected);
+                            in->sector, model_map, in->map_len, model_sheet,
+                            in->sheet_len, in->limit, &expected, &at);
     if (call_rebuild(in) != *status)
         return "rebuild's status is another one";
     if (count_now() != expected)
         return "rebuild's count is another one";
+    if (now_in(&position) != at)
+        return "rebuild's position is another one";
     if (memcmp(array.bytes, model_array, in->array_len) != 0)
         return "rebuild leaves another array";
     if (memcmp(map.bytes, model_map, in->map_len) != 0)
@@ -315,6 +367,8 @@ static const char *try_rebuild(const struct input *in)
 static const char *try_call(const struct input *in)
 {
     switch (in->call) {
+    case LOOK:
+        return try_look(in);
     case PLAN_DISK:
         return try_plan_disk(in);
     case TIDY:
@@ -334,7 +388,7 @@ static const char *try_call(const struct input *in)
 static const char *try_rest(const struct input *in)
 {
     if (!guards_hold(&array) || !guards_hold(&map) || !guards_hold(&sheet) ||
-        !guards_hold(&count))
+        !guards_hold(&count) || !guards_hold(&position))
         return "a byte beside a lent buffer has changed";
     if (in->call != REBUILD && memcmp(map.bytes, in->map, in->map_len) != 0)
         return "the map has changed";
@@ -346,7 +400,7 @@ static const char *try_rest(const struct input *in)
 
 int LLVMFuzzerTestOneInput(const uint8_t *data, size_t size)
 {
-    struct input in;
+    static struct input in;
     const char *wrong;
 
     make_all_room();

@@ -2,14 +2,16 @@
  * A stand-in for the archive that is wrong on purpose: the model's plan, follow
  * and rebuild, with the one fault that the environment variable WRONG names, or
  * none. wrong_save.c has save, ../wrong_disk.c plan_disk, ../wrong_tidy.c tidy
- * and what follow makes of a sheet. tests/fuzz/wrong sees that the fuzzer finds
- * each fault. It takes their names from the calls of `wrong` below and in these
- * three files.
+ * and what follow makes of a sheet, ../wrong_sectors.c what the calls make of
+ * several sectors; the faults below are in blocks as one. tests/fuzz/wrong sees
+ * that the fuzzer finds each fault. It takes their names from the calls of
+ * `wrong` below and in these files.
  */
 #include <stdlib.h>
 #include <string.h>
 
 #include "../wrong_disk.h"
+#include "../wrong_sectors.h"
 #include "../wrong_tidy.h"
 #include "model.h"
 #include "raid2d.h"
@@ -287,16 +289,17 @@ static uint32_t spoil_left(uint32_t status, struct grid g, size_t block,
     return status;
 }
 
-/* What ../wrong_tidy.c stands before. */
+/* What ../wrong_tidy.c and ../wrong_sectors.c stand before. */
 uint32_t right_follow(size_t rows, size_t columns, size_t block,
-                      uint8_t *array, size_t array_len,
+                      uint8_t *array, size_t array_len, size_t sector,
                       const uint8_t *map, size_t map_len,
-                      const uint8_t *sheet, size_t sheet_len, size_t *count)
+                      const uint8_t *sheets, size_t sheets_len,
+                      size_t *count)
 {
     struct grid g = {rows, columns};
 
-    return model_follow(g, block, array, array_len, map, map_len, sheet,
-                        sheet_len, count);
+    return model_follow(g, block, array, array_len, sector, map, map_len,
+                        sheets, sheets_len, count);
 }
 
 uint32_t right_tidy(uint8_t *sheet, size_t sheet_len)
@@ -337,11 +340,12 @@ static uint32_t follow_with_fault(struct grid g, size_t block,
     return spoil_left(status, g, block, array, array_len, map, count);
 }
 
-uint32_t raid2d_follow(size_t rows, size_t columns, size_t block,
-                       uint8_t *array, size_t array_len,
-                       const uint8_t *map, size_t map_len,
-                       const uint8_t *sheet, size_t sheet_len,
-                       size_t *count)
+/* Follow on blocks as one sector. */
+static uint32_t follow_one(size_t rows, size_t columns, size_t block,
+                           uint8_t *array, size_t array_len,
+                           const uint8_t *map, size_t map_len,
+                           const uint8_t *sheet, size_t sheet_len,
+                           size_t *count)
 {
     struct grid g = grid_of_follow(rows, columns);
 
@@ -355,10 +359,27 @@ uint32_t raid2d_follow(size_t rows, size_t columns, size_t block,
         return 5;
     if (!grid_fits(g) || map_len != disks_of(g) || sheet_len != SHEET_BYTES ||
         block < 1 || block > 4096 || array_len != map_len * block)
-        return model_follow(g, block, array, array_len, map, map_len,
+        return model_follow(g, block, array, array_len, block, map, map_len,
                             sheet, sheet_len, count);
     return follow_with_fault(g, block, array, array_len, map, map_len, sheet,
                              count);
+}
+
+uint32_t raid2d_follow(size_t rows, size_t columns, size_t block,
+                       uint8_t *array, size_t array_len, size_t sector,
+                       const uint8_t *map, size_t map_len,
+                       const uint8_t *sheets, size_t sheets_len,
+                       size_t *count)
+{
+    const struct cut c = {rows, columns, block, array, array_len, sector, 1,
+                          (uint8_t *)(size_t)map, map_len,
+                          (uint8_t *)(size_t)sheets, sheets_len, 0, 0, count,
+                          NULL};
+
+    if (sector != block)
+        return follow_in_sectors(c);
+    return follow_one(rows, columns, block, array, array_len, map, map_len,
+                      sheets, sheets_len, count);
 }
 
 /* ---- tidy */
@@ -497,9 +518,10 @@ static uint32_t plan_with_fault(struct grid g, const uint8_t *map,
     return 6;
 }
 
-uint32_t raid2d_plan(size_t rows, size_t columns,
-                     const uint8_t *map, size_t map_len,
-                     uint8_t *sheet, size_t sheet_len, size_t *count)
+/* Plan for one position. */
+static uint32_t plan_one(size_t rows, size_t columns,
+                         const uint8_t *map, size_t map_len,
+                         uint8_t *sheet, size_t sheet_len, size_t *count)
 {
     struct grid g = half_tested(rows, columns,
                                 wrong("plan tests the columns only"),
@@ -520,6 +542,106 @@ uint32_t raid2d_plan(size_t rows, size_t columns,
     return plan_with_fault(grid_to_plan_in(g), map, map_len, sheet, count);
 }
 
+/* Plans each position, up to a fatal one. The other sheets are zero then. */
+static uint32_t plan_each(struct grid g, size_t sectors, const uint8_t *map,
+                          uint8_t *sheets, size_t *count, size_t *position)
+{
+    uint8_t column[DISKS_MAX];
+    size_t repairs = 0, here = 0, p;
+
+    for (p = 0; p < sectors; p++) {
+        uint8_t *sheet = sheets + p * SHEET_BYTES;
+
+        read_column(g, sectors, map, p, column);
+        if (plan_with_fault(g, column, disks_of(g), sheet, &here) == 6) {
+            memset(sheets, 0, p * SHEET_BYTES);
+            memset(sheet + SHEET_BYTES, 0, (sectors - p - 1) * SHEET_BYTES);
+            *count = here;
+            *position = p;
+            return 6;
+        }
+        repairs += here;
+    }
+    *count = repairs;
+    return 0;
+}
+
+/* What ../wrong_sectors.c stands before. */
+uint32_t right_plan(size_t rows, size_t columns, size_t sectors,
+                    const uint8_t *map, size_t map_len,
+                    uint8_t *sheets, size_t sheets_len,
+                    size_t *count, size_t *position)
+{
+    struct grid g = {rows, columns};
+    size_t i;
+
+    if (!grid_fits(g))
+        return 1;
+    if (sectors < 1 || sectors > SECTORS_MAX)
+        return 16;
+    if (map_len != disks_of(g) * sectors)
+        return 4;
+    for (i = 0; i < map_len; i++)
+        if (map[i] > 1)
+            return 4;
+    if (sheets_len != SHEET_BYTES * sectors)
+        return 5;
+    return plan_each(g, sectors, map, sheets, count, position);
+}
+
+uint32_t raid2d_plan(size_t rows, size_t columns, size_t sectors,
+                     const uint8_t *map, size_t map_len,
+                     uint8_t *sheets, size_t sheets_len,
+                     size_t *count, size_t *position)
+{
+    const struct cut c = {rows, columns, 0, NULL, 0, 0, sectors,
+                          (uint8_t *)(size_t)map, map_len, sheets, sheets_len,
+                          0, 0, count, position};
+    uint32_t status;
+
+    if (sectors != 1)
+        return plan_in_sectors(c);
+    status = plan_one(rows, columns, map, map_len, sheets, sheets_len, count);
+    if (status == 6)
+        *position = 0;
+    return status;
+}
+
+/* ---- look */
+
+size_t right_look(size_t rows, size_t columns, size_t block,
+                  const uint8_t *array, size_t array_len, size_t sector,
+                  const uint8_t *map, size_t map_len,
+                  size_t disk, size_t *offset)
+{
+    struct grid g = {rows, columns};
+
+    (void)array;
+    return model_look(g, block, array_len, sector, map, map_len, disk, offset);
+}
+
+size_t raid2d_look(size_t rows, size_t columns, size_t block,
+                   const uint8_t *array, size_t array_len, size_t sector,
+                   const uint8_t *map, size_t map_len,
+                   size_t disk, size_t *offset)
+{
+    struct grid g = half_tested(rows, columns,
+                                wrong("look tests the columns only"),
+                                wrong("look tests the rows only"));
+    struct cut c = {g.rows, g.columns, block, (uint8_t *)(size_t)array,
+                    array_len, sector, 1, (uint8_t *)(size_t)map, map_len,
+                    NULL, 0, 0, disk, offset, NULL};
+
+    if (wrong("look shortens the disk to a byte"))
+        c.disk = (uint8_t)disk;
+    if (wrong("look writes the offset with 0"))
+        *offset = 0;
+    if (wrong("look takes the number behind the last disk") &&
+        disk == disks_of(g))
+        c.disk = disk - 1;
+    return look_in_sectors(c);
+}
+
 /* ---- plan_disk */
 
 /* What ../wrong_disk.c stands before: plan refuses first, and then the model
@@ -532,8 +654,8 @@ uint32_t right_plan_disk(size_t rows, size_t columns,
     struct grid g = {rows, columns};
     uint8_t unused[SHEET_BYTES];
     size_t repairs;
-    uint32_t status = raid2d_plan(rows, columns, map, map_len, unused,
-                                  sheet_len, &repairs);
+    uint32_t status = plan_one(rows, columns, map, map_len, unused,
+                               sheet_len, &repairs);
 
     if (status != 0 && status != 6)
         return status;
@@ -541,8 +663,7 @@ uint32_t right_plan_disk(size_t rows, size_t columns,
         return 15;
     repairs = plan_for_disk(g, map, disk, sheet);
     if (repairs == 0)
-        return raid2d_plan(rows, columns, map, map_len, sheet, sheet_len,
-                           count);
+        return plan_one(rows, columns, map, map_len, sheet, sheet_len, count);
     *count = repairs;
     return 0;
 }
@@ -582,8 +703,8 @@ uint32_t raid2d_plan_disk(size_t rows, size_t columns,
 
 /* ---- rebuild */
 
-/* A turn with arguments that are not refused, and what plan says of its loss
-   before it. */
+/* A turn on blocks as one sector, with arguments that are not refused, and what
+   plan says of its loss before it. */
 struct turn {
     struct grid grid;
     size_t block;
@@ -593,7 +714,7 @@ struct turn {
     size_t map_len;
     uint8_t *sheet;
     size_t limit;
-    size_t *count;
+    size_t *count, *position;
     uint8_t map_before[DISKS_MAX], planned[SHEET_BYTES];
     size_t repairs, lost;
 };
@@ -726,16 +847,16 @@ static uint32_t spoil_fatal(struct turn *t)
     struct grid g = t->grid;
     size_t unused;
 
-    raid2d_plan(g.rows, g.columns, t->map_before, t->map_len, t->sheet,
-                SHEET_BYTES, t->count);
+    plan_one(g.rows, g.columns, t->map_before, t->map_len, t->sheet,
+             SHEET_BYTES, t->count);
     if (wrong("clears the map with 6"))
         memset(t->map, 0, t->map_len);
     if (wrong("makes a fatal loss's repairs first") && t->limit <= t->repairs)
         return 0;
     if (wrong("rebuild shows another loop than plan")) {
         drop_last(g, t->map_before);
-        raid2d_plan(g.rows, g.columns, t->map_before, t->map_len, t->sheet,
-                    SHEET_BYTES, &unused);
+        plan_one(g.rows, g.columns, t->map_before, t->map_len, t->sheet,
+                 SHEET_BYTES, &unused);
     }
     return 6;
 }
@@ -750,8 +871,8 @@ static uint32_t rebuild_with_fault(struct turn *t)
         t->limit > 0 && t->limit < t->repairs)
         return take_last(t);
     status = model_rebuild(t->grid, t->block, t->array, t->array_len,
-                           t->map, t->map_len, t->sheet, SHEET_BYTES,
-                           t->limit, t->count);
+                           t->block, t->map, t->map_len, t->sheet, SHEET_BYTES,
+                           t->limit, t->count, t->position);
     if (status == 0)
         return spoil_made(t);
     if (status == 7)
@@ -770,8 +891,8 @@ static uint32_t refusal_before_limit(struct turn *t, size_t sheet_len)
     if (wrong("rebuild takes any longer sheet") && sheet_len > SHEET_BYTES)
         sheet_len = SHEET_BYTES;
     status = model_rebuild(t->grid, t->block, t->array, t->array_len,
-                           t->map, t->map_len, t->sheet, sheet_len, 0,
-                           t->count);
+                           t->block, t->map, t->map_len, t->sheet, sheet_len,
+                           0, t->count, t->position);
     if (wrong("tests rebuild's map before its array") && status == 3 &&
         t->map_len != disks_of(t->grid))
         return 4;
@@ -781,22 +902,51 @@ static uint32_t refusal_before_limit(struct turn *t, size_t sheet_len)
     return status;
 }
 
-uint32_t raid2d_rebuild(size_t rows, size_t columns, size_t block,
-                        uint8_t *array, size_t array_len,
-                        uint8_t *map, size_t map_len,
-                        uint8_t *sheet, size_t sheet_len,
-                        size_t limit, size_t *count)
+/* Rebuild on blocks as one sector. */
+static uint32_t rebuild_one(const struct cut *c)
 {
-    struct grid g = half_tested(rows, columns,
+    struct grid g = half_tested(c->rows, c->columns,
                                 wrong("rebuild tests the columns only"),
                                 wrong("rebuild tests the rows only"));
-    struct turn t = {g, block, array, array_len, map, map_len, sheet, limit,
-                     count, {0}, {0}, 0, 0};
-    uint32_t status = refusal_before_limit(&t, sheet_len);
+    struct turn t = {g, c->block, c->array, c->array_len, c->map, c->map_len,
+                     c->sheets, c->limit, c->count, c->position,
+                     {0}, {0}, 0, 0};
+    uint32_t status = refusal_before_limit(&t, c->sheets_len);
 
     if (status != 12)
         return status;
     if (wrong("rebuild swaps rows and columns"))
         t.grid = swapped(t.grid);
     return rebuild_with_fault(&t);
+}
+
+/* What ../wrong_sectors.c stands before. The model leaves the sheets of a fatal
+   loss alone. */
+uint32_t right_rebuild(size_t rows, size_t columns, size_t block,
+                       uint8_t *array, size_t array_len, size_t sector,
+                       uint8_t *map, size_t map_len,
+                       uint8_t *sheets, size_t sheets_len,
+                       size_t limit, size_t *count, size_t *position)
+{
+    struct grid g = {rows, columns};
+    uint32_t status = model_rebuild(g, block, array, array_len, sector, map,
+                                    map_len, sheets, sheets_len, limit, count,
+                                    position);
+
+    if (status == 6)
+        plan_each(g, block / sector, map, sheets, count, position);
+    return status;
+}
+
+uint32_t raid2d_rebuild(size_t rows, size_t columns, size_t block,
+                        uint8_t *array, size_t array_len, size_t sector,
+                        uint8_t *map, size_t map_len,
+                        uint8_t *sheets, size_t sheets_len,
+                        size_t limit, size_t *count, size_t *position)
+{
+    const struct cut c = {rows, columns, block, array, array_len, sector, 1,
+                          map, map_len, sheets, sheets_len, limit, 0, count,
+                          position};
+
+    return sector == block ? rebuild_one(&c) : rebuild_in_sectors(c);
 }

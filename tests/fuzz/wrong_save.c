@@ -1,8 +1,10 @@
 /*
  * The stand-in's save: the model's, with the one fault that is wanted, or none.
+ * These faults are in blocks as one sector.
  */
 #include <string.h>
 
+#include "../wrong_sectors.h"
 #include "model.h"
 #include "raid2d.h"
 #include "wrong.h"
@@ -158,7 +160,7 @@ static uint32_t save_refusal(struct saving *s)
     static const uint8_t clear[DISKS_MAX];
     size_t disk, unused;
     uint32_t status = model_save(s->grid, s->block, s->array, s->array_len,
-                                 clear, s->map_len, &unused);
+                                 s->block, clear, s->map_len, &unused);
 
     if (wrong("tests save's map before its array") && status == 3 &&
         s->map_len != disks_of(s->grid))
@@ -171,29 +173,49 @@ static uint32_t save_refusal(struct saving *s)
     return status == 7 ? 0 : status;
 }
 
-uint32_t raid2d_save(size_t rows, size_t columns, size_t block,
-                     uint8_t *array, size_t array_len,
-                     const uint8_t *map, size_t map_len, size_t *count)
+/* Save on blocks as one sector. */
+static uint32_t save_one(const struct cut *c)
 {
-    struct grid g = half_tested(rows, columns,
+    struct grid g = half_tested(c->rows, c->columns,
                                 wrong("save tests the columns only"),
                                 wrong("save tests the rows only"));
-    struct saving s = {g, block, array, array_len, map, map_len, count,
-                       {0}, {0}, {0}, 0, 0, 0};
+    struct saving s = {g, c->block, c->array, c->array_len, c->map,
+                       c->map_len, c->count, {0}, {0}, {0}, 0, 0, 0};
     uint32_t status;
 
     if (wrong("save swaps rows and columns"))
         s.grid = swapped(g);
     if (wrong("save shortens block to 32 bits"))
-        s.block = (uint32_t)block;
+        s.block = (uint32_t)c->block;
     status = save_refusal(&s);
     if (status != 0)
         return status;
     plan_saving(&s);
-    status = model_save(s.grid, s.block, array, array_len, map, map_len,
-                        count);
+    status = model_save(s.grid, s.block, s.array, s.array_len, s.block, s.map,
+                        s.map_len, s.count);
     touch_map(&s);
     if (status == 7)
         return spoil_unsaved(&s);
     return status == 0 ? spoil_saved(&s) : 0;
+}
+
+/* What ../wrong_sectors.c stands before. */
+uint32_t right_save(size_t rows, size_t columns, size_t block,
+                    uint8_t *array, size_t array_len, size_t sector,
+                    const uint8_t *map, size_t map_len, size_t *count)
+{
+    struct grid g = {rows, columns};
+
+    return model_save(g, block, array, array_len, sector, map, map_len, count);
+}
+
+uint32_t raid2d_save(size_t rows, size_t columns, size_t block,
+                     uint8_t *array, size_t array_len, size_t sector,
+                     const uint8_t *map, size_t map_len, size_t *count)
+{
+    const struct cut c = {rows, columns, block, array, array_len, sector, 1,
+                          (uint8_t *)(size_t)map, map_len, NULL, 0, 0, 0,
+                          count, NULL};
+
+    return sector == block ? save_one(&c) : save_in_sectors(c);
 }

@@ -11,7 +11,7 @@ use crate::{losses, model, sheets};
 const LONGEST: usize = 1 << 21;
 
 /// One argument in so many is bad.
-const BAD: usize = 6;
+pub const BAD: usize = 6;
 
 /// Numbers that become the good one, or nearly, where a call narrows them or lets a product overflow.
 fn wrapping(random: &mut Random, good: usize) -> usize {
@@ -22,7 +22,7 @@ fn wrapping(random: &mut Random, good: usize) -> usize {
 }
 
 /// The good number, or now and then one of the near misses or one that wraps.
-fn number(random: &mut Random, good: usize, misses: &[usize]) -> usize {
+pub fn number(random: &mut Random, good: usize, misses: &[usize]) -> usize {
     if !random.one_in(BAD) {
         return good;
     }
@@ -33,7 +33,7 @@ fn number(random: &mut Random, good: usize, misses: &[usize]) -> usize {
 }
 
 /// Rows or columns: the good number, or now and then another.
-fn side(random: &mut Random, good: usize) -> usize {
+pub fn side(random: &mut Random, good: usize) -> usize {
     number(random, good, &[0, 1, SIDE_MIN, SIDE_MAX, SIDE_MAX + 1, SIDE_MAX + 2, 255, 256])
 }
 

@@ -11,7 +11,7 @@ use crate::size::{Grid, Size};
 use crate::tally::{must, show};
 use crate::turns::repairs_of;
 use crate::wanted::losses_of;
-use crate::{cores, ffi, Run};
+use crate::{cores, ffi, whole, Run};
 
 /// Random sizes, each with losses of all kinds, in parts.
 const PARTS: usize = 50;
@@ -56,7 +56,7 @@ impl Loss<'_> {
     /// The disk can be looked at, and it is what it was before the loss.
     fn judge_look(&self, (array, map): &State, disk: usize) -> Result<(), String> {
         let block = self.size.block;
-        let looked = ffi::look(self.size, array, map, disk)?;
+        let looked = whole::look(self.size, array, map, disk)?;
         must(looked == Outcome::reading(block, Some(disk * block)), "the disk is not handed out")?;
         let part = disk * block..(disk + 1) * block;
         must(self.sealed.map_or(true, |sealed| array[part.clone()] == sealed[part]), "the disk has another block")
@@ -64,8 +64,8 @@ impl Loss<'_> {
 
     /// Rebuild of what is left says what it says of the whole loss, and then leaves the same array. Fatal losses stay so.
     fn judge_rest(&self, (array, map): &State) -> Result<(), String> {
-        let whole = ffi::rebuild(self.size, self.array, self.map, &[0; SHEET], AT_ONCE)?;
-        let rest = ffi::rebuild(self.size, array, map, &[0; SHEET], AT_ONCE)?;
+        let whole = whole::rebuild(self.size, self.array, self.map, &[0; SHEET], AT_ONCE)?;
+        let rest = whole::rebuild(self.size, array, map, &[0; SHEET], AT_ONCE)?;
         must(rest.answer == whole.answer, "rebuild of what is left answers otherwise")?;
         must(rest.answer != FATAL || rest.out == whole.out, "another number of disks is lost")?;
         must(rest.answer != SUCCESS || rest.written[..2] == whole.written[..2], "rebuild leaves something else")?;
@@ -75,12 +75,12 @@ impl Loss<'_> {
 
     /// The list and then that of plan for what is left can be followed as one, where the loss is not fatal.
     fn judge_followed(&self, list: &[Record], (_, left): &State) -> Result<(), String> {
-        let rest = ffi::plan(self.grid(), left, &[0; SHEET])?;
+        let rest = whole::plan(self.grid(), left, &[0; SHEET])?;
         let Some(sealed) = self.sealed.filter(|_| rest.answer == SUCCESS) else {
             return Ok(());
         };
         let all = [list, &repairs_of(&rest.written[0])?].concat();
-        let followed = ffi::follow(self.size, self.array, self.map, &of_repairs(&all))?;
+        let followed = whole::follow(self.size, self.array, self.map, &of_repairs(&all))?;
         let expected =
             Outcome { answer: SUCCESS, out: Some(erased_disks(self.map).len()), written: vec![sealed.to_vec()] };
         must(followed == expected, "the two lists together are not followed")
@@ -90,7 +90,7 @@ impl Loss<'_> {
         let found = ffi::plan_disk(self.grid(), self.map, &[0; SHEET], disk)?;
         must(found.answer == if reached { SUCCESS } else { FATAL }, "another answer than repairs give")?;
         if !reached {
-            return must(found == ffi::plan(self.grid(), self.map, &[0; SHEET])?, "with 6 it is not plan's answer");
+            return must(found == whole::plan(self.grid(), self.map, &[0; SHEET])?, "with 6 it is not plan's answer");
         }
         let list = repairs_of(&found.written[0])?;
         must(found.out == Some(list.len()), "it counts other repairs than it lists")?;

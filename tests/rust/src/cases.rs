@@ -8,7 +8,7 @@ use crate::outcome::Outcome;
 use crate::rebuild::AT_ONCE;
 use crate::sheet::SHEET;
 use crate::size::{Grid, Size};
-use crate::{branch, ffi, model, shortest, Run};
+use crate::{branch, ffi, model, shortest, whole, Run};
 
 /// An array of known bytes, sealed but where it is called damaged.
 #[derive(Clone, Copy)]
@@ -72,7 +72,7 @@ fn plan(run: &mut Run, case: &str, grid: Grid, map: &[u8], status: usize, count:
     if status == FATAL {
         model.written = expected.written.clone();
     }
-    stated(run, &format!("{case}, plan"), expected, || ffi::plan(grid, map, &OLD), model);
+    stated(run, &format!("{case}, plan"), expected, || whole::plan(grid, map, &OLD), model);
 }
 
 /// As many disks can be searched.
@@ -121,7 +121,7 @@ fn rebuild(run: &mut Run, case: &str, size: Size, array: &[u8], map: &[u8], limi
         model.written[2] = expected.written[2].clone();
     }
     let case = format!("{case}, rebuild, limit {limit}");
-    stated(run, &case, expected, || ffi::rebuild(size, &lost, map, &OLD, limit), model);
+    stated(run, &case, expected, || whole::rebuild(size, &lost, map, &OLD, limit), model);
 }
 
 /// A turn of rebuild on the known array that leaves these of the marked cards, and lists the repairs of the others.
@@ -145,7 +145,7 @@ fn no_repairs(run: &mut Run, case: &str, known: Known, marked: &[usize]) {
 fn follow(run: &mut Run, case: &str, size: Size, array: &[u8], map: &[u8], begins: &[u8], expected: Outcome) {
     let (lost, sheet) = (lost(size, array, map), sheet(begins));
     let model = model::follow(size, &lost, map, &sheet);
-    stated(run, &format!("{case}, follow"), expected, || ffi::follow(size, &lost, map, &sheet), model);
+    stated(run, &format!("{case}, follow"), expected, || whole::follow(size, &lost, map, &sheet), model);
 }
 
 /// The same of tidy, on a sheet from elsewhere.
@@ -157,7 +157,7 @@ fn tidy(run: &mut Run, case: &str, sheet: &[u8], expected: Outcome) {
 fn save(run: &mut Run, case: &str, size: Size, array: &[u8], map: &[u8], expected: Outcome) {
     let lost = lost(size, array, map);
     let model = model::save(size, &lost, map);
-    stated(run, &format!("{case}, save"), expected, || ffi::save(size, &lost, map), model);
+    stated(run, &format!("{case}, save"), expected, || whole::save(size, &lost, map), model);
 }
 
 /// Save on the known array brings back all marked cards but those left, which are lost.
@@ -415,17 +415,17 @@ fn refused(run: &mut Run, case: &str, size: Size, map: &[u8], status: usize) {
         let expected = Outcome { answer: status, out: None, written };
         let model = model::rebuild(size, &array, map, &OLD, limit);
         let case = format!("{case}, rebuild, limit {limit}");
-        stated(run, &case, expected, || ffi::rebuild(size, &array, map, &OLD, limit), model);
+        stated(run, &case, expected, || whole::rebuild(size, &array, map, &OLD, limit), model);
     }
     let expected = Outcome::writing(status, array.clone());
     let model = model::follow(size, &array, map, &OLD);
-    stated(run, &format!("{case}, follow"), expected.clone(), || ffi::follow(size, &array, map, &OLD), model);
+    stated(run, &format!("{case}, follow"), expected.clone(), || whole::follow(size, &array, map, &OLD), model);
     let model = model::save(size, &array, map);
-    stated(run, &format!("{case}, save"), expected, || ffi::save(size, &array, map), model);
+    stated(run, &format!("{case}, save"), expected, || whole::save(size, &array, map), model);
     if status != 2 {
         let expected = Outcome { answer: status, out: None, written: vec![OLD.to_vec()] };
         let model = model::plan(size.grid, map, &OLD);
-        stated(run, &format!("{case}, plan"), expected.clone(), || ffi::plan(size.grid, map, &OLD), model);
+        stated(run, &format!("{case}, plan"), expected.clone(), || whole::plan(size.grid, map, &OLD), model);
         plan_disk(run, case, size.grid, map, 0, expected);
     }
 }
@@ -433,7 +433,7 @@ fn refused(run: &mut Run, case: &str, size: Size, map: &[u8], status: usize) {
 /// Look at disk 0 of a size that is refused: nothing is handed back.
 fn empty(run: &mut Run, case: &str, size: Size, array: &[u8], map: &[u8]) {
     let model = model::look(size, array, map, 0);
-    stated(run, &format!("{case}, look"), Outcome::reading(0, None), || ffi::look(size, array, map, 0), model);
+    stated(run, &format!("{case}, look"), Outcome::reading(0, None), || whole::look(size, array, map, 0), model);
 }
 
 /// Case 10 for all calls, with each number too small or too large alone and with both so.
@@ -498,7 +498,7 @@ fn blocks(run: &mut Run) {
 /// What plan answers, by the library and by the model.
 fn planned(grid: Grid, map: &[u8]) -> [Outcome; 2] {
     let none = |_| Outcome::reading(usize::MAX, None);
-    [ffi::plan(grid, map, &OLD).unwrap_or_else(none), model::plan(grid, map, &OLD)]
+    [whole::plan(grid, map, &OLD).unwrap_or_else(none), model::plan(grid, map, &OLD)]
 }
 
 /// A number that is counted is expected of the library and of the model.

@@ -32,7 +32,7 @@ impl Done<'_> {
 /// Does the work of each part, the last one first, and adds up what the parts count. A trace is written by one core, so
 /// that its last line is the last call.
 pub fn share(run: &mut Run, name: &str, parts: usize, work: impl Fn(&mut Run, usize) + Sync) {
-    let (seed, trace) = (run.random.next(), run.tally.trace);
+    let (seed, trace, calls) = (run.random.next(), run.tally.trace, run.calls);
     let taken = AtomicUsize::new(0);
     let done = Mutex::new(Done { tally: &mut run.tally, parts: 0, printed: Instant::now() });
     let core = || loop {
@@ -42,7 +42,8 @@ pub fn share(run: &mut Run, name: &str, parts: usize, work: impl Fn(&mut Run, us
         }
         let part = parts - 1 - turn;
         guard::restart();
-        let mut own = Run { random: Random::new(seed.wrapping_add(part as u64)), tally: Tally::new(trace) };
+        let random = Random::new(seed.wrapping_add(part as u64));
+        let mut own = Run { random, tally: Tally::new(trace), calls };
         work(&mut own, part);
         done.lock().expect("no core has failed").add(name, parts, own.tally);
     };

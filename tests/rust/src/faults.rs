@@ -35,7 +35,7 @@ fn faultless(random: &mut Random) -> Arguments {
 }
 
 /// One byte more or less, or another wrong length.
-fn resize(random: &mut Random, bytes: &mut Vec<u8>) {
+pub fn resize(random: &mut Random, bytes: &mut Vec<u8>) {
     let right = bytes.len();
     while bytes.len() == right {
         let length = arguments::length(random, right);
@@ -44,7 +44,7 @@ fn resize(random: &mut Random, bytes: &mut Vec<u8>) {
 }
 
 /// A number of rows or columns that is out of range; some of them would be the good one if they were shortened.
-fn wrong_side(random: &mut Random, good: usize) -> usize {
+pub fn wrong_side(random: &mut Random, good: usize) -> usize {
     random.pick(&[0, 1, 16, good + 256, good + (1 << 32), usize::MAX - 1, usize::MAX])
 }
 

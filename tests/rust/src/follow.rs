@@ -6,7 +6,7 @@ use crate::rebuild::AT_ONCE;
 use crate::sheet::SHEET;
 use crate::size::Size;
 use crate::tally::{show, Tally};
-use crate::{arguments, ffi, losses, model, sheets, Run};
+use crate::{arguments, losses, model, sheets, whole, Run};
 
 pub fn words(size: Size, array: &[u8], map: &[u8], sheet: &str) -> String {
     let (array, map) = (show(array), show(map));
@@ -17,7 +17,7 @@ pub fn words(size: Size, array: &[u8], map: &[u8], sheet: &str) -> String {
 pub fn compare(tally: &mut Tally, size: Size, array: &[u8], map: &[u8], sheet: &[u8]) -> Outcome {
     let expected = model::follow(size, array, map, sheet);
     let input = || words(size, array, map, &show(sheet));
-    tally.compare(input, &expected, || ffi::follow(size, array, map, sheet));
+    tally.compare(input, &expected, || whole::follow(size, array, map, sheet));
     expected
 }
 
@@ -59,8 +59,8 @@ fn several_sheets(run: &mut Run, size: Size, array: &[u8], map: &[u8]) {
     let rebuilt = model::rebuild(size, array, map, &[0; SHEET], AT_ONCE);
     let input = || words(size, array, map, "of plan");
     run.tally.compare(input, &as_rebuild(&rebuilt, OUT_OF_RANGE), || {
-        let planned = ffi::plan(size.grid, map, &[0; SHEET])?.written.remove(0);
-        ffi::follow(size, array, map, &planned)
+        let planned = whole::plan(size.grid, map, &[0; SHEET])?.written.remove(0);
+        whole::follow(size, array, map, &planned)
     });
     scattered(run, size, array, map, &rebuilt);
 }

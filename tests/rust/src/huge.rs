@@ -5,12 +5,16 @@ use crate::guard::Out;
 use crate::outcome::Outcome;
 use crate::rebuild::AT_ONCE;
 use crate::sheet::SHEET;
+use crate::tally::must;
 use crate::{ffi, Run};
 
-/// Two rows, three columns and blocks of one byte: twelve disks, twelve bytes.
-const RIGHT: usize = 12;
-const ARRAY: [u8; RIGHT] = [7; RIGHT];
-const MAP: [u8; RIGHT] = [0; RIGHT];
+/// Two rows and three columns: twelve disks, and twelve bytes of array and of map for each byte of a block.
+const DISKS: usize = 12;
+/// How many sectors there are, of one byte each.
+const SECTORS: [usize; 3] = [1, 2, 5];
+const MOST_SECTORS: usize = 5;
+/// What a length has too much.
+const MORE: usize = 1 << 32;
 
 /// Zeros that the system lends without touching them, none where it will not.
 fn zeros(length: usize) -> Option<Vec<u8>> {
@@ -21,69 +25,107 @@ fn zeros(length: usize) -> Option<Vec<u8>> {
     Some(vec![0; length])
 }
 
-fn refused(run: &mut Run, call: &str, status: usize, found: usize, out: Out) {
-    let answer = || Ok(Outcome::reading(found, out.value()?));
+fn refused<const N: usize>(run: &mut Run, call: &str, status: usize, found: usize, outs: [Out; N]) {
+    let answer = || {
+        for out in outs {
+            must(out.value()?.is_none(), "an out-parameter is written")?;
+        }
+        Ok(Outcome::reading(found, None))
+    };
     run.tally.compare(|| format!("{call} of 2^32 bytes too many"), &Outcome::reading(status, None), answer);
 }
 
-/// Plan, plan for one disk, rebuild, follow, save and tidy with a buffer that has 2^32 bytes more than it should.
-fn maps_and_sheets(run: &mut Run, at: *mut u8) {
-    let (len, sheet_len) = ((1 << 32) + RIGHT, (1 << 32) + SHEET);
-    let (mut array, mut map, mut sheet) = (ARRAY, MAP, [7; SHEET]);
-    let (array, map, sheet) = (array.as_mut_ptr(), map.as_mut_ptr(), sheet.as_mut_ptr());
-    let mut out: [Out; 13] = std::array::from_fn(|_| Out::new());
-    let counts = out.each_mut().map(|out| out.pointer());
-    let found = unsafe {
-        [
-            ("plan, map", 4, ffi::raid2d_plan(2, 3, at, len, sheet, SHEET, counts[0])),
-            ("plan, sheet", 5, ffi::raid2d_plan(2, 3, map, RIGHT, at, sheet_len, counts[1])),
-            ("rebuild, array", 3, ffi::raid2d_rebuild(2, 3, 1, at, len, map, RIGHT, sheet, SHEET, AT_ONCE, counts[2])),
-            ("rebuild, map", 4, ffi::raid2d_rebuild(2, 3, 1, array, RIGHT, at, len, sheet, SHEET, AT_ONCE, counts[3])),
-            (
-                "rebuild, sheet",
-                5,
-                ffi::raid2d_rebuild(2, 3, 1, array, RIGHT, map, RIGHT, at, sheet_len, AT_ONCE, counts[4]),
-            ),
-            ("follow, array", 3, ffi::raid2d_follow(2, 3, 1, at, len, map, RIGHT, sheet, SHEET, counts[5])),
-            ("follow, map", 4, ffi::raid2d_follow(2, 3, 1, array, RIGHT, at, len, sheet, SHEET, counts[6])),
-            ("follow, sheet", 5, ffi::raid2d_follow(2, 3, 1, array, RIGHT, map, RIGHT, at, sheet_len, counts[7])),
-            ("save, array", 3, ffi::raid2d_save(2, 3, 1, at, len, map, RIGHT, counts[8])),
-            ("save, map", 4, ffi::raid2d_save(2, 3, 1, array, RIGHT, at, len, counts[9])),
-            ("plan_disk, map", 4, ffi::raid2d_plan_disk(2, 3, at, len, sheet, SHEET, 0, counts[10])),
-            ("plan_disk, sheet", 5, ffi::raid2d_plan_disk(2, 3, map, RIGHT, at, sheet_len, 0, counts[11])),
-            // Tidy has no count: its number stays untouched.
-            ("tidy, sheet", 5, ffi::raid2d_tidy(at, sheet_len)),
-        ]
+/// A pointer that is valid for its length, as the wrappers of ffi see to elsewhere.
+type Buffer = (*mut u8, usize);
+
+fn look(run: &mut Run, wrong: &str, block: usize, array: Buffer, map: Buffer) {
+    let mut offset = Out::new();
+    let length = unsafe { ffi::raid2d_look(2, 3, block, array.0, array.1, 1, map.0, map.1, 0, offset.pointer()) };
+    refused(run, &format!("look, {wrong}"), 0, length, [offset]);
+}
+
+fn plan(run: &mut Run, wrong: &str, due: usize, sectors: usize, map: Buffer, sheets: Buffer) {
+    let (mut count, mut position) = (Out::new(), Out::new());
+    let outs = (count.pointer(), position.pointer());
+    let status = unsafe { ffi::raid2d_plan(2, 3, sectors, map.0, map.1, sheets.0, sheets.1, outs.0, outs.1) };
+    refused(run, &format!("plan, {wrong}"), due, status as usize, [count, position]);
+}
+
+fn rebuild(run: &mut Run, wrong: &str, due: usize, block: usize, [array, map, sheets]: [Buffer; 3]) {
+    let (mut count, mut position) = (Out::new(), Out::new());
+    let outs = (count.pointer(), position.pointer());
+    #[rustfmt::skip]
+    let status = unsafe {
+        ffi::raid2d_rebuild(2, 3, block, array.0, array.1, 1, map.0, map.1, sheets.0, sheets.1, AT_ONCE,
+                            outs.0, outs.1)
     };
-    for ((call, due, status), out) in found.into_iter().zip(out) {
-        refused(run, call, due, status as usize, out);
+    refused(run, &format!("rebuild, {wrong}"), due, status as usize, [count, position]);
+}
+
+fn follow(run: &mut Run, wrong: &str, due: usize, block: usize, [array, map, sheets]: [Buffer; 3]) {
+    let mut count = Out::new();
+    let out = count.pointer();
+    let status = unsafe { ffi::raid2d_follow(2, 3, block, array.0, array.1, 1, map.0, map.1, sheets.0, sheets.1, out) };
+    refused(run, &format!("follow, {wrong}"), due, status as usize, [count]);
+}
+
+fn save(run: &mut Run, wrong: &str, due: usize, block: usize, array: Buffer, map: Buffer) {
+    let mut count = Out::new();
+    let status = unsafe { ffi::raid2d_save(2, 3, block, array.0, array.1, 1, map.0, map.1, count.pointer()) };
+    refused(run, &format!("save, {wrong}"), due, status as usize, [count]);
+}
+
+/// The calls that take sectors, with one buffer too long at a time.
+fn with_sectors(run: &mut Run, huge: *mut u8, sectors: usize) {
+    let (mut array, mut map) = (vec![7; DISKS * sectors], vec![0; DISKS * sectors]);
+    let mut sheets = vec![7; SHEET * sectors];
+    let [array, map, sheets] = [&mut array, &mut map, &mut sheets].map(|bytes| (bytes.as_mut_ptr(), bytes.len()));
+    let (long, long_sheets) = ((huge, array.1 + MORE), (huge, sheets.1 + MORE));
+    look(run, "array", sectors, long, map);
+    look(run, "map", sectors, array, long);
+    plan(run, "map", 4, sectors, long, sheets);
+    plan(run, "sheets", 5, sectors, map, long_sheets);
+    for call in [rebuild, follow] {
+        call(run, "array", 3, sectors, [long, map, sheets]);
+        call(run, "map", 4, sectors, [array, long, sheets]);
+        call(run, "sheets", 5, sectors, [array, map, long_sheets]);
+    }
+    save(run, "array", 3, sectors, long, map);
+    save(run, "map", 4, sectors, array, long);
+}
+
+/// The others, on blocks of one byte.
+fn without_sectors(run: &mut Run, huge: *mut u8) {
+    let (mut array, mut map, mut sheet) = ([7; DISKS], [0; DISKS], [7; SHEET]);
+    let [array, map, sheet] = [&mut array[..], &mut map, &mut sheet].map(|bytes| bytes.as_mut_ptr());
+    let (len, sheet_len) = (DISKS + MORE, SHEET + MORE);
+    let [mut stripe, mut count, mut sheet_count] = [0; 3].map(|_| Out::new());
+    unsafe {
+        let status = ffi::raid2d_seal(2, 3, 1, huge, len);
+        refused(run, "seal, array", 3, status as usize, []);
+        let status = ffi::raid2d_check(2, 3, 1, huge, len, stripe.pointer());
+        refused(run, "check, array", 3, status as usize, [stripe]);
+        let status = ffi::raid2d_write(2, 3, 1, huge, len, 0, [9].as_ptr(), 1);
+        refused(run, "write, array", 3, status as usize, []);
+        let status = ffi::raid2d_write(2, 3, 1, array, DISKS, 0, huge, MORE + 1);
+        refused(run, "write, data", 9, status as usize, []);
+        let status = ffi::raid2d_plan_disk(2, 3, huge, len, sheet, SHEET, 0, count.pointer());
+        refused(run, "plan_disk, map", 4, status as usize, [count]);
+        let status = ffi::raid2d_plan_disk(2, 3, map, DISKS, huge, sheet_len, 0, sheet_count.pointer());
+        refused(run, "plan_disk, sheet", 5, status as usize, [sheet_count]);
+        let status = ffi::raid2d_tidy(huge, sheet_len);
+        refused(run, "tidy, sheet", 5, status as usize, []);
     }
 }
 
 pub fn run(run: &mut Run) {
-    let Some(mut huge) = zeros((1 << 32) + SHEET) else {
+    let Some(mut huge) = zeros(MORE + SHEET * MOST_SECTORS) else {
         println!("buffers above 2^32 bytes: left out, the system lends none");
         return;
     };
-    let (at, len) = (huge.as_mut_ptr(), (1 << 32) + RIGHT);
-    let mut array = ARRAY;
-    let array = array.as_mut_ptr();
-    let (mut stripe, mut offset, mut map_offset) = (Out::new(), Out::new(), Out::new());
-    // Every pointer is valid for its length, as the wrappers of ffi see to elsewhere.
-    unsafe {
-        let status = ffi::raid2d_seal(2, 3, 1, at, len);
-        refused(run, "seal, array", 3, status as usize, Out::new());
-        let status = ffi::raid2d_check(2, 3, 1, at, len, stripe.pointer());
-        refused(run, "check, array", 3, status as usize, stripe);
-        let status = ffi::raid2d_write(2, 3, 1, at, len, 0, [9].as_ptr(), 1);
-        refused(run, "write, array", 3, status as usize, Out::new());
-        let status = ffi::raid2d_write(2, 3, 1, array, RIGHT, 0, at, len - RIGHT + 1);
-        refused(run, "write, data", 9, status as usize, Out::new());
-        let length = ffi::raid2d_look(2, 3, 1, at, len, MAP.as_ptr(), RIGHT, 0, offset.pointer());
-        refused(run, "look, array", 0, length, offset);
-        let length = ffi::raid2d_look(2, 3, 1, array, RIGHT, at, len, 0, map_offset.pointer());
-        refused(run, "look, map", 0, length, map_offset);
+    without_sectors(run, huge.as_mut_ptr());
+    for sectors in SECTORS {
+        with_sectors(run, huge.as_mut_ptr(), sectors);
     }
-    maps_and_sheets(run, at);
     run.tally.report("buffers above 2^32 bytes", &[0, 3, 4, 5, 9]);
 }

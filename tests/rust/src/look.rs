@@ -3,14 +3,14 @@
 use crate::inputs::random_array;
 use crate::size::Size;
 use crate::tally::{show, Tally};
-use crate::{arguments, ffi, model, Run};
+use crate::{arguments, model, whole, Run};
 
 pub fn compare(tally: &mut Tally, size: Size, array: &[u8], map: &[u8], disk: usize) {
     let input = || {
         let (array, map) = (show(array), show(map));
         format!("look, {size}, disk {disk}, map {map}, array {array}")
     };
-    tally.compare(input, &model::look(size, array, map, disk), || ffi::look(size, array, map, disk));
+    tally.compare(input, &model::look(size, array, map, disk), || whole::look(size, array, map, disk));
 }
 
 /// A map of zeros and ones: none erased, all erased, or some.

@@ -253,7 +253,8 @@ pub fn of_random_sizes(run: &mut Run, name: &str, parts: usize, judge: fn(&mut R
     });
 }
 
-/// Puts random bytes on the erased disks: they count for nothing.
+/// Puts random bytes on the erased disks: they count for nothing. Where the map has a byte for each sector, the size is that
+/// of a position.
 pub fn forget(random: &mut Random, size: Size, array: &mut [u8], map: &[u8]) {
     for (disk, bytes) in array.chunks_exact_mut(size.block).enumerate() {
         if map[disk] == 1 {

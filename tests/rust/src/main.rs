@@ -1,8 +1,8 @@
 //! Compares libraid2d.a with a model written from papers 01 and 02: every answer, every out-parameter and all bytes.
 //!
 //! Without an argument the comparison is that of the gate. The argument `maps` asks instead for all maps of grids with
-//! four rows or columns, in the plan for one disk also of those with three of both, and `sets` for all losses of three and
-//! of four disks at the largest grid and at some others.
+//! four rows or columns, in the plan for one disk also of those with three of both, `sets` for all losses of three and
+//! of four disks at the largest grid and at some others, and `sectors` for what the gate has of blocks cut into sectors.
 //! RAID2D_SEED sets the seed, which is printed: the same seed gives the same run. RAID2D_LONG=1 does twenty times the
 //! random work. RAID2D_TRACE=1 prints every input before its call, for a library that ends the program. RAID2D_STOP=1
 //! ends the run with the first comparison that fails. The last line counts the comparisons; the exit status is 1 where
@@ -33,6 +33,7 @@ mod random;
 mod rebuild;
 mod save;
 mod seal;
+mod sectors;
 mod sets;
 mod sheet;
 mod sheets;
@@ -43,9 +44,11 @@ mod tally;
 mod tidy;
 mod turns;
 mod wanted;
+mod whole;
 mod write;
 
 use random::Random;
+use sectors::calls::{Calls, LIBRARY};
 use size::Size;
 use std::process::ExitCode;
 use tally::Tally;
@@ -56,6 +59,8 @@ const LONG_ROUNDS: usize = 20;
 pub struct Run {
     pub random: Random,
     pub tally: Tally,
+    /// What the comparisons with sectors call: the library, or where a fault is planted something else.
+    pub calls: Calls,
 }
 
 /// How one call is compared. A new call adds a row to the table below.
@@ -174,6 +179,7 @@ fn gate(run: &mut Run, rounds: usize) {
     save::run(run, rounds);
     wanted::run(run, rounds);
     exhaustive::run(run, rounds);
+    sectors::run(run, rounds);
 }
 
 fn main() -> ExitCode {
@@ -183,7 +189,8 @@ fn main() -> ExitCode {
     if is_set("RAID2D_STOP") {
         tally::stop_at_first();
     }
-    let mut run = Run { random: Random::new(seed), tally: Tally::new(is_set("RAID2D_TRACE")) };
+    let tally = Tally::new(is_set("RAID2D_TRACE"));
+    let mut run = Run { random: Random::new(seed), tally, calls: LIBRARY };
     match std::env::args().nth(1).as_deref() {
         None => gate(&mut run, rounds),
         Some("maps") => {
@@ -191,7 +198,8 @@ fn main() -> ExitCode {
             wanted::more_maps(&mut run);
         }
         Some("sets") => sets::run(&mut run),
-        Some(other) => panic!("{other} is neither maps nor sets"),
+        Some("sectors") => sectors::run(&mut run, rounds),
+        Some(other) => panic!("{other} is none of maps, sets and sectors"),
     }
     if run.tally.finish() {
         ExitCode::SUCCESS

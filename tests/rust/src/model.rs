@@ -21,7 +21,7 @@ pub const NOT_ALLOWED: usize = 11;
 /// The status of a limit of no repairs.
 pub const NO_REPAIRS: usize = 12;
 /// The status of a chain that reaches a record twice.
-const TWICE: usize = 13;
+pub const TWICE: usize = 13;
 /// The status of bytes off the chain that are not zero.
 pub const LEFTOVERS: usize = 14;
 /// The status of a wanted disk that the grid has not, or that is not erased.
@@ -42,7 +42,7 @@ fn column(grid: Grid, c: usize, count: usize) -> Vec<usize> {
 }
 
 /// All disks of a stripe.
-fn stripe_disks(grid: Grid, stripe: usize) -> Vec<usize> {
+pub fn stripe_disks(grid: Grid, stripe: usize) -> Vec<usize> {
     if stripe < FIRST_COLUMN {
         row(grid, stripe, grid.columns + 1)
     } else {
@@ -68,7 +68,7 @@ fn sum(array: &[u8], block: usize, disks: &[usize]) -> Vec<u8> {
 }
 
 /// Refusal 1, with which every call begins; 0 where it does not apply.
-fn side_refusal(grid: Grid) -> usize {
+pub fn side_refusal(grid: Grid) -> usize {
     let fits = |side: usize| (2..=15).contains(&side);
     if fits(grid.rows) && fits(grid.columns) {
         SUCCESS
@@ -78,7 +78,7 @@ fn side_refusal(grid: Grid) -> usize {
 }
 
 /// Refusals 1, 2 and 3, with which the calls on an array begin; 0 where none applies.
-fn array_refusal(size: Size, array: &[u8]) -> usize {
+pub fn array_refusal(size: Size, array: &[u8]) -> usize {
     if side_refusal(size.grid) != SUCCESS {
         return side_refusal(size.grid);
     }

@@ -42,3 +42,27 @@ impl Outcome {
         said.join("; ")
     }
 }
+
+/// What a call answers that also names a position.
+#[derive(Clone, PartialEq, Eq)]
+pub struct Placed {
+    pub outcome: Outcome,
+    /// The position's new value, none where it was left alone.
+    pub position: Option<usize>,
+}
+
+impl Placed {
+    /// The outcome of a call that names no position.
+    pub fn nowhere(outcome: Outcome) -> Placed {
+        Placed { outcome, position: None }
+    }
+
+    /// In words, how another outcome differs from this one, the expected one.
+    pub fn difference(&self, other: &Placed) -> String {
+        let rest = self.outcome.difference(&other.outcome);
+        if self.position == other.position {
+            return rest;
+        }
+        format!("position {:?} instead of {:?}; {rest}", other.position, self.position)
+    }
+}

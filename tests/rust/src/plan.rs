@@ -5,7 +5,7 @@ use crate::outcome::Outcome;
 use crate::sheet::{is_loop, ANY_LOOP, SHEET};
 use crate::size::{Grid, Size};
 use crate::tally::{show, Tally};
-use crate::{arguments, ffi, losses, model, tidy, Run};
+use crate::{arguments, losses, model, tidy, whole, Run};
 
 /// The outcome of plan or rebuild, whose last buffer is the sheet. Where a fatal loss is expected and found, the loop
 /// is judged, and the sheet then stands for any loop.
@@ -21,7 +21,7 @@ pub fn judged(grid: Grid, map: &[u8], expected: &Outcome, mut found: Outcome) ->
 pub fn compare(tally: &mut Tally, grid: Grid, map: &[u8], sheet: &[u8]) {
     let input = || format!("plan, {grid}, map {}, sheet {}", show(map), show(sheet));
     let expected = model::plan(grid, map, sheet);
-    tally.compare(input, &expected, || judged(grid, map, &expected, ffi::plan(grid, map, sheet)?));
+    tally.compare(input, &expected, || judged(grid, map, &expected, whole::plan(grid, map, sheet)?));
     tidy::own_sheet(tally, &expected);
 }
 

@@ -9,7 +9,7 @@ use crate::sheet::{allowed, list, of_repairs, plans_order, Record, SHEET};
 use crate::size::Grid;
 use crate::tally::must;
 use crate::wanted::{numbers, Asked};
-use crate::{arguments, branch, ffi, Run};
+use crate::{arguments, branch, ffi, whole, Run};
 
 /// Where all maps and all numbers are tried, and how many arguments good and bad are drawn.
 const GRID: Grid = Grid::new(2, 2);
@@ -157,7 +157,7 @@ const ANSWERS: [(&str, Spoil); 14] = [
     ("with 6 the loss without the disk", |asked, disk, right| {
         let mut map = asked.map.to_vec();
         map.iter_mut().skip(disk).take(1).for_each(|mark| *mark = 0);
-        match ffi::plan(asked.grid, &map, asked.sheet) {
+        match whole::plan(asked.grid, &map, asked.sheet) {
             Ok(other) if right.answer == FATAL && other.answer == FATAL => other,
             _ => right,
         }

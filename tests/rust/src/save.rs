@@ -11,7 +11,7 @@ use crate::rebuild::AT_ONCE;
 use crate::sheet::SHEET;
 use crate::size::{Grid, Size};
 use crate::tally::{must, show, Tally};
-use crate::{arguments, ffi, model, Run};
+use crate::{arguments, model, whole, Run};
 
 /// Random sizes, each with a loss of each kind, in parts.
 const PARTS: usize = 40;
@@ -24,7 +24,7 @@ fn words(size: Size, array: &[u8], map: &[u8]) -> String {
 /// Compares one call, and says which answer is due.
 pub fn compare(tally: &mut Tally, size: Size, array: &[u8], map: &[u8]) -> usize {
     let expected = model::save(size, array, map);
-    tally.compare(|| words(size, array, map), &expected, || ffi::save(size, array, map));
+    tally.compare(|| words(size, array, map), &expected, || whole::save(size, array, map));
     expected.answer
 }
 
@@ -62,8 +62,8 @@ fn as_rebuild(run: &mut Run, size: Size, array: &[u8], map: &[u8]) {
         || words(size, array, map),
         due,
         || {
-            let rebuilt = ffi::rebuild(size, array, map, &[0; SHEET], AT_ONCE)?;
-            let Outcome { answer, out, written } = ffi::save(size, array, map)?;
+            let rebuilt = whole::rebuild(size, array, map, &[0; SHEET], AT_ONCE)?;
+            let Outcome { answer, out, written } = whole::save(size, array, map)?;
             let same = (answer, out, &written[0]) == (rebuilt.answer, rebuilt.out, &rebuilt.written[0]);
             must(same || rebuilt.answer == FATAL, "save and rebuild differ on a loss that is not fatal")
         },
@@ -74,7 +74,7 @@ fn as_rebuild(run: &mut Run, size: Size, array: &[u8], map: &[u8]) {
 fn told_by_plan(grid: Grid, map: &[u8], disk: usize) -> Result<bool, String> {
     let mut without = map.to_vec();
     without[disk] = 0;
-    let [with, without] = [map, &without].map(|map| ffi::plan(grid, map, &[0; SHEET]));
+    let [with, without] = [map, &without].map(|map| whole::plan(grid, map, &[0; SHEET]));
     let (with, without) = (with?, without?);
     must(with.answer == FATAL || with.answer == SUCCESS, "plan refuses a map")?;
     must(without.answer != FATAL || without.out <= with.out, "more disks are lost where fewer are erased")?;
@@ -92,7 +92,7 @@ fn found_by_plan(run: &mut Run, size: Size, sealed: &[u8], map: &[u8]) {
         || words(size, &array, map),
         SUCCESS,
         || {
-            let saved = ffi::save(size, &array, map)?;
+            let saved = whole::save(size, &array, map)?;
             let (mut expected, mut count) = (array.clone(), 0);
             for disk in erased_disks(map) {
                 if told_by_plan(size.grid, map, disk)? {

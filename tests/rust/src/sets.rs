@@ -15,7 +15,10 @@ const SAMPLED: usize = 1_024;
 /// Guard bytes on each side of the map and of the sheet, and what they and the sheet hold before a call.
 const GUARD: usize = 64;
 const FILL: u8 = 0xa5;
-const COUNT_BEFORE: usize = 0x5aa5_c33c_9669_0ff0;
+const BEFORE: usize = 0x5aa5_c33c_9669_0ff0;
+/// Where the count and the position stand among five numbers.
+const COUNT: usize = 1;
+const POSITION: usize = 3;
 
 /// The row and the column of each disk of a grid.
 struct Places {
@@ -92,22 +95,26 @@ impl Planner {
         Planner { grid, map: blank.clone(), sheet: [FILL; SHEET + 2 * GUARD], blank, planned: 0, fatal: 0 }
     }
 
-    /// Calls plan for a loss with the middle one of three counts, and takes the loss out of the map again.
-    fn call(&mut self, disks: &[usize], counts: &mut [usize; 3]) -> usize {
+    /// Calls plan for a loss with two of five numbers, and takes the loss out of the map again.
+    fn call(&mut self, disks: &[usize], numbers: &mut [usize; 5]) -> usize {
         let Grid { rows, columns } = self.grid;
         self.sheet.fill(FILL);
         disks.iter().for_each(|&disk| self.map[GUARD + disk] = 1);
         let (map, sheet) = (self.map[GUARD..].as_mut_ptr(), self.sheet[GUARD..].as_mut_ptr());
-        let (len, count) = (self.grid.disks(), counts[1..].as_mut_ptr());
-        let status = unsafe { ffi::raid2d_plan(rows, columns, map, len, sheet, SHEET, count) };
+        let len = self.grid.disks();
+        let numbers = numbers.as_mut_ptr();
+        let status = unsafe {
+            let (count, position) = (numbers.add(COUNT), numbers.add(POSITION));
+            ffi::raid2d_plan(rows, columns, 1, map, len, sheet, SHEET, count, position)
+        };
         disks.iter().for_each(|&disk| self.map[GUARD + disk] ^= 1);
         status as usize
     }
 
     /// Plan's status and count for a loss. Its sheet is left behind; nothing else may have changed.
     fn plan(&mut self, disks: &[usize]) -> Result<(usize, usize), String> {
-        let mut counts = [COUNT_BEFORE; 3];
-        let status = self.call(disks, &mut counts);
+        let mut numbers = [BEFORE; 5];
+        let status = self.call(disks, &mut numbers);
         self.planned += 1;
         self.fatal += u64::from(status == FATAL);
         let beside = [&self.sheet[..GUARD], &self.sheet[GUARD + SHEET..]];
@@ -115,10 +122,11 @@ impl Planner {
             self.map.copy_from_slice(&self.blank);
             return Err("a byte of the map or beside the map or the sheet was changed".to_string());
         }
-        if counts[0] != COUNT_BEFORE || counts[2] != COUNT_BEFORE {
-            return Err("a number beside the count was changed".to_string());
+        let position = if status == FATAL { 0 } else { BEFORE };
+        if numbers != [BEFORE, numbers[COUNT], BEFORE, position, BEFORE] {
+            return Err("the position is wrong, or a number beside it or the count was changed".to_string());
         }
-        Ok((status, counts[1]))
+        Ok((status, numbers[COUNT]))
     }
 
     /// Makes the call and judges all it answers and leaves.

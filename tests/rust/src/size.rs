@@ -1,4 +1,5 @@
-//! The size of an array: its grid and its block. Either may be one that the calls refuse.
+//! The size of an array: its grid and its block, and the length of the sectors that blocks are cut into. Each may be one
+//! that the calls refuse.
 
 use std::fmt;
 
@@ -61,5 +62,45 @@ impl Size {
 impl fmt::Display for Size {
     fn fmt(&self, to: &mut fmt::Formatter) -> fmt::Result {
         write!(to, "{}, block {}", self.grid, self.block)
+    }
+}
+
+/// A size and the sectors that its blocks are cut into. Sector k of each block is at position k.
+#[derive(Clone, Copy)]
+pub struct Cut {
+    pub size: Size,
+    /// Bytes in a sector.
+    pub sector: usize,
+}
+
+impl Cut {
+    pub const fn new(grid: Grid, sectors: usize, sector: usize) -> Cut {
+        Cut { size: Size { grid, block: sectors * sector }, sector }
+    }
+
+    /// Blocks that are one sector each.
+    pub fn whole(size: Size) -> Cut {
+        Cut { size, sector: size.block }
+    }
+
+    /// How many sectors a block has.
+    pub fn sectors(self) -> usize {
+        self.size.block / self.sector
+    }
+
+    /// The right length of the map, which has a byte for each sector.
+    pub fn map_bytes(self) -> usize {
+        self.size.disks() * self.sectors()
+    }
+
+    /// The size of the array that each position is by itself.
+    pub fn position(self) -> Size {
+        Size { block: self.sector, ..self.size }
+    }
+}
+
+impl fmt::Display for Cut {
+    fn fmt(&self, to: &mut fmt::Formatter) -> fmt::Result {
+        write!(to, "{}, sector {}", self.size, self.sector)
     }
 }

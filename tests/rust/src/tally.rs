@@ -23,6 +23,8 @@ pub struct Tally {
     pub trace: bool,
     pub passed: u64,
     failed: u64,
+    /// Failures are only counted: they are what a planted fault is for.
+    silent: bool,
     /// How often the model gave each answer since the last report.
     answers: BTreeMap<usize, u64>,
 }
@@ -30,6 +32,15 @@ pub struct Tally {
 impl Tally {
     pub fn new(trace: bool) -> Tally {
         Tally { trace, ..Tally::default() }
+    }
+
+    /// One whose failures are only counted.
+    pub fn silent() -> Tally {
+        Tally { silent: true, ..Tally::default() }
+    }
+
+    pub fn failures(&self) -> u64 {
+        self.failed
     }
 
     /// Adds what another tally has counted.
@@ -71,6 +82,9 @@ impl Tally {
 
     fn fail(&mut self, input: &str, complaint: &str) {
         self.failed += 1;
+        if self.silent {
+            return;
+        }
         if FAILED.fetch_add(1, Ordering::Relaxed) < PRINTED {
             println!("FAILED: {complaint}\n  input: {input}");
         }

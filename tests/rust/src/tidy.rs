@@ -8,7 +8,7 @@ use crate::random::Random;
 use crate::sheet::{list, off_chain, Record, RECORDS, REPAIRS, SHEET};
 use crate::size::{Grid, Size};
 use crate::tally::{must, show, Tally};
-use crate::{arguments, cores, ffi, follow, losses, model, sheets, Run};
+use crate::{arguments, cores, ffi, follow, losses, model, sheets, whole, Run};
 
 /// Lists that are compared with others, in parts.
 const PARTS: usize = 20;
@@ -63,7 +63,7 @@ impl Loss<'_> {
         let input = || follow::words(size, array, map, &format!("tidied from {}", show(sheet)));
         tally.compare(input, &expected, || {
             let tidied = ffi::tidy(sheet)?.written.remove(0);
-            ffi::follow(size, array, map, &tidied)
+            whole::follow(size, array, map, &tidied)
         });
     }
 

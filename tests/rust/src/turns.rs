@@ -8,12 +8,12 @@ use crate::rebuild::{self, AT_ONCE};
 use crate::sheet::{self, Record, RECORDS, SHEET};
 use crate::size::{Grid, Size};
 use crate::tally::{must, show};
-use crate::{ffi, model, tidy, Run};
+use crate::{model, tidy, whole, Run};
 
 /// Random sizes, each with a loss of each kind, in parts.
 const PARTS: usize = 10;
 /// Limits that are 0 or 1 where they are shortened, and the greatest.
-const GREAT: [usize; 6] = [1 << 8, 1 << 16, 1 << 32, (1 << 32) + 1, 1 << 63, AT_ONCE];
+pub const GREAT: [usize; 6] = [1 << 8, 1 << 16, 1 << 32, (1 << 32) + 1, 1 << 63, AT_ONCE];
 
 /// The repairs that a sheet lists.
 pub fn repairs_of(sheet: &[u8]) -> Result<Vec<Record>, String> {
@@ -97,7 +97,7 @@ impl<'a> Start<'a> {
         must(turns.len() == erased.div_ceil(limit).max(1), "another number of turns")?;
         let full = |turn: &Outcome| turn.answer == SUCCESS && turn.out == Some(limit);
         must(earlier.iter().all(full), "a turn before the last does not make as many repairs as it may")?;
-        let followed = ffi::follow(self.size, self.array, self.map, sheet)?;
+        let followed = whole::follow(self.size, self.array, self.map, sheet)?;
         must(last.answer == followed.answer, "follow judges the survivors otherwise")?;
         if last.answer == CONTRADICTORY {
             must(self.sealed.is_none(), "survivors of a sealed array are refused")?;
@@ -111,7 +111,7 @@ impl<'a> Start<'a> {
 
     /// All turns with one limit, by what plan says of the loss.
     fn judge(&self, limit: usize, turns: &[Outcome]) -> Result<(), String> {
-        let planned = ffi::plan(self.size.grid, self.map, &[0; SHEET])?;
+        let planned = whole::plan(self.size.grid, self.map, &[0; SHEET])?;
         if limit == 0 {
             return must(self.is_refused(turns, NO_REPAIRS, None), "a limit of 0 is not refused");
         }

@@ -10,7 +10,7 @@ use crate::random::Random;
 use crate::sheet::{plans_order, SHEET};
 use crate::size::{Grid, Size};
 use crate::tally::{must, show, Tally};
-use crate::{arguments, branch, by_hand, cores, ffi, model, plan, planted, shortest, tidy, Run};
+use crate::{arguments, branch, by_hand, cores, ffi, model, plan, planted, shortest, tidy, whole, Run};
 
 /// Maps of a small grid that make a part.
 const MAPS: usize = 64;
@@ -36,7 +36,7 @@ pub struct Asked<'a> {
 impl<'a> Asked<'a> {
     pub fn new(grid: Grid, map: &'a [u8], sheet: &'a [u8]) -> Asked<'a> {
         let due = model::plan(grid, map, sheet);
-        let planned = ffi::plan(grid, map, sheet).and_then(|planned| {
+        let planned = whole::plan(grid, map, sheet).and_then(|planned| {
             must(plan::judged(grid, map, &due, planned.clone())? == due, "plan itself is wrong")?;
             Ok(planned)
         });
