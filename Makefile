@@ -5,8 +5,9 @@
 #   make check      the gate: all proofs, and the tests that take minutes
 #   make check-long the long tests, which take longer
 #   make test-c     the tests in C, the header as C99 and C++, the example
-#   make test-rust  the comparison with a program in Rust; COMPARE=maps or
-#                   COMPARE=sets for its long parts
+#   make test-rust  the comparison with a program in Rust; COMPARE=sectors for
+#                   its part on sectors, COMPARE=maps and COMPARE=sets for the
+#                   long ones
 #   make test-fuzz  a bounded run of the fuzzer, and that it finds faults
 #   make fuzz       a longer run, of FUZZ_TIME seconds
 #   make bench      the benchmark

@@ -11,11 +11,17 @@
 static const size_t UNTOUCHED = 4242;
 static const uint8_t UNTOUCHED_BYTE = 42;
 
-/* The array before the calls, and after the library's; and the library's sheet and the map as it leaves it. */
-struct expected {
-    uint8_t *before, *after;
-    uint8_t sheet[SHEET_BYTES], map[DISKS_MAX];
-};
+void expected_open(struct expected *expected)
+{
+    expected->before = largest_array();
+    expected->after = largest_array();
+}
+
+void expected_close(struct expected *expected)
+{
+    free(expected->before);
+    free(expected->after);
+}
 
 static void run_from(const struct call *call, const struct peer *peer, struct input *input, const uint8_t *before)
 {
@@ -32,6 +38,17 @@ static int sheet_is_right(const struct input *input, const uint8_t *sheet)
     if (input->status == FATAL)
         return is_loop(input->size.rows, input->size.columns, input->map, input->sheet);
     return memcmp(input->sheet, sheet, SHEET_BYTES) == 0;
+}
+
+/* Makes the library's call on a prepared input, keeps what it leaves, and gives the input with its results. */
+static struct input expect(const struct call *call, struct input *input, struct expected *expected)
+{
+    memcpy(expected->before, input->array, input->bytes);
+    run_from(call, &peers[LIBRARY], input, expected->before);
+    memcpy(expected->after, input->array, input->bytes);
+    memcpy(expected->sheet, input->sheet, SHEET_BYTES);
+    memcpy(expected->map, input->lent, input->disks);
+    return *input;
 }
 
 /* Whether one peer gives what the library gave on the same input: the results in `given`, the array, the map and the
@@ -55,13 +72,7 @@ static void print_difference(const struct call *call, struct size size, const ch
 /* Compares all peers on one prepared input. */
 static int input_agrees(const struct call *call, struct input *input, struct expected *expected)
 {
-    struct input given;
-    memcpy(expected->before, input->array, input->bytes);
-    run_from(call, &peers[LIBRARY], input, expected->before);
-    memcpy(expected->after, input->array, input->bytes);
-    memcpy(expected->sheet, input->sheet, SHEET_BYTES);
-    memcpy(expected->map, input->lent, input->disks);
-    given = *input;
+    struct input given = expect(call, input, expected);
     if (!sheet_is_right(input, expected->sheet)) {
         print_difference(call, input->size, "no loop from", peers[LIBRARY].name);
         return 0;
@@ -75,6 +86,14 @@ static int input_agrees(const struct call *call, struct input *input, struct exp
         }
     }
     return 1;
+}
+
+int calls_agree(const struct call *first, const struct call *other, struct input *input, struct expected *expected)
+{
+    struct input given = expect(first, input, expected);
+    int agree = sheet_is_right(input, expected->sheet) && agrees(other, &peers[LIBRARY], input, &given, expected);
+    memcpy(input->array, expected->before, input->bytes);
+    return agree;
 }
 
 /* Whether the call did its work on the input that is timed. A refusal would be quick and time nothing. */
@@ -103,13 +122,13 @@ int peers_agree(void)
 {
     int agree = 1;
     struct input input;
-    struct expected expected = {largest_array(), largest_array(), {0}, {0}};
+    struct expected expected;
+    expected_open(&expected);
     input_open(&input);
     for (size_t c = 0; c < CALLS; c++)
         for (size_t s = 0; s < calls[c].size_count; s++)
             agree = agree && size_agrees(&calls[c], calls[c].sizes[s], &input, &expected);
     input_close(&input);
-    free(expected.before);
-    free(expected.after);
+    expected_close(&expected);
     return agree;
 }

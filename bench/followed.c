@@ -16,12 +16,13 @@ static const struct size sizes[] = {{2, 2, 16, ROW_AND_COLUMN},
    does. */
 static const double MOST = 1.2;
 
-/* Follows the sheet in the input. Only the library has this call. */
+/* Follows the sheet in the input; the block is its only sector. Only the library has this call. */
 static void run_follow(const struct peer *peer, struct input *input)
 {
     (void)peer;
     input->status = raid2d_follow(input->size.rows, input->size.columns, input->size.block, input->array, input->bytes,
-                                  input->map, input->disks, input->sheet, SHEET_BYTES, &input->count);
+                                  input->size.block, input->map, input->disks, input->sheet, SHEET_BYTES,
+                                  &input->count);
 }
 
 /* Takes a size, and has the library rebuild an array for it. Its sheet is the one to follow. */

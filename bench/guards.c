@@ -1,9 +1,10 @@
 #include "guards.h"
 
+#include <math.h>
 #include <stdio.h>
 
-/* Smaller blocks, and maps of small arrays, are ruled by the cost of a call, and not by the loops that are guarded. */
-enum { GUARDED_BLOCK = 512, GUARDED_SIDE = 15 };
+/* Maps of small arrays are ruled by the cost of a call too. */
+enum { GUARDED_SIDE = 15 };
 
 struct guard {
     size_t call, peer;
@@ -22,6 +23,17 @@ static const struct guard guards[] = {
     {REBUILD, ISAL, 1.5},
     {PLAN, TUNED, 12.0},
 };
+
+enum { GUARDS = sizeof guards / sizeof *guards };
+
+double limit_of(size_t call, size_t peer)
+{
+    double most = HUGE_VAL;
+    for (size_t g = 0; g < GUARDS; g++)
+        if (guards[g].call == call && guards[g].peer == peer)
+            most = guards[g].most;
+    return most;
+}
 
 static int is_guarded(const struct call *call, struct size size)
 {
@@ -42,7 +54,7 @@ static int warn_one(const struct guard *guard, struct size size, double ratio)
 int warn(ratio_table ratios)
 {
     int warnings = 0;
-    for (size_t g = 0; g < sizeof guards / sizeof *guards; g++) {
+    for (size_t g = 0; g < GUARDS; g++) {
         const struct call *call = &calls[guards[g].call];
         for (size_t s = 0; s < call->size_count; s++)
             warnings += warn_one(&guards[g], call->sizes[s], ratios[guards[g].call][s][guards[g].peer]);

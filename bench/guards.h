@@ -10,6 +10,12 @@ typedef double ratio_table[CALLS][SIZES_MAX][PEERS];
 /* Prints a line that begins with WARNING for each limit that is passed, and says how many. */
 int warn(ratio_table ratios);
 
+/* Smaller blocks and sectors are ruled by the cost of a call, and not by the loops that are guarded. */
+enum { GUARDED_BLOCK = 512 };
+
+/* The limit of a call beside a peer; infinite where it has none. */
+double limit_of(size_t call, size_t peer);
+
 /* Prints a ratio of two times of rebuild's work at a size. */
 void print_ratio(struct size size, const char *what, double ratio);
 

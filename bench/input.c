@@ -21,14 +21,19 @@ enum {
     SPACE = LENT_DISTANCE + DISKS_MAX
 };
 
-uint8_t *largest_array(void)
+uint8_t *take_space(size_t bytes)
 {
     void *space;
-    if (posix_memalign(&space, 64, SPACE) != 0) {
+    if (posix_memalign(&space, 64, bytes) != 0) {
         fputs("bench: out of memory\n", stderr);
         exit(1);
     }
     return space;
+}
+
+uint8_t *largest_array(void)
+{
+    return take_space(SPACE);
 }
 
 void input_open(struct input *input)

@@ -44,4 +44,7 @@ void input_spoil(struct input *input);
 /* Memory for one largest array, and the smaller buffers behind it, aligned to 64 bytes. */
 uint8_t *largest_array(void);
 
+/* So many bytes of memory, aligned likewise. */
+uint8_t *take_space(size_t bytes);
+
 #endif

@@ -3,8 +3,10 @@
 #include "compare.h"
 #include "followed.h"
 #include "guards.h"
+#include "old.h"
 #include "repairs.h"
 #include "saved.h"
+#include "sectors.h"
 #include "speed.h"
 #include "tidied.h"
 #include "timing.h"
@@ -23,6 +25,10 @@ static const struct part {
     {"repairs", peers_agree, compare_places}, {"follow", follow_agrees, compare_follow},
     {"tidy", tidy_agrees, compare_tidy},      {"turns", turns_agree, compare_turns},
     {"save", save_agrees, compare_save},      {"wanted", wanted_agrees, compare_wanted},
+    {"sectors", sectors_agree, compare_sectors},
+#ifdef OLD_ARCHIVE
+    {"old", old_agrees, compare_old},
+#endif
 };
 
 enum { PARTS = sizeof parts / sizeof *parts };

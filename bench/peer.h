@@ -1,7 +1,7 @@
 /*
- * A peer: another implementation of the library's calls, with the library's own prototypes. Peers test no argument;
- * the library tests them all. In their code `across` stands for the disks of a row, columns + 1, and `down` for those
- * of a column, rows + 1.
+ * A peer: another implementation of the library's calls, with the library's prototypes for blocks of one sector: these
+ * have no sector, no sectors and no position. Peers test no argument; the library tests them all. In their code
+ * `across` stands for the disks of a row, columns + 1, and `down` for those of a column, rows + 1.
  */
 #ifndef PEER_H
 #define PEER_H
@@ -21,6 +21,13 @@ typedef uint32_t plan_disk_call(size_t rows, size_t columns, const uint8_t *map,
 typedef uint32_t rebuild_call(size_t rows, size_t columns, size_t block, uint8_t *array, size_t array_len, uint8_t *map,
                               size_t map_len, uint8_t *sheet, size_t sheet_len, size_t limit, size_t *count);
 typedef uint32_t tidy_call(uint8_t *sheet, size_t sheet_len);
+
+/* The library's own prototypes, for blocks of many sectors. */
+typedef uint32_t plan_sectors_call(size_t rows, size_t columns, size_t sectors, const uint8_t *map, size_t map_len,
+                                   uint8_t *sheets, size_t sheets_len, size_t *count, size_t *position);
+typedef uint32_t rebuild_sectors_call(size_t rows, size_t columns, size_t block, uint8_t *array, size_t array_len,
+                                      size_t sector, uint8_t *map, size_t map_len, uint8_t *sheets, size_t sheets_len,
+                                      size_t limit, size_t *count, size_t *position);
 
 struct peer {
     const char *name;
@@ -43,6 +50,10 @@ extern const struct peer peers[PEERS];
 
 /* The tuned peer also plans for those that only differ in how they sum. */
 plan_call tuned_plan;
+
+/* With sectors there is the tuned peer only. */
+plan_sectors_call tuned_plan_sectors;
+rebuild_sectors_call tuned_rebuild_sectors;
 
 /* Of tidy, and of a plan for one disk, there are plain loops only. */
 tidy_call plain_tidy;

@@ -8,8 +8,25 @@ write_call plain_write, tuned_write, native_write, rust_write, read_write, copy_
 plan_call plain_plan, rust_plan;
 rebuild_call plain_rebuild, tuned_rebuild, native_rebuild, rust_rebuild, isal_rebuild, read_rebuild, copy_rebuild;
 
+/* The library on blocks of one sector. With one position there is no choice of a fatal one. */
+static uint32_t library_plan(size_t rows, size_t columns, const uint8_t *map, size_t map_len, uint8_t *sheet,
+                             size_t sheet_len, size_t *count)
+{
+    size_t position;
+    return raid2d_plan(rows, columns, 1, map, map_len, sheet, sheet_len, count, &position);
+}
+
+static uint32_t library_rebuild(size_t rows, size_t columns, size_t block, uint8_t *array, size_t array_len,
+                                uint8_t *map, size_t map_len, uint8_t *sheet, size_t sheet_len, size_t limit,
+                                size_t *count)
+{
+    size_t position;
+    return raid2d_rebuild(rows, columns, block, array, array_len, block, map, map_len, sheet, sheet_len, limit, count,
+                          &position);
+}
+
 const struct peer peers[PEERS] = {
-    [LIBRARY] = {"library", 1, 0, raid2d_seal, raid2d_check, raid2d_write, raid2d_plan, raid2d_rebuild},
+    [LIBRARY] = {"library", 1, 0, raid2d_seal, raid2d_check, raid2d_write, library_plan, library_rebuild},
     [PLAIN] = {"gcc -O3 plain loops", 1, 0, plain_seal, plain_check, plain_write, plain_plan, plain_rebuild},
     [TUNED] = {"gcc -O3 tuned", 1, 0, tuned_seal, tuned_check, tuned_write, tuned_plan, tuned_rebuild},
     [NATIVE] = {"gcc -O3 -march=native tuned", 1, 0, native_seal, native_check, native_write, NULL, native_rebuild},

@@ -4,27 +4,29 @@
 
 #include "sheet.h"
 
-/* Sets block number `own` of `count` that stand `step` bytes apart to the sum of the others. */
-typedef void repair_function(uint8_t *first, size_t step, size_t count, size_t own, size_t block);
+/* Sets stretch number `own` of `count` that stand `step` bytes apart to the sum of the others. */
+typedef void repair_function(uint8_t *first, size_t step, size_t count, size_t own, size_t length);
 
-static inline void repair_by(repair_function *repair, size_t rows, size_t columns, size_t block, uint8_t *array,
-                             size_t disk, size_t stripe)
+/* Repairs so many bytes of a disk from `first` on, which is in the block of disk 0: a sector, or the block. */
+static inline void repair_by(repair_function *repair, size_t rows, size_t columns, size_t block, uint8_t *first,
+                             size_t disk, size_t stripe, size_t length)
 {
     size_t down = rows + 1, across = columns + 1;
     if (stripe < FIRST_COLUMN)
-        repair(array + stripe * across * block, block, across, disk % across, block);
+        repair(first + stripe * across * block, block, across, disk % across, length);
     else
-        repair(array + (stripe - FIRST_COLUMN) * block, across * block, down, disk / across, block);
+        repair(first + (stripe - FIRST_COLUMN) * block, across * block, down, disk / across, length);
 }
 
-/* The survivors contradict each other: erased blocks and the sheet become zero. */
-static inline uint32_t contradictory(size_t block, uint8_t *array, const uint8_t *map, size_t map_len, uint8_t *sheet,
-                                     size_t sheet_len)
+/* The survivors contradict each other: erased sectors and all sheets become zero. A map of disks has whole blocks for
+   sectors. */
+static inline uint32_t contradictory(size_t sector, uint8_t *array, const uint8_t *map, size_t map_len, uint8_t *sheets,
+                                     size_t sheets_len)
 {
-    for (size_t d = 0; d < map_len; d++)
-        if (map[d] != 0)
-            memset(array + d * block, 0, block);
-    memset(sheet, 0, sheet_len);
+    for (size_t i = 0; i < map_len; i++)
+        if (map[i] != 0)
+            memset(array + i * sector, 0, sector);
+    memset(sheets, 0, sheets_len);
     return CONTRADICTORY;
 }
 
@@ -38,7 +40,7 @@ static inline uint32_t rebuild_by(plan_call *plan, repair_function *repair, chec
     size_t made = status != 0 || planned < limit ? planned : limit;
     if (status == 0) {
         for (size_t k = 0; k < made; k++)
-            repair_by(repair, rows, columns, block, array, disk_of(sheet, k), stripe_of(sheet, k));
+            repair_by(repair, rows, columns, block, array, disk_of(sheet, k), stripe_of(sheet, k), block);
         if (made == planned && check(rows, columns, block, array, array_len, &stripe) != SEALED)
             return contradictory(block, array, map, map_len, sheet, sheet_len);
         for (size_t k = 0; k < made; k++)

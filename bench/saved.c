@@ -31,15 +31,15 @@ static const struct loss fatal[] = {
 
 #define COUNT(table) (sizeof(table) / sizeof *(table))
 
-/* Save may take so many times the time of rebuild for blocks of so many bytes and more. */
+/* Save may take so many times the time of rebuild for blocks of GUARDED_BLOCK bytes and more. */
 static const double MOST = 1.5;
-enum { GUARDED_BLOCK = 512 };
 
+/* The block is its only sector. */
 static void run_save(const struct peer *peer, struct input *input)
 {
     (void)peer;
     input->status = raid2d_save(input->size.rows, input->size.columns, input->size.block, input->array, input->bytes,
-                                input->map, input->disks, &input->count);
+                                input->size.block, input->map, input->disks, &input->count);
 }
 
 static void prepare(struct input *input, struct size size)

@@ -75,28 +75,56 @@ void time_maps(const struct call *call, struct input *input, const size_t *kinds
 
 void time_disks(const struct call *call, struct input *input, const size_t *disks, size_t count, double *medians)
 {
-    static double rounds[DISKS_MAX][DISK_SAMPLES];
+    static double rounds[DISKS_MAX][FEW_SAMPLES];
     size_t repeats;
     input->disk = disks[0];
     repeats = repeats_for(call, input);
-    for (size_t i = 0; i < DISK_SAMPLES; i++) {
+    for (size_t i = 0; i < FEW_SAMPLES; i++) {
         for (size_t k = 0; k < count; k++) {
             input->disk = disks[k];
             rounds[k][i] = sample(call, &peers[LIBRARY], input, repeats);
         }
     }
     for (size_t k = 0; k < count; k++)
-        medians[k] = median_of(rounds[k], DISK_SAMPLES);
+        medians[k] = median_of(rounds[k], FEW_SAMPLES);
+}
+
+static void time_list(const struct call *const *list, size_t count, struct input *input, size_t rounds, double *medians)
+{
+    size_t repeats = repeats_for(list[0], input);
+    for (size_t i = 0; i < rounds; i++)
+        for (size_t k = 0; k < count; k++)
+            samples[k][i] = sample(list[k], &peers[LIBRARY], input, repeats);
+    for (size_t k = 0; k < count; k++)
+        medians[k] = median_of(samples[k], rounds);
 }
 
 void time_calls(const struct call *const *list, size_t count, struct input *input, double *medians)
 {
-    size_t repeats = repeats_for(list[0], input);
-    for (size_t i = 0; i < SAMPLES; i++)
-        for (size_t k = 0; k < count; k++)
-            samples[k][i] = sample(list[k], &peers[LIBRARY], input, repeats);
+    time_list(list, count, input, SAMPLES, medians);
+}
+
+void time_long_calls(const struct call *const *list, size_t count, struct input *input, double *medians)
+{
+    time_list(list, count, input, FEW_SAMPLES, medians);
+}
+
+/* Cases can differ much in their times, so that each has repeats of its own. */
+void time_cases(const struct call *call, struct input *input, prepare_case *prepare, size_t count, double *medians)
+{
+    size_t repeats[PEERS];
+    for (size_t k = 0; k < count; k++) {
+        prepare(input, k);
+        repeats[k] = repeats_for(call, input);
+    }
+    for (size_t i = 0; i < FEW_SAMPLES; i++) {
+        for (size_t k = 0; k < count; k++) {
+            prepare(input, k);
+            samples[k][i] = sample(call, &peers[LIBRARY], input, repeats[k]) / (double)repeats[k];
+        }
+    }
     for (size_t k = 0; k < count; k++)
-        medians[k] = median_of(samples[k], SAMPLES);
+        medians[k] = median_of(samples[k], FEW_SAMPLES);
 }
 
 double time_call(const struct call *call, struct input *input)

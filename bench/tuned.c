@@ -5,13 +5,12 @@
  */
 #include "peer.h"
 #include "rebuild.h"
+#include "tuned_repair.h"
 
 #include <string.h>
 
 #define JOIN(peer, call) peer##_##call
 #define NAME(peer, call) JOIN(peer, call)
-
-enum { STRETCH = 256 };
 
 /* Sets `sum`, a local array of the caller, to the sum of `count` stretches that stand `step` bytes apart. */
 static inline void sum_stretches(uint8_t sum[STRETCH], const uint8_t *first, size_t step, size_t count, size_t width)
@@ -113,34 +112,6 @@ uint32_t NAME(PEER, write)(size_t rows, size_t columns, size_t block, uint8_t *a
     store(array + disk * block, array + (r * across + columns) * block, array + (rows * across + c) * block,
           array + (rows * across + columns) * block, data, block);
     return 0;
-}
-
-/* Sets `sum` to the sum of all stretches but number `own`. */
-static inline void sum_others(uint8_t sum[STRETCH], const uint8_t *first, size_t step, size_t count, size_t own,
-                              size_t width)
-{
-    size_t start = own == 0 ? 1 : 0;
-    memcpy(sum, first + start * step, width);
-    for (size_t k = start + 1; k < count; k++) {
-        if (k == own)
-            continue;
-        for (size_t i = 0; i < width; i++)
-            sum[i] ^= first[k * step + i];
-    }
-}
-
-static void repair(uint8_t *first, size_t step, size_t count, size_t own, size_t block)
-{
-    uint8_t sum[STRETCH], *to = first + own * step;
-    size_t at = 0;
-    for (; block - at >= STRETCH; at += STRETCH) {
-        sum_others(sum, first + at, step, count, own, STRETCH);
-        memcpy(to + at, sum, STRETCH);
-    }
-    if (at < block) {
-        sum_others(sum, first + at, step, count, own, block - at);
-        memcpy(to + at, sum, block - at);
-    }
 }
 
 uint32_t NAME(PEER, rebuild)(size_t rows, size_t columns, size_t block, uint8_t *array, size_t array_len, uint8_t *map,
