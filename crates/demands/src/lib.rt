@@ -1,33 +1,35 @@
-// What is proved of the definitions, said of the calls: demand 2 of seal, check and write, demand 3 of plan and rebuild's turns on
-// one input, of the plan for one disk what it lists, of follow that it does as rebuild, of tidy what it makes of sheets, and of save
+// What is proved of the definitions, said of the calls: demand 2 of seal, check and write, of look when it hands a block back, demand 3 of
+// plan and rebuild's turns on one input, of the plan for one disk what it lists, of follow that it does as rebuild, of tidy what it makes of sheets, and of save
 // what it gives back.
 ghost use mathlib.Core.Path.{_≡_};
 ghost use mathlib.Core.Bool.{true, false};
 ghost use mathlib.Core.Logic.{_↔_};
 ghost use mathlib.Core.List.{List};
-ghost use Prim.Native.Nat.{ℕ, _*_, _/_, _≤_, _<_};
-ghost use lib.ListN.{length, take};
+ghost use Prim.Native.Nat.{ℕ, _+_, _*_, _/_, _≤_, _<_};
+ghost use denote.Ref.{ptr};
+ghost use lib.ListN.{length, getD, take, drop};
 ghost use Rattle.stripes.specs.Fold.{count};
 ghost use Rattle.stripes.specs.System.{whole};
 ghost use Rattle.stripes.specs.Erased.{erasures, Belongs};
 ghost use Rattle.stripes.specs.Repair.{fatal, mapAfter, rebuilt};
-ghost use Rattle.stripes.specs.Sectors.{sectored};
-ghost use Rattle.model.specs.Grid.{columnBase, mapBytes};
-ghost use Rattle.model.specs.Refusal.{refusal, arrayTests};
-ghost use Rattle.model.specs.Array.{sealStatus, sealArray, checked, checkStatus, writeStatus, writeArray, canLook};
+ghost use Rattle.stripes.specs.Sectors.{sectorAt, sectored, atPosition, stretchAt, sectorRepairs, ofPosition};
+ghost use Rattle.stripes.specs.Undetermined.{saved};
+ghost use Rattle.model.specs.Grid.{layoutOf, columnBase, disks, mapBytes, mapFits};
+ghost use Rattle.model.specs.Refusal.{refusal, arrayTests, sectorTests};
+ghost use Rattle.model.specs.Array.{sealStatus, sealArray, checked, checkStatus, writeStatus, writeArray, canLook, lookOffset, lookLength};
 ghost use Rattle.model.specs.Sheet.{narrow, sheetsBytes, sheetAt, partsIn};
 ghost use Rattle.model.specs.Plan.{planTests, sheetLayout, planOutcome, planSheets, outcomeStatus};
 ghost use Rattle.model.specs.PlanDisk.{planDiskTests, planDiskOutcome, planDiskSheet, DiskDemand};
 ghost use Rattle.model.specs.Rebuild.{bufferRefusal, rebuildRefusal, rebuildTurn};
 ghost use Rattle.model.specs.Chain.{Leftover, chainEntries, chainRefusal, cleanRefusal};
-ghost use Rattle.model.specs.Follow.{Usable, sheetsEntries, listOutcome, listArray, followOutcome, followArray, looseStatus};
+ghost use Rattle.model.specs.Follow.{Usable, Reads, sheetsEntries, listOutcome, listArray, followOutcome, followArray, looseStatus};
 ghost use Rattle.model.specs.Tidy.{tidyStatus, tidySheet, Tidy, TidyDemand, tidySheets};
-ghost use Rattle.model.specs.Save.{saveLayout, mapTests, saveAnswer, saveArray, AsTurn, SaveDemand};
+ghost use Rattle.model.specs.Save.{saveLayout, mapTests, saveAnswer, saveArray, savingStatus, AsTurn, SaveDemand};
 ghost use Rattle.model.specs.Edition.{superparity};
-ghost use Rattle.model.specs.Demand2.{SealDemand, CheckDemand, WriteDemand};
+ghost use Rattle.model.specs.Demand2.{SameAt, SealDemand, CheckDemand, WriteDemand};
 ghost use Rattle.model.specs.Demand3.{Planned, Demand3, Restorable, TurnKeeps};
 ghost use Rattle.model.specs.Turn.{Turn};
-ghost use Rattle.model.specs.Single.{planWhole, planWholeSheet, rebuildWhole, followWhole, followWholeArray, saveWhole, saveWholeArray};
+ghost use Rattle.model.specs.Single.{planWhole, planWholeSheet, PlanAlone, rebuildWhole, followWhole, followWholeArray, saveWhole, saveWholeArray, canLookWhole};
 ghost use Rattle.series.specs.Total.{turnBytes, start, turnsIn, endOf, totalOf, Written};
 use model::Checked;
 use model::Outcome;
@@ -67,6 +69,39 @@ pub fn write_block(size: Size, block: usize, array: &mut [u8], disk: usize, data
     write::write(size, block, array, disk, data)
 }
 
+// Hands back the block of a disk, as that part of the array, or an empty part: the block exactly if the tests of the array and of the sectors are
+// passed, the map fits, and the disk is one of the grid with all its sectors present. With a single sector a block that is look without sectors.
+pub fn look_block<'a>(
+    size: Size,
+    block: usize,
+    array: &'a [u8],
+    sector: usize,
+    map: &[u8],
+    disk: usize,
+) -> &'a [u8]
+    ensures bytes { λ r. ⌜
+        now r ≡ take (lookLength size block sector (now (array .entry)) (now (map .entry)) disk)
+        (drop (lookOffset size block sector (now (array .entry)) (now (map .entry)) disk 0) (now (array .entry)))
+        ⌝ }
+    ensures place { λ r. ⌜
+        ptr r
+        ≡ (ptr (array .entry) .0, ptr (array .entry) .1 + lookOffset size block sector (now (array .entry)) (now (map .entry)) disk 0)
+        ⌝ }
+    ensures present { λ r. ⌜
+        ((canLook size block sector (now (array .entry)) (now (map .entry)) disk ≡ true)
+        ↔ ((refusal (sectorTests size block (length (now (array .entry))) sector) ≡ 0)
+        × (mapFits (mapBytes size (block / sector)) (now (map .entry)) ≡ true) × (disk < disks size)
+        × ((p : ℕ) → p < block / sector → getD (now (map .entry)) (sectorAt (block / sector) p disk) 0 ≡ 0)))
+        ⌝ }
+    ensures single { λ r. ⌜
+        (sector ≡ block
+        → canLook size block sector (now (array .entry)) (now (map .entry)) disk
+        ≡ canLookWhole size block (now (array .entry)) (now (map .entry)) disk)
+        ⌝ }
+{
+    look::look(size, block, array, sector, map, disk)
+}
+
 // What plan answers, and what rebuild's turns come to.
 pub struct Answers {
     pub planned: Outcome,
@@ -76,7 +111,8 @@ pub struct Answers {
 // Plans the repair of a loss into one buffer of sheets, the draft, and rebuilds the array in turns of at most `limit` repairs, each with the
 // next sheets of a buffer, until the map is clear, a turn is refused or no sheets are left. Demand 3 holds for every input that the
 // refusals before 6 let through, if a loss that is not fatal has sheets for its repairs; what it says of plan alone, under plan's
-// own refusals and for every sector length.
+// own refusals and for every sector length. Each position is planned as if it were alone, and sheets of repairs, read in rising order of
+// position, list them and are such as follow can use.
 pub fn plan_and_rebuild(
     size: Size,
     block: usize,
@@ -130,6 +166,16 @@ pub fn plan_and_rebuild(
         → (r .planned ≡ planWhole size (now (map .entry)) (now (draft .entry)))
         × (now (draft .exit) ≡ planWholeSheet size (now (map .entry)) (now (draft .entry))))
         ⌝ }
+    ensures alone { λ r. ⌜
+        (refusal (planTests size sectors (now (map .entry)) (length (now (draft .entry)))) ≡ 0
+        → PlanAlone sectors (sheetLayout size) narrow (erasures (now (map .entry))) (r .planned) (now (draft .exit)))
+        ⌝ }
+    ensures read { λ r. ⌜
+        (refusal (planTests size sectors (now (map .entry)) (length (now (draft .entry)))) ≡ 0
+        → fatal (sectored sectors (sheetLayout size)) (erasures (now (map .entry))) ≡ false
+        → Reads narrow sectors (now (draft .exit)) (sectorRepairs sectors (sheetLayout size) (erasures (now (map .entry))))
+        × Usable size sectors (now (map .entry)) (now (draft .exit)))
+        ⌝ }
 {
     let planned = plan::plan(size, sectors, map, draft);
     let rebuilt = series::rebuild_in_turns(size, block, array, sector, map, sheets, limit);
@@ -140,7 +186,8 @@ pub fn plan_and_rebuild(
 }
 
 // Makes one turn. Whatever the limits of other turns are, it makes the next repairs of plan's order and leaves a loss that is restorable again,
-// if it was; with a single sector a block it is a turn without sectors.
+// if it was; with a single sector a block it is a turn without sectors. Its sheets, read in rising order of position, list its repairs, and each
+// position is left as its own repairs alone leave it.
 pub fn rebuild_once(
     size: Size,
     block: usize,
@@ -164,6 +211,17 @@ pub fn rebuild_once(
         (sector ≡ block
         → _≡_ {A = Turn} (record { answer = r; array = now (array .exit); map = now (map .exit); sheets = now (sheets .exit) })
         (rebuildWhole size block (now (array .entry)) (now (map .entry)) (now (sheets .entry)) limit))
+        ⌝ }
+    ensures read { λ r. ⌜
+        (outcomeStatus r ≡ 0
+        → Reads narrow (block / sector) (now (sheets .exit))
+        (take limit (sectorRepairs (block / sector) (sheetLayout size) (erasures (now (map .entry))))))
+        ⌝ }
+    ensures alone { λ r. ⌜
+        (outcomeStatus r ≡ 0 → (p : ℕ) → p < block / sector
+        → SameAt size block sector p (now (array .exit))
+        (rebuilt (sheetLayout size) (stretchAt block sector p) (now (array .entry))
+        (ofPosition (block / sector) p (take limit (sectorRepairs (block / sector) (sheetLayout size) (erasures (now (map .entry))))))))
         ⌝ }
 {
     rebuild::rebuild(size, block, array, sector, map, sheets, limit)
@@ -212,8 +270,8 @@ pub fn plan_and_plan_disk(
 }
 
 // Follows sheets from elsewhere. With usable sheets it answers what rebuild would in one turn and leaves the same array, whatever
-// the order of the repairs; it refuses by 7 exactly if such sheets meet survivors that belong to no sealed array; and where the loss is
-// fatal, no sheets make it change anything.
+// the order of the repairs, each position as its own sheet alone leaves it; it refuses by 7 exactly if such sheets meet survivors that belong to no
+// sealed array; and where the loss is fatal, no sheets make it change anything.
 pub fn follow_sheets(
     size: Size,
     block: usize,
@@ -254,6 +312,11 @@ pub fn follow_sheets(
         (sector ≡ block
         → (r ≡ followWhole size block (now (array .entry)) (now (map .entry)) (now (sheets .entry)))
         × (now (array .exit) ≡ followWholeArray size block (now (array .entry)) (now (map .entry)) (now (sheets .entry))))
+        ⌝ }
+    ensures alone { λ r. ⌜
+        (outcomeStatus r ≡ 0 → (p : ℕ) → p < block / sector
+        → SameAt size block sector p (now (array .exit))
+        (rebuilt (sheetLayout size) (stretchAt block sector p) (now (array .entry)) (chainEntries narrow (sheetAt narrow p (now (sheets .entry))))))
         ⌝ }
 {
     follow::follow(size, block, array, sector, map, sheets)
@@ -331,7 +394,7 @@ pub fn tidy_and_follow(
 }
 
 // Saves what the survivors determine. Where the refusals before 7 let the input through, the promise of paper 02 holds; where the loss is
-// not fatal, the answer and the array are those of rebuild in one turn, refusals included.
+// not fatal, the answer and the array are those of rebuild in one turn, refusals included. Each position is left as saving it alone leaves it.
 pub fn save_sectors(size: Size, block: usize, array: &mut [u8], sector: usize, map: &[u8]) -> Saving
     ensures answer { λ r. ⌜ r ≡ saveAnswer size block sector (now (array .entry)) (now (map .entry)) ⌝ }
     ensures array { λ r. ⌜ now (array .exit) ≡ saveArray size block sector (now (array .entry)) (now (map .entry)) ⌝ }
@@ -349,6 +412,12 @@ pub fn save_sectors(size: Size, block: usize, array: &mut [u8], sector: usize, m
         (sector ≡ block
         → (r ≡ saveWhole size block (now (array .entry)) (now (map .entry)))
         × (now (array .exit) ≡ saveWholeArray size block (now (array .entry)) (now (map .entry))))
+        ⌝ }
+    ensures alone { λ r. ⌜
+        (savingStatus r ≡ 0 → (p : ℕ) → p < block / sector
+        → SameAt size block sector p (now (array .exit))
+        (saved (layoutOf size (columnBase size)) (stretchAt block sector p) (now (array .entry))
+        (atPosition (block / sector) p (erasures (now (map .entry))))))
         ⌝ }
 {
     save::save(size, block, array, sector, map)

@@ -6,11 +6,11 @@ use mathlib.Core.Logic.{_↔_, ⊎-elim}
 use mathlib.Core.List.{List, [], _∷_, map}
 use Prim.Native.Nat.{ℕ, _+_, _*_, _/_, _%_, _≤_, _<_, min}
 use native.Mathlib.Omega.{arith}
-use borrow.Author.Tests.{le-ltb}
+use borrow.Author.Tests.{eqb-true, eqb-false, le-ltb}
 use lib.Dec.{eqb, ltb}
 use lib.ListN.{length, getD, take, length-take}
 use lib.Seq.{take-all}
-use Rattle.model.specs.Turn.{Turn, lossTold, contradiction, repairsMade, unfinished, turnOf, turnsBy, turnsOf, lastOf, madeBy, wholeRebuild}
+use Rattle.model.specs.Turn.{Turn, lossTold, contradiction, repairsMade, turnRepairs, contradicts, unfinished, turnOf, turnsBy, turnsOf, lastOf, madeBy, wholeRebuild}
 use Rattle.model.specs.Rebuild.{bufferRefusal, rebuildTests, rebuildRefusal, rebuildTurn, rebuildTurns}
 use Rattle.model.specs.Refusal.{refusal, arrayTests}
 use Rattle.model.specs.Plan.{lossOutcome, lossSheets, planOutcome, planSheets, planTests, sheetLayout, outcomeStatus}
@@ -86,6 +86,45 @@ pub rebuild-accepted : (z : Size) (B w : ℕ) (a m sheets : List ℕ) (k : ℕ) 
     → rebuildTurn z B w a m sheets k ≡ turnOf (B / w) (sheetLayout z) narrow (whole w) k a m
 unfolding rebuildTurn
 rebuild-accepted z B w a m sheets k ok = given-accepted (rebuildRefusal z B w a m sheets k) _ _ ok
+
+-- which makes the first repairs of plan's order if it answers 0,
+pub turn-made : (z : Size) (B w : ℕ) (a m sheets : List ℕ) (k : ℕ) → outcomeStatus (rebuildTurn z B w a m sheets k .answer) ≡ 0
+    → (rebuildRefusal z B w a m sheets k ≡ 0)
+    × (rebuildTurn z B w a m sheets k
+    ≡ repairsMade (B / w) (sheetLayout z) narrow (whole w) a m (take k (sectorRepairs (B / w) (sheetLayout z) (erasures m))))
+unfolding turnOf turnRepairs lossTold lossOutcome contradiction outcomeStatus
+turn-made z B w a m sheets k accepted = go (eqb (rebuildRefusal z B w a m sheets k) 0) refl
+  where
+    n : ℕ
+    n = B / w
+
+    L : Layout
+    L = sheetLayout z
+
+    v : List Entry
+    v = turnRepairs n L k m
+
+    taken : rebuildRefusal z B w a m sheets k ≡ 0 → (f : Bool) → fatal (sectored n L) (erasures m) ≡ f
+        → (r : Bool) → contradicts (sectored n L) (whole w) a m v ≡ r → outcomeStatus (turnOf n L narrow (whole w) k a m .answer) ≡ 0
+        → turnOf n L narrow (whole w) k a m ≡ repairsMade n L narrow (whole w) a m (take k (sectorRepairs n L (erasures m)))
+    taken ok true lossy r i = rw (lossy, sym (fatal-sectors n L (erasures m)) ∙ lossy) (λ none. absurd (omega arith))
+    taken ok false fine true contradicted = rw (fine, contradicted) (λ none. absurd (omega arith))
+    taken ok false fine false agreed = rw (fine, agreed) (λ none. refl)
+
+    go : (q : Bool) → eqb (rebuildRefusal z B w a m sheets k) 0 ≡ q
+        → (rebuildRefusal z B w a m sheets k ≡ 0)
+        × (rebuildTurn z B w a m sheets k ≡ repairsMade n L narrow (whole w) a m (take k (sectorRepairs n L (erasures m))))
+    go true q =
+        let ok = eqb-true (rebuildRefusal z B w a m sheets k) 0 q in
+        let is = rebuild-accepted z B w a m sheets k ok in (
+          ok,
+          is
+              ∙ taken ok (fatal (sectored n L) (erasures m)) refl (contradicts (sectored n L) (whole w) a m v) refl
+              (sym (ap (λ (t : Turn). outcomeStatus (t .answer)) is) ∙ accepted),
+        )
+    go false q =
+        let refused = eqb-false (rebuildRefusal z B w a m sheets k) 0 q in
+        absurd (refused (sym (ap (λ (t : Turn). outcomeStatus (t .answer)) (rebuild-refused z B w a m sheets k refused)) ∙ accepted))
 
 -- and leaves an array and a map that another turn takes.
 pub next-turn : (z : Size) (B w : ℕ) (a m sheets : List ℕ) (k : ℕ) → rebuildRefusal z B w a m sheets k ≡ 0

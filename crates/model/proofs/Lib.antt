@@ -21,6 +21,7 @@ pub mod Save
 pub mod Follow
 pub mod Tidy
 pub mod PlanDisk
+pub mod ByPosition
 pub mod Look
 pub mod Listings
 pub mod Single

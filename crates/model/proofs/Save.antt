@@ -177,7 +177,7 @@ module _ (z : Size) (B w : ℕ) (a m : List ℕ) where
   map-passes fits ts =
       sector-passed z B (length a) w (fits .array) (fits .sector) _ ∙ passes 4 (mapFits (mapBytes z (B / w)) m) ts (fits .map)
 
-  map-fits : refusal (mapTests z B w (length a) m) ≡ 0 → SaveFits
+  pub map-fits : refusal (mapTests z B w (length a) m) ≡ 0 → SaveFits
   unfolding mapTests
   map-fits ok =
       let (array, sector, rest) = sector-tests z B (length a) w _ ok in

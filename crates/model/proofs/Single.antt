@@ -1,12 +1,12 @@
 -- Blocks without sectors: with a single sector of the whole block every call does what it did without sectors.
 -- Assumes nothing.
-use mathlib.Core.Path.{_≡_, refl, sym, _∙_, ap, ap₂}
+use mathlib.Core.Path.{_≡_, refl, sym, _∙_, ap, ap₂, subst}
 use mathlib.Core.Bool.{Bool, true, false, cond, _&&_}
 use mathlib.Core.List.{List, [], _∷_, _++_}
 use Prim.Native.Nat.{ℕ, _+_, _*_, _/_, _%_, _<_}
-use native.Mathlib.Nat.{add-zero, one-mul, mul-one}
+use native.Mathlib.Nat.{add-zero, one-mul, mul-one, le-refl}
 use native.Mathlib.Omega.{arith}
-use borrow.Author.Tests.{eq-eqb, ne-eqb, eqb-true, eqb-false, le-leb}
+use borrow.Author.Tests.{eq-eqb, ne-eqb, eqb-true, eqb-false, ltb-true, le-leb}
 use lib.Arith.{digits-div, digits-mod}
 use lib.Dec.{eqb, ltb}
 use lib.ListN.{length, getD}
@@ -16,18 +16,18 @@ use Rattle.stripes.specs.Erased.{erasures}
 use Rattle.stripes.specs.Repair.{Entry, repairs, fatal, zeroed}
 use Rattle.stripes.specs.Undetermined.{lost, determined, partsCancel, saved}
 use Rattle.stripes.specs.Cycle.{shownCycle}
-use Rattle.stripes.specs.Sectors.{sectorAt, sectored, atPosition, rising}
+use Rattle.stripes.specs.Sectors.{sectorAt, sectored, atPosition, rising, sectorRepairs, fatalPosition}
 use Rattle.stripes.specs.declared.Stretch.{Stretch}
 use Rattle.stripes.proofs.Fold.{by-cases, and-both}
 use Rattle.stripes.proofs.Sectors.{one-sector, one-position}
-use Rattle.stripes.proofs.Positions.{one-entries, one-of, one-order, one-fatal}
+use Rattle.stripes.proofs.Positions.{fine-all, fatal-at, fine-below, fatal-sectors, of-position, one-entries, one-of, one-order, one-fatal}
 use Rattle.model.specs.Grid.{layoutOf, columnBase, disks, sizeFits, sectorFits, sectorsFit, mapBytes, mapFits}
 use Rattle.model.specs.Refusal.{Test, _unless_, refusal, arrayTests, sectorTests, earlier}
-use Rattle.model.specs.Sheet.{Format, narrow, sheetOf, repairSheets, blankSheet, blankSheets}
+use Rattle.model.specs.Sheet.{Format, narrow, sheetOf, repairSheets, blankSheet, blankSheets, sheetAt}
 use Rattle.model.specs.Plan.{sheetTests, planTests, sheetLayout, lossOutcome, lossSheets, cycleSheets, planOutcome, planSheets, outcomeStatus}
 use Rattle.model.specs.Turn.{lossTold, contradiction, repairsMade, turnRepairs, turnOf}
 use Rattle.model.specs.Rebuild.{bufferTests, bufferRefusal, rebuildTests, rebuildRefusal, rebuildTurn}
-use Rattle.model.specs.Single.{wholeTests, wholeOutcome, wholeSheet, planWhole, planWholeSheet, wholeTurn, rebuildWhole, followWholeStatus, followWhole, followWholeArray, saveWholeStatus, saveWhole, saveWholeArray, canLookWhole}
+use Rattle.model.specs.Single.{wholeTests, wholeOutcome, wholeSheet, PlanAlone, planWhole, planWholeSheet, wholeTurn, rebuildWhole, followWholeStatus, followWhole, followWholeArray, saveWholeStatus, saveWhole, saveWholeArray, canLookWhole}
 use Rattle.model.specs.Chain.{cleanTests, cleanRefusal, chainEntries}
 use Rattle.model.specs.Follow.{sheetsEntries, sheetsTests, listTests, followTests, followStatus, followOutcome, followArray}
 use Rattle.model.specs.Save.{mapTests, saveTests, saveStatus, saveAnswer, saveArray}
@@ -40,7 +40,7 @@ use Rattle.model.proofs.Refusal.{refused-first, refusal-rest, passes, p
 use Rattle.model.proofs.Accept.{buffers-fit}
 use Rattle.model.proofs.Chain.{clean-goes-on}
 use Rattle.model.proofs.Follow.{buffers-seven, follow-first, status-is}
-use Rattle.model.proofs.SheetRow.{one-sheet, whole-sheet, no-sheets, sheets-next, sheets-go-on}
+use Rattle.model.proofs.SheetRow.{one-sheet, whole-sheet, repair-sheet-at, cycle-sheet-at, no-sheets, sheets-next, sheets-go-on}
 
 -- ---- the sheets of one position
 module _ (f : Format) where
@@ -89,6 +89,76 @@ pub plan-single : (z : Size) (m s : List ℕ) → (planOutcome z 1 m s ≡ planW
 unfolding planOutcome planSheets planWhole planWholeSheet
 plan-single z m s =
     rw (plan-tests-single z m (length s), loss-single (sheetLayout z) (erasures m), sheets-single (sheetLayout z) (erasures m) narrow) (refl, refl)
+
+-- ---- each position by itself
+module _ (n : ℕ) (L : Layout) (f : Format) (e : ℕ → Bool) where
+  abbrev there : ℕ → ℕ → Bool
+  there p = atPosition n p e
+
+  -- What a position has alone.
+  alone-fatal : (p : ℕ) → fatal L (there p) ≡ true
+      → (wholeOutcome L (there p) ≡ Fatal (lost L (there p)) 0) × (wholeSheet L f (there p) ≡ sheetOf f (f .loopKind) (shownCycle L (there p)))
+  unfolding wholeOutcome wholeSheet
+  alone-fatal p lossy = (rw lossy refl, rw lossy refl)
+
+  alone-fine : (p : ℕ) → fatal L (there p) ≡ false
+      → (outcomeStatus (wholeOutcome L (there p)) ≡ 0) × (wholeSheet L f (there p) ≡ sheetOf f (f .repairKind) (repairs L (there p)))
+  unfolding wholeOutcome wholeSheet outcomeStatus
+  alone-fine p fine = (rw fine refl, rw fine refl)
+
+  -- A plan for all of them.
+  named-alone : (p : ℕ) → p ≡ fatalPosition n L e → p < n
+      → PlanAlone n L f e (Fatal (lost L (there p)) p) (cycleSheets f n p (shownCycle L (there p)))
+  unfolding outcomeStatus
+  named-alone p is inside =
+      let (answer, sheet) = alone-fatal p (fatal-at n L e is inside) in
+      record {
+        listed = λ none. absurd (omega arith);
+        named = λ number q same.
+            let here : p ≡ q = cc in
+            let counted : lost L (there p) ≡ number = cc in
+            subst
+            (λ (q : ℕ).
+            (q < n) × (wholeOutcome L (there q) ≡ Fatal number 0)
+            × (sheetAt f q (cycleSheets f n p (shownCycle L (there p))) ≡ wholeSheet L f (there q))
+            × ((r : ℕ) → r < q → outcomeStatus (wholeOutcome L (there r)) ≡ 0)
+            × ((r : ℕ) → r < n → (r ≡ q → ⊥) → sheetAt f r (cycleSheets f n p (shownCycle L (there p))) ≡ blankSheet f))
+            here (
+              inside,
+              answer ∙ ap (λ (c : ℕ). Fatal c 0) counted,
+              cycle-sheet-at f n p (shownCycle L (there p)) p inside ∙ (rw (eq-eqb p p refl) (sym sheet)),
+              λ r below. alone-fine r (fine-below n L e (omega arith)) .0,
+              λ r l other. cycle-sheet-at f n p (shownCycle L (there p)) r l ∙ (rw (ne-eqb r p other) refl),
+            );
+      }
+
+  listed-alone : fatal (sectored n L) e ≡ false
+      → PlanAlone n L f e (Repairs (length (sectorRepairs n L e))) (repairSheets f n (sectorRepairs n L e))
+  unfolding sectorRepairs
+  listed-alone fine =
+      record {
+        listed = λ none p l.
+            let (answer, sheet) = alone-fine p (fine-all n L e fine l) in (
+              answer,
+              repair-sheet-at f n (sectorRepairs n L e) p l
+                  ∙ ap (sheetOf f (f .repairKind)) (of-position n (λ p. repairs L (there p)) n (le-refl n) l) ∙ sym sheet,
+            );
+        named = λ number q same. let z : _≡_ {A = ℕ} 0 1 = cc in absurd (omega arith);
+      }
+
+  pub loss-alone : PlanAlone n L f e (lossOutcome n L e) (lossSheets n L f e)
+  unfolding lossOutcome lossSheets
+  loss-alone = go (fatal (sectored n L) e) refl
+    where
+      go : (b : Bool) → fatal (sectored n L) e ≡ b → PlanAlone n L f e (lossOutcome n L e) (lossSheets n L f e)
+      go true q =
+          let found = sym (fatal-sectors n L e) ∙ q in rw found (named-alone (fatalPosition n L e) refl (ltb-true (fatalPosition n L e) n found))
+      go false q = rw (sym (fatal-sectors n L e) ∙ q) (listed-alone q)
+
+pub plan-alone : (z : Size) (n : ℕ) (m s : List ℕ) → refusal (planTests z n m (length s)) ≡ 0
+    → PlanAlone n (sheetLayout z) narrow (erasures m) (planOutcome z n m s) (planSheets z n m s)
+unfolding planOutcome planSheets
+plan-alone z n m s ok = rw ok (loss-alone n (sheetLayout z) narrow (erasures m))
 
 -- ---- a turn
 pub turn-single : (L : Layout) (f : Format) (x : Stretch) (k : ℕ) (a m : List ℕ) → turnOf 1 L f x k a m ≡ wholeTurn L f x k a m

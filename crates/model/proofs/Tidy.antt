@@ -16,9 +16,9 @@ use lib.Seq.{length-take-le, drop-length}
 use Rattle.stripes.specs.System.{Layout, whole, Bytes}
 use Rattle.stripes.specs.Erased.{erasures}
 use Rattle.stripes.specs.Repair.{Entry, Peels, diskOf, stripeOf, fatal}
-use Rattle.stripes.specs.Sectors.{sectored, sectorRepairs, ofPosition}
+use Rattle.stripes.specs.Sectors.{sectored, rising, sectorRepairs, ofPosition}
 use Rattle.stripes.proofs.Fold.{by-cases, below-suc}
-use Rattle.stripes.proofs.Positions.{order-peels, fatal-sectors, rising-ext}
+use Rattle.stripes.proofs.Positions.{order-peels, order-clears, fatal-sectors, rising-ext, rising-of, first-of}
 use Rattle.model.specs.Grid.{sizeFits}
 use Rattle.model.specs.Refusal.{Test, refusal}
 use Rattle.model.specs.Sheet.{Format, narrow, recordAt, sheetBytes, sheetOf, sheetsOf, sheetsBytes, sheetAt, repairSheets}
@@ -27,15 +27,16 @@ use Rattle.model.specs.Tidy.{tidyTests, tidyStatus, tidyForm, tidySheet,
 use Rattle.model.specs.Plan.{planTests, planSheets, outcomeStatus, lossOutcome, lossSheets, sheetLayout}
 use Rattle.model.specs.Turn.{lossTold, contradiction, repairsMade, turnRepairs, contradicts, turnOf}
 use Rattle.model.specs.Rebuild.{bufferTests, bufferRefusal, rebuildRefusal, rebuildTurn}
-use Rattle.model.specs.Follow.{sheetsEntries, chainsTests, sheetsTests, listTests, followStatus, followTests, listOutcome, listArray, looseStatus}
+use Rattle.model.specs.Follow.{Usable, Reads, sheetsEntries, chainsTests, sheetsTests, listTests, followStatus, followTests, listOutcome, listArray, looseStatus}
 use Rattle.model.specs.declared.Size.{Size}
 use Rattle.model.specs.declared.Outcome.the-variants.{Refused}
 use Rattle.model.proofs.Refusal.{given-accepted, given-refused, passes, passed, refused-first}
 use Rattle.model.proofs.Accept.{plan-fits, buffers-fit, buffers-passed, rebuild-fits}
 use Rattle.model.proofs.Sheets.{Fitting, Small, small, number-small, sheet-length, sheet-bytes, sheet-is}
 use Rattle.model.proofs.Chain.{chain-few, clean-first, clean-exact, written-chain, off-chain}
-use Rattle.model.proofs.SheetRow.{length-sheets, sheet-at, whole-sheet, bytes-at, length-sheet-at, repair-sheet-at, sectors-fitting, same-numbers, chains-go-on, sheets-go-on}
+use Rattle.model.proofs.SheetRow.{length-sheets, sheet-at, whole-sheet, bytes-at, length-sheet-at, repair-sheet-at, sheets-list, sectors-fitting, same-numbers, chains-go-on, sheets-go-on}
 use Rattle.model.proofs.Turns.{first-peels}
+use Rattle.model.proofs.Demand3.{turn-made}
 use Rattle.model.proofs.Follow.{sectors, listed, sheetsRefusal, Gives, follow-given, buffers-seven, follow-first}
 
 -- ---- what the call gives
@@ -147,47 +148,44 @@ module _ (f : Format) (kind : f .repairKind < 256) (numbers : f .records < 256) 
 
 -- ---- the library's own sheets
 
--- Sheets of allowed repairs of sectors are tidy, and 10, 13 and 14 let each through.
-repairs-tidy : (z : Size) → sizeFits z ≡ true → (n : ℕ) (e : ℕ → Bool) (v : List Entry) → Peels (sectored n (sheetLayout z)) e v
-    → (p : ℕ) → p < n
-    → Tidy narrow (sheetAt narrow p (repairSheets narrow n v)) × (cleanRefusal narrow (sheetAt narrow p (repairSheets narrow n v)) ≡ 0)
-repairs-tidy z size n e v peels p l =
-    rw (repair-sheet-at narrow n v p l)
-    (written-tidy narrow (omega arith) (omega arith) (ofPosition n p v) (sectors-fitting z size n e v peels p l))
+-- The sheets of allowed repairs of sectors in rising order of position list them, and each is tidy.
+repairs-read : (z : Size) → sizeFits z ≡ true → (n : ℕ) (e : ℕ → Bool) (v : List Entry) → Peels (sectored n (sheetLayout z)) e v
+    → rising n (λ p. ofPosition n p v) n ≡ v → Reads narrow n (repairSheets narrow n v) v
+repairs-read z size n e v peels in-order =
+    let fits = sectors-fitting z size n e v peels in
+    let tidied : (p : ℕ) → p < n
+    → Tidy narrow (sheetAt narrow p (repairSheets narrow n v)) × (cleanRefusal narrow (sheetAt narrow p (repairSheets narrow n v)) ≡ 0) =
+    λ p l. rw (repair-sheet-at narrow n v p l) (written-tidy narrow (omega arith) (omega arith) (ofPosition n p v) (fits p l)) in
+    record { lists = sheets-list narrow n v (omega arith) fits ∙ in-order; tidy = λ p l. tidied p l .0; clean = λ p l. tidied p l .1 }
 
--- Where plan does not call a loss fatal, each of its sheets is so,
-pub plan-tidy : (z : Size) (n : ℕ) (m s : List ℕ) → refusal (planTests z n m (length s)) ≡ 0
-    → fatal (sectored n (sheetLayout z)) (erasures m) ≡ false → (p : ℕ) → p < n
-    → Tidy narrow (sheetAt narrow p (planSheets z n m s)) × (cleanRefusal narrow (sheetAt narrow p (planSheets z n m s)) ≡ 0)
-unfolding planSheets lossSheets
-plan-tidy z n m s ok fine =
+-- Where plan does not call a loss fatal, its sheets are so, of all repairs in plan's order,
+pub plan-reads : (z : Size) (n : ℕ) (m s : List ℕ) → refusal (planTests z n m (length s)) ≡ 0
+    → fatal (sectored n (sheetLayout z)) (erasures m) ≡ false
+    → Reads narrow n (planSheets z n m s) (sectorRepairs n (sheetLayout z) (erasures m))
+unfolding planSheets lossSheets sectorRepairs
+plan-reads z n m s ok fine =
     let L : Layout = sheetLayout z in
     rw (ok, sym (fatal-sectors n L (erasures m)) ∙ fine)
-    (repairs-tidy z (plan-fits z n m (length s) ok .0) n (erasures m) (sectorRepairs n L (erasures m)) (order-peels n L (erasures m)))
+    (repairs-read z (plan-fits z n m (length s) ok .0) n (erasures m) (sectorRepairs n L (erasures m)) (order-peels n L (erasures m))
+    (rising-of n _))
 
--- and so is each of every turn that rebuild does not refuse.
-pub turn-tidy : (z : Size) (B w : ℕ) (a m s : List ℕ) (k : ℕ) → outcomeStatus (rebuildTurn z B w a m s k .answer) ≡ 0
-    → (p : ℕ) → p < B / w
-    → let t = sheetAt narrow p (rebuildTurn z B w a m s k .sheets) in Tidy narrow t × (cleanRefusal narrow t ≡ 0)
-unfolding rebuildTurn turnOf repairsMade turnRepairs lossTold lossOutcome contradiction outcomeStatus
-turn-tidy z B w a m s k accepted p l =
-    go (eqb (rebuildRefusal z B w a m s k) 0) refl (fatal (sectors z B w) (erasures m)) refl
-    (contradicts (sectors z B w) (whole w) a m (turnRepairs (B / w) (sheetLayout z) k m)) refl accepted
-  where
-    go : (q : Bool) → eqb (rebuildRefusal z B w a m s k) 0 ≡ q → (f : Bool) → fatal (sectors z B w) (erasures m) ≡ f
-        → (r : Bool) → contradicts (sectors z B w) (whole w) a m (turnRepairs (B / w) (sheetLayout z) k m) ≡ r
-        → outcomeStatus (rebuildTurn z B w a m s k .answer) ≡ 0
-        → let t = sheetAt narrow p (rebuildTurn z B w a m s k .sheets) in Tidy narrow t × (cleanRefusal narrow t ≡ 0)
-    go false refused f e r i = rw refused (λ none. absurd (eqb-false (rebuildRefusal z B w a m s k) 0 refused none))
-    go true passed true lossy r i =
-        rw (passed, lossy, sym (fatal-sectors (B / w) (sheetLayout z) (erasures m)) ∙ lossy) (λ none. absurd (omega arith))
-    go true passed false fine true contradicted = rw (passed, fine, contradicted) (λ none. absurd (omega arith))
-    go true passed false fine false agreed =
-        let (buffers, some) = rebuild-fits z B w a m s k (eqb-true (rebuildRefusal z B w a m s k) 0 passed) in
-        let size = buffers-fit z B w a m s buffers .array .size in
-        let v : List Entry = take k (sectorRepairs (B / w) (sheetLayout z) (erasures m)) in
-        rw (passed, fine, agreed)
-        (λ none. repairs-tidy z size (B / w) (erasures m) v (first-peels (B / w) (sheetLayout z) m k) p l)
+-- and follow can use them;
+pub plan-usable : (z : Size) (n : ℕ) (m s : List ℕ) → refusal (planTests z n m (length s)) ≡ 0
+    → fatal (sectored n (sheetLayout z)) (erasures m) ≡ false → Usable z n m (planSheets z n m s)
+plan-usable z n m s ok fine =
+    let reads = plan-reads z n m s ok fine in
+    (reads .clean, rw (reads .lists) (order-clears n (sheetLayout z) (erasures m) fine))
+
+-- and so are those of every turn that rebuild does not refuse, of its first repairs.
+pub turn-reads : (z : Size) (B w : ℕ) (a m s : List ℕ) (k : ℕ) → outcomeStatus (rebuildTurn z B w a m s k .answer) ≡ 0
+    → Reads narrow (B / w) (rebuildTurn z B w a m s k .sheets) (take k (sectorRepairs (B / w) (sheetLayout z) (erasures m)))
+unfolding repairsMade
+turn-reads z B w a m s k accepted =
+    let (ok, made) = turn-made z B w a m s k accepted in
+    let size = buffers-fit z B w a m s (rebuild-fits z B w a m s k ok .0) .array .size in
+    let v : List Entry = take k (sectorRepairs (B / w) (sheetLayout z) (erasures m)) in
+    rw made
+    (repairs-read z size (B / w) (erasures m) v (first-peels (B / w) (sheetLayout z) m k) (first-of (B / w) (sheetLayout z) (erasures m) k))
 
 -- ---- follow
 

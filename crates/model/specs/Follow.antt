@@ -14,6 +14,7 @@ use Rattle.stripes.specs.Sectors.{sectored, rising}
 use Rattle.model.specs.Refusal.{Test, _unless_, refusal}
 use Rattle.model.specs.Sheet.{Format, narrow, sheetAt}
 use Rattle.model.specs.Chain.{kindOf, within, different, chainNumbers, noLeftovers, cleanRefusal, chainEntries}
+use Rattle.model.specs.Tidy.{Tidy}
 use Rattle.model.specs.Plan.{sheetLayout}
 use Rattle.model.specs.Rebuild.{bufferTests}
 use Rattle.stripes.specs.declared.Stretch.{Stretch}
@@ -30,6 +31,13 @@ abbrev pub Usable : Size → (n : ℕ) → (m sheets : List ℕ) → Type 0
 Usable z n m sheets =
     ((p : ℕ) → p < n → cleanRefusal narrow (sheetAt narrow p sheets) ≡ 0)
     × (clears (sectored n (sheetLayout z)) (erasures m) (sheetsEntries narrow n sheets) ≡ true)
+
+-- Sheets as the library writes them for the repairs v of sectors: read in rising order of position they list v, each is tidy, and 10, 13 and
+-- 14 let it through.
+pub record Reads (f : Format) (n : ℕ) (sheets : List ℕ) (v : List Entry) : Type 0 where
+  pub lists : sheetsEntries f n sheets ≡ v
+  pub tidy : (p : ℕ) → p < n → Tidy f (sheetAt f p sheets)
+  pub clean : (p : ℕ) → p < n → cleanRefusal f (sheetAt f p sheets) ≡ 0
 
 -- The tests of the chains of n sheets, and of what stands off them: each number on all sheets before the next.
 unfoldable pub chainsTests : Format → (n : ℕ) → List ℕ → List Test

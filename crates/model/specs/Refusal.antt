@@ -17,7 +17,7 @@ unfoldable pub refusal : List Test → ℕ
 refusal [] = 0
 refusal (k unless t ∷ ts) = cond t (refusal ts) k
 
--- Of two numbers of refusals the lower, which is that of the earlier test where they rise; 0 is none.
+-- Of two numbers of refusals the lower, which is that of the earlier test where the numbers of the tests rise, as 10, 13 and 14 do; 0 is none.
 unfoldable pub earlier : (j k : ℕ) → ℕ
 earlier zero k = k
 earlier (suc j) zero = suc j

@@ -1,9 +1,11 @@
 -- Blocks without sectors: what plan, rebuild, follow, save and look do where each block is a single sector, in the words of paper 01 and of
--- paper 02's requests before P6. That the calls do so is a theorem.
+-- paper 02's requests before P6. The crate demands promises of the calls that they do so; and of plan, that each position is planned as if it
+-- were alone.
 -- Assumes nothing.
+use mathlib.Core.Path.{_≡_}
 use mathlib.Core.Bool.{Bool, cond, _&&_}
 use mathlib.Core.List.{List, [], _∷_, _++_}
-use Prim.Native.Nat.{ℕ}
+use Prim.Native.Nat.{ℕ, _<_}
 use lib.Dec.{eqb, ltb}
 use lib.ListN.{length, getD, take}
 use Rattle.stripes.specs.Fold.{count}
@@ -12,12 +14,13 @@ use Rattle.stripes.specs.Erased.{erasures}
 use Rattle.stripes.specs.Repair.{Entry, repairs, fatal, mapAfter, rebuilt, zeroed}
 use Rattle.stripes.specs.Undetermined.{lost, determined, partsCancel, saved}
 use Rattle.stripes.specs.Cycle.{shownCycle}
+use Rattle.stripes.specs.Sectors.{atPosition}
 use Rattle.stripes.specs.declared.Stretch.{Stretch}
 use Rattle.model.specs.Grid.{layoutOf, columnBase, disks, sizeFits, mapFits}
 use Rattle.model.specs.Refusal.{Test, _unless_, refusal, arrayTests}
-use Rattle.model.specs.Sheet.{Format, narrow, sheetBytes, sheetOf, blankSheet}
+use Rattle.model.specs.Sheet.{Format, narrow, sheetBytes, sheetOf, blankSheet, sheetAt}
 use Rattle.model.specs.Chain.{cleanTests, chainEntries}
-use Rattle.model.specs.Plan.{sheetLayout}
+use Rattle.model.specs.Plan.{sheetLayout, outcomeStatus}
 use Rattle.model.specs.Turn.{Turn, contradicts}
 use Rattle.model.specs.Follow.{listTests, listOutcome, listArray}
 use Rattle.model.specs.declared.Size.{Size}
@@ -94,3 +97,17 @@ saveWholeArray z B a m =
 unfoldable pub canLookWhole : Size → ℕ → (a m : List ℕ) → ℕ → Bool
 canLookWhole z B a m d =
     eqb (refusal (arrayTests z B (length a))) 0 && (mapFits (disks z) m && (ltb d (disks z) && eqb (getD m d 0) 0))
+
+-- ---- Each position by itself
+
+-- What a plan gives for n positions together, from what it gives for each alone, without sectors.
+pub record PlanAlone (n : ℕ) (L : Layout) (f : Format) (e : ℕ → Bool) (answer : Outcome) (sheets : List ℕ) : Type 0 where
+  -- Where it lists repairs, no position is fatal alone, and each has the sheet that it has alone.
+  pub listed : outcomeStatus answer ≡ 0 → (p : ℕ) → p < n
+      → (outcomeStatus (wholeOutcome L (atPosition n p e)) ≡ 0) × (sheetAt f p sheets ≡ wholeSheet L f (atPosition n p e))
+  -- Where it names position p, this is the lowest that is fatal alone. The number and its sheet are those that it has alone, and the other
+  -- sheets are zero.
+  pub named : (number p : ℕ) → answer ≡ Fatal number p
+      → (p < n) × (wholeOutcome L (atPosition n p e) ≡ Fatal number 0) × (sheetAt f p sheets ≡ wholeSheet L f (atPosition n p e))
+      × ((q : ℕ) → q < p → outcomeStatus (wholeOutcome L (atPosition n q e)) ≡ 0)
+      × ((q : ℕ) → q < n → (q ≡ p → ⊥) → sheetAt f q sheets ≡ blankSheet f)

@@ -33,7 +33,7 @@ use Rattle.model.proofs.Limits.{grid-repairs-bound}
 use Rattle.model.proofs.Sheets.{sheet-length}
 use Rattle.model.proofs.SheetRow.{sheets-ext, sheets-split}
 use Rattle.plan.specs.Drafted.{positionOutcome, draftSheet, draftSheets}
-use Rattle.plan.proofs.Put.{putSheet, put-length, put-own, put-other}
+use Rattle.sheet.proofs.Put.{putSheet, put-length, put-own, put-other}
 
 -- ---- one position
 module _ (L : Layout) (e : ℕ → Bool) where

@@ -1,4 +1,2 @@
 pub mod Answers
-pub mod Put
 pub mod Begun
-pub mod Noted

@@ -9,10 +9,7 @@ ghost use Rattle.model.specs.Sheet.{narrow, sheetBytes, sheetsBytes};
 ghost use Rattle.model.specs.Plan.{sheetLayout, lossOutcome, planOutcome, planSheets};
 ghost use Rattle.tally.specs.Column.{Positioned};
 ghost use Rattle.plan.specs.Drafted.{positionOutcome, draftSheet, draftSheets};
-ghost use Rattle.plan.specs.Notes.{Notes, EachNotes};
-
-mod notes;
-
+ghost use Rattle.notes.specs.Notes.{Notes, EachNotes};
 use model::Outcome;
 use model::Size;
 use solve::Solved;

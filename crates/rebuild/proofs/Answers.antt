@@ -16,9 +16,9 @@ use Rattle.stripes.specs.System.{Layout, whole}
 use Rattle.stripes.specs.Erased.{erasures}
 use Rattle.stripes.specs.Undetermined.{lost}
 use Rattle.stripes.specs.Repair.{Entry, Peels, mapAfter, fatal, rebuilt, zeroed}
-use Rattle.stripes.specs.Sectors.{sectored, atPosition, rising, sectorRepairs, ofPosition, fatalPosition}
+use Rattle.stripes.specs.Sectors.{sectored, atPosition, sectorRepairs, fatalPosition}
 use Rattle.stripes.proofs.Peel.{named-repaired}
-use Rattle.stripes.proofs.Positions.{length-order, fatal-sectors, rising-ext, take-rising, of-position-take}
+use Rattle.stripes.proofs.Positions.{length-order, fatal-sectors, first-of}
 use Rattle.model.specs.Grid.{arrayBytes}
 use Rattle.model.specs.Refusal.{refusal, sectorTests}
 use Rattle.model.specs.Sheet.{narrow, sheetsBytes, sheetAt, repairSheets, blankSheets}
@@ -168,11 +168,6 @@ planned {z} {B} {w} {a} {m} {sheets} {k} t answer s answer-is sheets-are count e
           least = least;
         }
 
--- The first repairs of plan's order are in rising order of position.
-in-order : (n : ℕ) (L : Layout) (k : ℕ) (m : List ℕ) → rising n (λ p. ofPosition n p (turnRepairs n L k m)) n ≡ turnRepairs n L k m
-unfolding turnRepairs sectorRepairs
-in-order n L k m = rising-ext n n (λ p l. of-position-take n _ k l) ∙ sym (take-rising n _ k n)
-
 module _ {z : Size} {B w : ℕ} {a m sheets : List ℕ} {k : ℕ} {s : List ℕ} {count made : ℕ} (p : Planned z B w a m sheets k s count made) where
   -- The repairs of the turn. Each is allowed at its step, and those at each position have room in its sheet.
   abbrev own : List Entry
@@ -184,10 +179,11 @@ module _ {z : Size} {B w : ℕ} {a m sheets : List ℕ} {k : ℕ} {s : List ℕ}
 
   -- The sheets list them.
   lists : sheetsEntries narrow (B / w) s ≡ own
+  unfolding turnRepairs
   lists =
       let room = sectors-fitting z (fitting (p .tests) .array .size) (B / w) (erasures m) own own-peels in
       ap (sheetsEntries narrow (B / w)) (p .written) ∙ sheets-list narrow (B / w) own (omega arith) room
-      ∙ in-order (B / w) (sheetLayout z) k m
+      ∙ first-of (B / w) (sheetLayout z) (erasures m) k
 
   pub sheets-long : length s ≡ sheetsBytes narrow (B / w)
   sheets-long = ap length (p .written) ∙ length-repair-sheets narrow (B / w) own

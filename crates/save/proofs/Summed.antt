@@ -30,7 +30,7 @@ use Rattle.parts.specs.Ways.{SideOf}
 use Rattle.sums.specs.Held.{Held}
 use Rattle.sums.specs.Cut.{inPart, cutSum}
 use Rattle.save.specs.Saving.{savedIf}
-use Rattle.save.proofs.Parts.{cut-is}
+use Rattle.survivors.proofs.Parts.{cut-is}
 
 -- The array with the determined disks below k saved.
 unfoldable pub savedBelow : Layout → Stretch → List ℕ → (e : ℕ → Bool) → (k : ℕ) → List ℕ

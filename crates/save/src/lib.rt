@@ -18,7 +18,6 @@ ghost use Rattle.sums.specs.Held.{Held};
 ghost use Rattle.tally.specs.Column.{Positioned, Located};
 ghost use Rattle.restore.specs.Restored.{Sectored};
 
-mod judge;
 mod rest;
 
 use model::Saving;
@@ -200,7 +199,7 @@ pub fn save(size: Size, block: usize, array: &mut [u8], sector: usize, map: &[u8
     if !refusal::map_fits(size, block / sector, map) {
         return Saving::Refused(4);
     }
-    if !judge::all_fit(size, layout::stripe::COLUMN_BASE, block, sector, array, map) {
+    if !survivors::all_fit(size, layout::stripe::COLUMN_BASE, block, sector, array, map) {
         restore::zero::zero_erased(sector, array, map);
         return Saving::Refused(7);
     }

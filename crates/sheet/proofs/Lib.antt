@@ -2,3 +2,4 @@ pub mod Written
 pub mod Fitting
 pub mod Blanks
 pub mod Part
+pub mod Put

@@ -23,4 +23,5 @@ pub mod Sectors
 pub mod Positions
 pub mod SectorBytes
 pub mod SectorParts
+pub mod EachPosition
 pub mod Theorems

@@ -325,6 +325,15 @@ pub of-position-take : (n : ℕ) (g : ℕ → List Entry) (k : ℕ) {p : ℕ} �
 of-position-take n g k {p} place =
     ap (ofPosition n p) (take-rising n g k n) ∙ of-position n (λ p. take (k - length (rising n g p)) (g p)) n (le-refl n) place
 
+-- A list in rising order is what its entries at the positions come to, one after another; so are the first repairs of plan's order.
+pub rising-of : (n : ℕ) (g : ℕ → List Entry) → rising n (λ p. ofPosition n p (rising n g n)) n ≡ rising n g n
+rising-of n g = rising-ext n n (λ p l. of-position n g n (le-refl n) l)
+
+pub first-of : (n : ℕ) (L : Layout) (e : ℕ → Bool) (k : ℕ)
+    → rising n (λ p. ofPosition n p (take k (sectorRepairs n L e))) n ≡ take k (sectorRepairs n L e)
+unfolding sectorRepairs
+first-of n L e k = rising-ext n n (λ p l. of-position-take n _ k l) ∙ sym (take-rising n _ k n)
+
 -- ---- one sector a block: all is as it is of disks
 pub one-entries : (w : List Entry) → map (sectorEntry 1 0) w ≡ w
 unfolding sectorEntry sectorAt

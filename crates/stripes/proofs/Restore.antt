@@ -79,7 +79,7 @@ others-of-codeword L x b word r below there bound p h =
     (sym (others-and-own L (λ i. byte x b i p) (r .disk) (r .stripe) below there) ∙ word .sums (r .stripe) bound p h)
 
 -- The sum of the others is the same where their bytes are.
-others-same : (L : Layout) (x : Stretch) (a b : List ℕ) (r : Entry) (p : ℕ)
+pub others-same : (L : Layout) (x : Stretch) (a b : List ℕ) (r : Entry) (p : ℕ)
     → ((i : ℕ) → i < L .disks → on L i (r .stripe) ≡ true → (i ≡ r .disk → ⊥) → byte x a i p ≡ byte x b i p)
     → sumOfOthers L x a r p ≡ sumOfOthers L x b r p
 unfolding sumOfOthers sumOver gate

@@ -1,6 +1,6 @@
 -- `demands::follow_sheets` meets its contract: what follow promises is what the theorems about it are proved of.
 -- Assumes nothing.
-use mathlib.Core.Path.{_≡_, refl, _∙_, sym, subst}
+use mathlib.Core.Path.{_≡_, refl, _∙_, sym, ap, subst}
 use mathlib.Core.Logic.{_↔_}
 use Prim.Native.Nat.{ℕ, _/_, _<_}
 use native.Mathlib.Omega.{arith}
@@ -14,6 +14,7 @@ use Rattle.model.specs.Follow.{Usable}
 use Rattle.model.specs.declared.Outcome.{Outcome}
 use Rattle.model.proofs.Follow.{sectors, follow-any, follow-contradicted, follow-fourteen, follow-fatal}
 use Rattle.model.proofs.Single.{follow-single}
+use Rattle.model.proofs.ByPosition.{follow-alone}
 use Rattle.demands.proofs.follow_sheets.Statement.{statement}
 use Rattle.demands.proofs.follow_sheets.Tie as tie
 
@@ -53,9 +54,15 @@ returns c =
                   (sym outcome) (follow-fourteen (a .size) (a .block) (a .sector) (a .array .now) (a .map .now) (a .sheets .now) ok),
               (
                 λ lossy. array ∙ follow-fatal (a .size) (a .block) (a .sector) (a .array .now) (a .map .now) (a .sheets .now) lossy .0,
-                λ one.
-                    let (same, left) = follow-single (a .size) (a .block) (a .array .now) (a .map .now) (a .sheets .now) in
-                    rw (outcome, array, one) (same, left),
+                (
+                  λ one.
+                      let (same, left) = follow-single (a .size) (a .block) (a .array .now) (a .map .now) (a .sheets .now) in
+                      rw (outcome, array, one) (same, left),
+                  λ accepted.
+                      rw array
+                      (follow-alone (a .size) (a .block) (a .sector) (a .array .now) (a .map .now) (a .sheets .now)
+                      (sym (ap outcomeStatus outcome) ∙ accepted)),
+                ),
               ),
             ),
           ),

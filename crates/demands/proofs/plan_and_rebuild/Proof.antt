@@ -13,7 +13,8 @@ use Rattle.model.specs.Demand3.{Planned}
 use Rattle.model.specs.declared.Outcome.{Outcome}
 use Rattle.model.proofs.Demand3.{plan-planned}
 use Rattle.demands.proofs.Promised.{promised}
-use Rattle.model.proofs.Single.{plan-single}
+use Rattle.model.proofs.Single.{plan-single, plan-alone}
+use Rattle.model.proofs.Tidy.{plan-reads, plan-usable}
 use Rattle.demands.proofs.plan_and_rebuild.Statement.{statement}
 use Rattle.demands.proofs.plan_and_rebuild.Tie as tie
 
@@ -65,9 +66,19 @@ returns c =
                     λ cut planOk rebuildOk enough.
                         promised (a .size) (a .block) (a .sector) (a .limit) (a .array .now) (a .map .now) (a .draft .now) (a .sheets .now) small rebuildOk
                         _ _ _ _ _ _ rebuilt array map sheets (a .sectors) cut planned draft planOk enough,
-                    λ one.
-                        let (same, left) = plan-single (a .size) (a .map .now) (a .draft .now) in
-                        rw (planned, draft, one) (same, left),
+                    (
+                      λ one.
+                          let (same, left) = plan-single (a .size) (a .map .now) (a .draft .now) in
+                          rw (planned, draft, one) (same, left),
+                      (
+                        λ planOk. rw (planned, draft) (plan-alone (a .size) (a .sectors) (a .map .now) (a .draft .now) planOk),
+                        λ planOk fine.
+                            rw draft (
+                              plan-reads (a .size) (a .sectors) (a .map .now) (a .draft .now) planOk fine,
+                              plan-usable (a .size) (a .sectors) (a .map .now) (a .draft .now) planOk fine,
+                            ),
+                      ),
+                    ),
                   ),
                 ),
               ),

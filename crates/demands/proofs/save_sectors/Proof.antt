@@ -1,10 +1,13 @@
 -- `demands::save_sectors` meets its contract: what save promises is what the theorems about it are proved of.
 -- Assumes nothing.
+use mathlib.Core.Path.{sym, _∙_, ap}
 use native.Mathlib.Omega.{arith}
 use borrow.Author.Needs.{needs}
 use Rattle.stripes.specs.System.{Bytes}
+use Rattle.model.specs.Save.{savingStatus}
 use Rattle.model.proofs.Save.{save-demand, save-as-rebuild}
 use Rattle.model.proofs.Single.{save-single}
+use Rattle.model.proofs.ByPosition.{save-alone}
 use Rattle.demands.proofs.save_sectors.Statement.{statement}
 use Rattle.demands.proofs.save_sectors.Tie as tie
 
@@ -28,9 +31,14 @@ returns c =
           (
             λ fine sheets long k some enough.
                 rw (answer, array) (save-as-rebuild (a .size) (a .block) (a .sector) (a .array .now) (a .map .now) fine small sheets long k some enough),
-            λ one.
-                let (same, left) = save-single (a .size) (a .block) (a .array .now) (a .map .now) in
-                rw (answer, array, one) (same, left),
+            (
+              λ one.
+                  let (same, left) = save-single (a .size) (a .block) (a .array .now) (a .map .now) in
+                  rw (answer, array, one) (same, left),
+              λ accepted.
+                  rw array
+                  (save-alone (a .size) (a .block) (a .sector) (a .array .now) (a .map .now) (sym (ap savingStatus answer) ∙ accepted)),
+            ),
           ),
         ),
       ),

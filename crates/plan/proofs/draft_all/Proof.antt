@@ -15,8 +15,8 @@ use Rattle.model.specs.Sheet.{narrow, sheetAt}
 use Rattle.model.proofs.Grid.{sectors-bound}
 use Rattle.model.proofs.SheetRow.{length-sheet-at}
 use Rattle.sheet.proofs.Part.{part-sheet}
-use Rattle.plan.specs.Notes.{Notes}
-use Rattle.plan.proofs.Put.{putSheet}
+use Rattle.notes.specs.Notes.{Notes}
+use Rattle.sheet.proofs.Put.{putSheet}
 use Rattle.plan.proofs.Begun.{Begun, begins, ends, goes, stops, repairs-told, after-length, after-other, own-few, before-few}
 use Rattle.plan.proofs.draft_all.Statement.{statement}
 use Rattle.plan.proofs.draft_all.Tie as tie

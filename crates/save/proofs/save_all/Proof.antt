@@ -7,7 +7,8 @@ use borrow.Author.Needs.{needs}
 use Rattle.stripes.specs.Erased.{erasures}
 use Rattle.model.specs.Grid.{layoutOf}
 use Rattle.model.proofs.Grid.{sector-some}
-use Rattle.save.proofs.ByPosition.{SavedTo, positions-few, positioned, offset-inside, held-at, saved-none, saved-length, still-fits, saved-next, saved-all}
+use Rattle.survivors.proofs.ByPosition.{positions-few, positioned, offset-inside, held-at}
+use Rattle.save.proofs.ByPosition.{SavedTo, saved-none, saved-length, still-fits, saved-next, saved-all}
 use Rattle.save.proofs.save_all.Statement.{statement}
 use Rattle.save.proofs.save_all.Tie as tie
 

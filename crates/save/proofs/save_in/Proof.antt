@@ -2,7 +2,7 @@
 -- Assumes nothing.
 use native.Mathlib.Omega.{arith}
 use borrow.Author.Needs.{needs}
-use Rattle.save.proofs.ByPosition.{loaded-inside}
+use Rattle.survivors.proofs.ByPosition.{loaded-inside}
 use Rattle.save.proofs.save_in.Statement.{statement}
 use Rattle.save.proofs.save_in.Tie as tie
 

@@ -1,0 +1,3 @@
+pub mod Parts
+pub mod Judged
+pub mod ByPosition
