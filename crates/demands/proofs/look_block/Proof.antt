@@ -11,7 +11,7 @@ look-requires c κs = search needs
 
 returns : tie.Need-returns
 returns c =
-    let a = c .before .before .args in
+    let a = c .before .before .before .args in
     let (bytes, place) = c .look .ensures in (
       bytes,
       (
