@@ -25,7 +25,8 @@ use Rattle.model.specs.declared.Size.{Size}
 use Rattle.model.specs.declared.Outcome.{Outcome}
 use Rattle.model.proofs.Accept.{BuffersFit, rebuild-fits, buffers-fit}
 use Rattle.model.proofs.Demand3.{Sheets, demand3}
-use Rattle.series.specs.Total.{turnBytes, start, turnsIn, totalOf, Written}
+use Rattle.model.specs.Series.{turnBytes, start, turnsIn, Written}
+use Rattle.series.specs.Total.{totalOf}
 use Rattle.series.specs.declared.Turns.{Turns}
 use Rattle.series.proofs.Ends.{positions-taken, positions-bound}
 

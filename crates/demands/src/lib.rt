@@ -28,9 +28,9 @@ ghost use Rattle.model.specs.Save.{saveLayout, mapTests, saveAnswer, saveArray,
 ghost use Rattle.model.specs.Edition.{superparity};
 ghost use Rattle.model.specs.Demand2.{SameAt, SealDemand, CheckDemand, WriteDemand};
 ghost use Rattle.model.specs.Demand3.{Planned, Demand3, Restorable, TurnKeeps};
-ghost use Rattle.model.specs.Turn.{Turn};
+ghost use Rattle.model.specs.Turn.{Turn, madeBy};
 ghost use Rattle.model.specs.Single.{planWhole, planWholeSheet, PlanAlone, rebuildWhole, followWhole, followWholeArray, saveWhole, saveWholeArray, canLookWhole};
-ghost use Rattle.series.specs.Total.{turnBytes, start, turnsIn, endOf, totalOf, Written};
+ghost use Rattle.model.specs.Series.{turnBytes, turnsIn, endOf, Written};
 use model::Checked;
 use model::Outcome;
 use model::Saving;
@@ -127,8 +127,13 @@ pub fn plan_and_rebuild(
     ensures planned { λ r. ⌜ r .planned ≡ planOutcome size sectors (now (map .entry)) (now (draft .entry)) ⌝ }
     ensures draft { λ r. ⌜ now (draft .exit) ≡ planSheets size sectors (now (map .entry)) (now (draft .entry)) ⌝ }
     ensures rebuilt { λ r. ⌜
-        r .rebuilt ≡ totalOf (start (now (array .entry)) (now (map .entry)))
-        (turnsIn size block sector limit (now (sheets .entry)) (now (array .entry)) (now (map .entry)))
+        r .rebuilt
+        ≡ record {
+          last = endOf size block sector limit (now (sheets .entry)) (now (array .entry)) (now (map .entry)) .answer;
+          turns = length (turnsIn size block sector limit (now (sheets .entry)) (now (array .entry)) (now (map .entry)));
+          made = madeBy (turnsIn size block sector limit (now (sheets .entry)) (now (array .entry)) (now (map .entry)));
+          left = 0;
+        }
         ⌝ }
     ensures array { λ r. ⌜
         now (array .exit) ≡ endOf size block sector limit (now (sheets .entry)) (now (array .entry)) (now (map .entry)) .array

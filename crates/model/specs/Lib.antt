@@ -9,6 +9,7 @@ pub mod Tidy
 pub mod Plan
 pub mod Turn
 pub mod Rebuild
+pub mod Series
 pub mod Follow
 pub mod Listing
 pub mod Edition

@@ -39,7 +39,8 @@ use Rattle.model.proofs.Grid.{rows-below, map-length, sectors-some, sectors-bou
 use Rattle.model.proofs.Limits.{grid-repairs-bound}
 use Rattle.model.proofs.SheetRow.{length-repair-sheets, length-blank-sheets, length-cycle-sheets}
 use Rattle.model.proofs.Turns.{turn-length, turn-map}
-use Rattle.series.specs.Total.{positions, turnBytes, nextTotal}
+use Rattle.model.specs.Series.{positions, turnBytes}
+use Rattle.series.specs.Total.{nextTotal}
 use Rattle.series.specs.declared.Turns.{Turns}
 use Rattle.tally.specs.Tally.{nextErased}
 use Rattle.tally.proofs.Scanned.{next-erased, next-passed}

@@ -17,7 +17,8 @@ use Rattle.model.specs.Turn.{Turn, unfinished, turnsBy, lastOf, repairCount, ma
 use Rattle.model.specs.Rebuild.{rebuildTurn, rebuildTurns}
 use Rattle.model.specs.declared.Size.{Size}
 use Rattle.series.proofs.Ends.{sheets-kept, array-kept, map-kept, few-counted}
-use Rattle.series.specs.Total.{turnBytes, start, turnsIn, totalOf, nextTotal, Written}
+use Rattle.model.specs.Series.{turnBytes, start, turnsIn, Written}
+use Rattle.series.specs.Total.{totalOf, nextTotal}
 use Rattle.series.specs.declared.Turns.{Turns}
 
 -- ---- parts of a buffer

@@ -8,7 +8,8 @@ ghost use Rattle.stripes.specs.Erased.{erasures};
 ghost use Rattle.model.specs.Plan.{sheetLayout};
 ghost use Rattle.stripes.specs.Sectors.{sectored};
 ghost use Rattle.model.specs.Rebuild.{rebuildTurn};
-ghost use Rattle.series.specs.Total.{positions as Total·positions, turnBytes, start, turnsIn, endOf, totalOf, nextTotal, Written};
+ghost use Rattle.model.specs.Series.{positions as Series·positions, turnBytes, start, turnsIn, endOf, Written};
+ghost use Rattle.series.specs.Total.{totalOf, nextTotal};
 use model::Outcome;
 use model::Size;
 
@@ -30,7 +31,7 @@ fn any_erased(map: &[u8]) -> bool
 
 // The positions that a turn has sheets for: one where block or sector is refused.
 fn positions(block: usize, sector: usize) -> usize
-    ensures { λ r. ⌜ r ≡ Total·positions block sector ⌝ }
+    ensures { λ r. ⌜ r ≡ Series·positions block sector ⌝ }
 {
     if !refusal::block_fits(block) {
         return 1;

@@ -8,7 +8,7 @@ use borrow.Author.Needs.{needs}
 use Rattle.model.specs.Rebuild.{rebuildTurn}
 use Rattle.model.specs.declared.Outcome.the-variants.{Repairs}
 use Rattle.series.proofs.Ends.{positions-bound, sum-small, number-small, refused-last, few-made, repairs-counted}
-use Rattle.series.specs.Total.{turnBytes}
+use Rattle.model.specs.Series.{turnBytes}
 use Rattle.series.proofs.turn.Statement.{statement}
 use Rattle.series.proofs.turn.Tie as tie
 
