@@ -2,11 +2,10 @@
 #ifndef BRIDGES_H
 #define BRIDGES_H
 
-#include <stddef.h>
-#include <stdint.h>
+#include "peer.h"
 
 /* How many of the disks that no repair brings back are lost. The others join two parts of the stripes that nothing else
    joins. One search from stripe to stripe finds these. */
-size_t count_lost(size_t rows, size_t columns, const uint8_t *left);
+size_t count_lost(const uint32_t others[STRIPES], size_t disks);
 
 #endif

@@ -23,7 +23,7 @@ struct call {
 enum { SEAL, CHECK, WRITE, PLAN, REBUILD, CALLS };
 
 /* No call has more sizes than this. */
-enum { SIZES_MAX = 24 };
+enum { SIZES_MAX = 12 };
 
 extern const struct call calls[CALLS];
 

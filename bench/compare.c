@@ -1,6 +1,5 @@
 #include "compare.h"
 #include "calls.h"
-#include "loop.h"
 #include "maps.h"
 
 #include <stdio.h>
@@ -32,14 +31,6 @@ static void run_from(const struct call *call, const struct peer *peer, struct in
     call->run(peer, input);
 }
 
-/* A fatal loss has many loops, so there a sheet is judged by the rule for loops, and else by its bytes. */
-static int sheet_is_right(const struct input *input, const uint8_t *sheet)
-{
-    if (input->status == FATAL)
-        return is_loop(input->size.rows, input->size.columns, input->map, input->sheet);
-    return memcmp(input->sheet, sheet, SHEET_BYTES) == 0;
-}
-
 /* Makes the library's call on a prepared input, keeps what it leaves, and gives the input with its results. */
 static struct input expect(const struct call *call, struct input *input, struct expected *expected)
 {
@@ -51,15 +42,19 @@ static struct input expect(const struct call *call, struct input *input, struct 
     return *input;
 }
 
-/* Whether one peer gives what the library gave on the same input: the results in `given`, the array, the map and the
-   sheet. */
-static int agrees(const struct call *call, const struct peer *peer, struct input *input, const struct input *given,
-                  const struct expected *expected)
+/* Makes a call on the same input, and says whether it gives the results in `given` and leaves the same array and map. */
+static int gives(const struct call *call, const struct peer *peer, struct input *input, const struct input *given,
+                 const struct expected *expected)
 {
     run_from(call, peer, input, expected->before);
     return input->status == given->status && input->stripe == given->stripe && input->count == given->count
         && memcmp(input->array, expected->after, input->bytes) == 0
-        && memcmp(input->lent, expected->map, input->disks) == 0 && sheet_is_right(input, expected->sheet);
+        && memcmp(input->lent, expected->map, input->disks) == 0;
+}
+
+static int same_sheet(const struct input *input, const struct expected *expected)
+{
+    return memcmp(input->sheet, expected->sheet, SHEET_BYTES) == 0;
 }
 
 static void print_difference(const struct call *call, struct size size, const char *what, const char *peer)
@@ -73,14 +68,10 @@ static void print_difference(const struct call *call, struct size size, const ch
 static int input_agrees(const struct call *call, struct input *input, struct expected *expected)
 {
     struct input given = expect(call, input, expected);
-    if (!sheet_is_right(input, expected->sheet)) {
-        print_difference(call, input->size, "no loop from", peers[LIBRARY].name);
-        return 0;
-    }
     for (size_t p = LIBRARY + 1; p < PEERS; p++) {
         if (peers[p].bound || !takes_part(&peers[p], call, input->size))
             continue;
-        if (!agrees(call, &peers[p], input, &given, expected)) {
+        if (!gives(call, &peers[p], input, &given, expected) || !same_sheet(input, expected)) {
             print_difference(call, input->size, "the library and", peers[p].name);
             return 0;
         }
@@ -91,7 +82,8 @@ static int input_agrees(const struct call *call, struct input *input, struct exp
 int calls_agree(const struct call *first, const struct call *other, struct input *input, struct expected *expected)
 {
     struct input given = expect(first, input, expected);
-    int agree = sheet_is_right(input, expected->sheet) && agrees(other, &peers[LIBRARY], input, &given, expected);
+    int agree = gives(other, &peers[LIBRARY], input, &given, expected)
+        && (input->status == FATAL || same_sheet(input, expected));
     memcpy(input->array, expected->before, input->bytes);
     return agree;
 }
@@ -118,17 +110,24 @@ static int size_agrees(const struct call *call, struct size size, struct input *
     return 1;
 }
 
-int peers_agree(void)
+int call_agrees(const struct call *call)
 {
     int agree = 1;
     struct input input;
     struct expected expected;
     expected_open(&expected);
     input_open(&input);
-    for (size_t c = 0; c < CALLS; c++)
-        for (size_t s = 0; s < calls[c].size_count; s++)
-            agree = agree && size_agrees(&calls[c], calls[c].sizes[s], &input, &expected);
+    for (size_t s = 0; s < call->size_count; s++)
+        agree = agree && size_agrees(call, call->sizes[s], &input, &expected);
     input_close(&input);
     expected_close(&expected);
+    return agree;
+}
+
+int peers_agree(void)
+{
+    int agree = 1;
+    for (size_t c = 0; c < CALLS; c++)
+        agree = agree && call_agrees(&calls[c]);
     return agree;
 }

@@ -21,7 +21,7 @@ static const struct guard guards[] = {
     {REBUILD, READ, 6.0},
     {REBUILD, TUNED, 1.1},
     {REBUILD, ISAL, 1.5},
-    {PLAN, TUNED, 12.0},
+    {PLAN, TUNED, 3.0},
 };
 
 enum { GUARDS = sizeof guards / sizeof *guards };
@@ -40,14 +40,13 @@ static int is_guarded(const struct call *call, struct size size)
     return call->by_map ? size.rows >= GUARDED_SIDE || size.columns >= GUARDED_SIDE : size.block >= GUARDED_BLOCK;
 }
 
-static int warn_one(const struct guard *guard, struct size size, double ratio)
+int warn_above(const struct call *call, struct size size, size_t peer, double ratio, double most)
 {
     char title[TITLE_MAX];
-    if (!is_guarded(&calls[guard->call], size) || ratio <= guard->most)
+    if (ratio <= most)
         return 0;
-    put_title(title, &calls[guard->call], size);
-    printf("WARNING: %s takes %.3f x the time of %s; the limit is %.2f\n", title, ratio, peers[guard->peer].name,
-           guard->most);
+    put_title(title, call, size);
+    printf("WARNING: %s takes %.3f x the time of %s; the limit is %.2f\n", title, ratio, peers[peer].name, most);
     return 1;
 }
 
@@ -55,9 +54,12 @@ int warn(ratio_table ratios)
 {
     int warnings = 0;
     for (size_t g = 0; g < GUARDS; g++) {
-        const struct call *call = &calls[guards[g].call];
+        const struct guard *guard = &guards[g];
+        const struct call *call = &calls[guard->call];
         for (size_t s = 0; s < call->size_count; s++)
-            warnings += warn_one(&guards[g], call->sizes[s], ratios[guards[g].call][s][guards[g].peer]);
+            if (is_guarded(call, call->sizes[s]))
+                warnings += warn_above(call, call->sizes[s], guard->peer, ratios[guard->call][s][guard->peer],
+                                       guard->most);
     }
     return warnings;
 }

@@ -10,6 +10,9 @@ typedef double ratio_table[CALLS][SIZES_MAX][PEERS];
 /* Prints a line that begins with WARNING for each limit that is passed, and says how many. */
 int warn(ratio_table ratios);
 
+/* Prints such a line if the ratio of a call to a peer is above a limit: 1 then, else 0. */
+int warn_above(const struct call *call, struct size size, size_t peer, double ratio, double most);
+
 /* Smaller blocks and sectors are ruled by the cost of a call, and not by the loops that are guarded. */
 enum { GUARDED_BLOCK = 512 };
 

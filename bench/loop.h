@@ -1,11 +1,14 @@
-/* The rule for loops, by which the sheets of fatal losses are judged: which loop is shown is free. */
+/* The smallest loop of a fatal loss, for the peers in C: the shortest, and of equal ones that whose disk numbers in
+   ascending order come first. */
 #ifndef LOOP_H
 #define LOOP_H
 
-#include <stddef.h>
-#include <stdint.h>
+#include "peer.h"
 
-/* Whether the sheet lists a loop of erased disks, in chain order, with zeros elsewhere. */
-int is_loop(size_t rows, size_t columns, const uint8_t *map, const uint8_t *sheet);
+/* Writes it into the sheet. Here the disks that are left have a byte each, 0 for all others. */
+void put_loop_plain(size_t columns, const uint8_t *left, size_t disks, uint8_t *sheet, size_t sheet_len);
+
+/* The same with the words of these disks. */
+void put_loop_tuned(size_t columns, const uint32_t others[STRIPES], uint8_t *sheet, size_t sheet_len);
 
 #endif

@@ -1,8 +1,10 @@
 /* Compares, times and prints: one line for each call, size and peer. */
 #include "calls.h"
 #include "compare.h"
+#include "fatal.h"
 #include "followed.h"
 #include "guards.h"
+#include "measure.h"
 #include "old.h"
 #include "repairs.h"
 #include "saved.h"
@@ -22,9 +24,13 @@ static const struct part {
     int (*agrees)(void);
     int (*compare)(struct input *input);
 } parts[] = {
-    {"repairs", peers_agree, compare_places}, {"follow", follow_agrees, compare_follow},
-    {"tidy", tidy_agrees, compare_tidy},      {"turns", turns_agree, compare_turns},
-    {"save", save_agrees, compare_save},      {"wanted", wanted_agrees, compare_wanted},
+    {"repairs", peers_agree, compare_places},
+    {"fatal", fatal_agrees, compare_fatal},
+    {"follow", follow_agrees, compare_follow},
+    {"tidy", tidy_agrees, compare_tidy},
+    {"turns", turns_agree, compare_turns},
+    {"save", save_agrees, compare_save},
+    {"wanted", wanted_agrees, compare_wanted},
     {"sectors", sectors_agree, compare_sectors},
 #ifdef OLD_ARCHIVE
     {"old", old_agrees, compare_old},
@@ -48,30 +54,11 @@ static void print_head(void)
     puts("");
 }
 
-/* Times one call at one size and prints its lines. */
-static void measure(const struct call *call, struct input *input, double ratios[PEERS])
-{
-    double medians[PEERS];
-    char title[TITLE_MAX];
-    put_title(title, call, input->size);
-    time_peers(call, input, medians);
-    for (size_t p = LIBRARY + 1; p < PEERS; p++) {
-        ratios[p] = medians[p] > 0 ? medians[LIBRARY] / medians[p] : 0;
-        if (medians[p] > 0)
-            printf("%-28s %-28s %6.2f\n", title, peers[p].name, ratios[p]);
-    }
-    fflush(stdout);
-}
-
 static void measure_all(struct input *input, ratio_table ratios)
 {
-    for (size_t c = 0; c < CALLS; c++) {
-        for (size_t s = 0; s < calls[c].size_count; s++) {
-            input_resize(input, calls[c].sizes[s]);
-            calls[c].prepare(input, 0);
-            measure(&calls[c], input, ratios[c][s]);
-        }
-    }
+    for (size_t c = 0; c < CALLS; c++)
+        for (size_t s = 0; s < calls[c].size_count; s++)
+            measure(&calls[c], calls[c].sizes[s], input, ratios[c][s]);
 }
 
 /* All calls and all parts; how many limits were passed. */

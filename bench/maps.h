@@ -1,4 +1,4 @@
-/* Maps of erased disks. Plan is timed on the first six. */
+/* Maps of erased disks. */
 #ifndef MAPS_H
 #define MAPS_H
 
@@ -19,12 +19,18 @@ enum {
     LAST_COLUMN,
     RECTANGLES, /* four disks at a time along the diagonal, and a disk between each four and the next: that one is not
                    lost, though no repair brings it back; nine disks at 3x3 */
+    LONG_CYCLE, /* one cycle on all stripes, in a rectangle on as many rows as columns: 32 disks at 15x15 */
+    TREE_AND_CYCLE, /* a staircase from the first disk, which is repaired from its low end, and behind it a cycle on the
+                       stripes of the higher half: 32 disks at 15x15, 16 of them on the cycle. A cycle of 32 leaves no
+                       stripe for a tree */
+    NO_FOUR,        /* disks at random, but for those that would close a loop of four */
+    HARDEST,        /* a map for 15x15: maps.c says how it came about; smaller sizes have its upper left corner */
     MAPS
 };
 
 extern const char *const map_names[MAPS];
 
-/* Whether the loss of one of these maps is fatal. */
+/* Whether the loss of one of these maps is fatal, at every size, the last two at 15x15. */
 int is_fatal(size_t kind);
 
 /* Draws one of these maps, a byte for each disk. */
@@ -32,5 +38,8 @@ void draw_map(size_t kind, size_t rows, size_t columns, uint8_t *map);
 
 /* Draws a map with so many erased disks at random. */
 void draw_random_map(size_t rows, size_t columns, size_t erased, uint64_t *state, uint8_t *map);
+
+/* Draws a map by so many tries: each erases a disk at random unless that closes a loop shorter than this. */
+void draw_wide_map(size_t rows, size_t columns, size_t shortest, size_t tries, uint64_t *state, uint8_t *map);
 
 #endif

@@ -1,8 +1,7 @@
 /* Plan straight from its definition: for each repair every disk is looked at again, with all disks of its stripes, and
    for each disk that is left all others. */
-#include "peer.h"
+#include "loop.h"
 #include "sheet.h"
-#include "walk.h"
 
 /* Whether the stripe, `count` disks that stand `step` apart, has one erased disk and no more. */
 static int one_erased(const uint8_t *first, size_t step, size_t count)
@@ -63,6 +62,6 @@ uint32_t plain_plan(size_t rows, size_t columns, const uint8_t *map, size_t map_
     *count = fatal == 0 ? made : lost;
     if (fatal == 0)
         return 0;
-    put_loop(columns, left, sheet, sheet_len);
+    put_loop_plain(columns, left, map_len, sheet, sheet_len);
     return FATAL;
 }

@@ -1,9 +1,8 @@
 /* Plan with counters: the erased disks of each stripe are counted once, and the counters kept as repairs are made. */
 #include "bridges.h"
-#include "peer.h"
-#include "sheet.h"
+#include "loop.h"
 #include "tally.h"
-#include "walk.h"
+#include "words.h"
 
 static size_t load(struct tally *tally, size_t down, size_t across, const uint8_t *map)
 {
@@ -30,10 +29,13 @@ uint32_t tuned_plan(size_t rows, size_t columns, const uint8_t *map, size_t map_
     struct tally tally;
     size_t erased = load(&tally, rows + 1, columns + 1, map);
     size_t made = list_repairs(&tally, rows + 1, columns + 1, erased, sheet, sheet_len);
+    uint32_t others[STRIPES];
     (void)map_len;
-    *count = made == erased ? made : count_lost(rows, columns, tally.left);
+    *count = made;
     if (made == erased)
         return 0;
-    put_loop(columns, tally.left, sheet, sheet_len);
+    load_words(others, rows + 1, columns + 1, tally.left);
+    *count = count_lost(others, erased - made);
+    put_loop_tuned(columns, others, sheet, sheet_len);
     return FATAL;
 }

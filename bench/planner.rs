@@ -1,5 +1,5 @@
-//! Plan of the Rust peer: erased disks with a counter for each stripe, the loop of a fatal loss by a walk, and its lost
-//! disks by a search.
+//! Plan of the Rust peer: erased disks with a counter for each stripe, and for a fatal loss searches from stripe to
+//! stripe, for its smallest loop and for its lost disks.
 
 use crate::FIRST_COLUMN;
 
@@ -56,56 +56,129 @@ impl Erased {
         self.on[FIRST_COLUMN + disk % self.across] -= 1;
     }
 
-    /// The row of a disk before even steps of a walk, its column before odd ones.
-    fn stripe(&self, disk: usize, step: usize) -> usize {
-        if step % 2 == 0 {
-            disk / self.across
-        } else {
-            FIRST_COLUMN + disk % self.across
+    /// The disks that are left.
+    fn disks(&self) -> impl Iterator<Item = usize> + '_ {
+        (0..self.down * self.across).filter(|&disk| self.left[disk] != 0)
+    }
+
+    fn stripes(&self, disk: usize) -> [usize; 2] {
+        [disk / self.across, FIRST_COLUMN + disk % self.across]
+    }
+
+    fn crossing(&self, stripe: usize, other: usize) -> usize {
+        stripe.min(other) * self.across + stripe.max(other) - FIRST_COLUMN
+    }
+
+    /// The stripes across each stripe with which it shares one of these disks, a bit for each.
+    fn others(&self, disks: impl Iterator<Item = usize>) -> [u32; STRIPES] {
+        let mut others = [0; STRIPES];
+        for [row, column] in disks.map(|disk| self.stripes(disk)) {
+            others[row] |= 1 << column;
+            others[column] |= 1 << row;
         }
+        others
     }
+}
 
-    /// The lowest other disk on the stripe.
-    fn partner(&self, disk: usize, stripe: usize) -> usize {
-        let (first, step, count) = match stripe.checked_sub(FIRST_COLUMN) {
-            None => (stripe * self.across, 1, self.across),
-            Some(column) => (column, self.across, self.down),
-        };
-        let mut disks = (0..count).map(|k| first + k * step);
-        disks.find(|&d| self.left[d] != 0 && d != disk).expect("no stripe has a single disk left")
-    }
+/// The stripes of a set.
+fn bits(mut set: u32) -> impl Iterator<Item = usize> {
+    std::iter::from_fn(move || {
+        let bit = (set != 0).then(|| set.trailing_zeros() as usize)?;
+        set &= set - 1;
+        Some(bit)
+    })
+}
 
-    /// Walks from disk to disk until a stripe comes again: the disks since then are a loop.
-    fn put_loop(&self, sheet: &mut [u8]) {
-        let mut disks = [0; STRIPES + 1];
-        let mut seen = [None; STRIPES];
-        let mut disk = self.left.iter().position(|&left| left != 0).expect("a disk is left");
-        let mut step = 0;
-        let from = loop {
-            disks[step] = disk;
-            let stripe = self.stripe(disk, step);
-            if let Some(before) = seen[stripe].replace(step) {
-                break before + 1;
+/// The stripes that share a disk with one of a set.
+fn beside(others: &[u32; STRIPES], set: u32) -> u32 {
+    bits(set).fold(0, |all, stripe| all | others[stripe])
+}
+
+/// In how many steps, at most so many, a way leads from one stripe to another.
+fn steps(others: &[u32; STRIPES], from: usize, to: usize, most: usize) -> Option<usize> {
+    let (mut front, mut seen) = (1 << from, 1 << from);
+    let mut fronts = (1..=most).map(|step| {
+        front = beside(others, front) & !seen;
+        seen |= front;
+        (step, front)
+    });
+    let found = fronts.find(|&(_, front)| front == 0 || front >> to & 1 == 1);
+    found.filter(|&(_, front)| front != 0).map(|(step, _)| step)
+}
+
+/// A set of disks with the lowest in the highest bit: of sets of one size the greatest is the one whose numbers in
+/// ascending order come first.
+type Disks = [u128; 2];
+
+fn with(mut disks: Disks, disk: usize) -> Disks {
+    disks[disk / 128] |= 1 << (127 - disk % 128);
+    disks
+}
+
+fn contains(disks: &Disks, disk: usize) -> bool {
+    disks[disk / 128] >> (127 - disk % 128) & 1 == 1
+}
+
+impl Erased {
+    /// The disks of the smallest loop. For each disk a shortest way leads from its row to its column over those above
+    /// it; no loop has less than four disks.
+    fn smallest(&self) -> Disks {
+        let mut others = self.others(self.disks());
+        let mut best = STRIPES;
+        let mut smallest = [0; 2];
+        for disk in self.disks() {
+            let [row, column] = self.stripes(disk);
+            others[row] ^= 1 << column;
+            others[column] ^= 1 << row;
+            if let Some(steps) = steps(&others, row, column, best - 1) {
+                best = steps;
+                smallest = with(self.first_way(&others, row, column), disk);
             }
-            disk = self.partner(disk, stripe);
-            step += 1;
-        };
-        let found = &mut disks[from..=step];
-        let lowest = (0..found.len()).min_by_key(|&k| found[k]).expect("a loop has disks");
-        found.rotate_left(lowest);
-        if (from + lowest) % 2 == 1 {
-            found[1..].reverse();
+            if best == 3 {
+                break;
+            }
         }
-        for (k, &disk) in found.iter().enumerate() {
-            put_record(sheet, k, disk, self.stripe(disk, k));
+        smallest
+    }
+
+    /// The disks of the shortest way that comes first: step by step each stripe keeps the first one that leads to it.
+    fn first_way(&self, others: &[u32; STRIPES], from: usize, to: usize) -> Disks {
+        let mut ways = [[0; 2]; STRIPES];
+        let (mut front, mut seen) = (1 << from, 1 << from);
+        while seen >> to & 1 == 0 {
+            let next = beside(others, front) & !seen;
+            for stripe in bits(next) {
+                let near = bits(others[stripe] & front);
+                let all = near.map(|before| with(ways[before], self.crossing(before, stripe)));
+                ways[stripe] = all.max().expect("a step leads here");
+            }
+            (front, seen) = (next, seen | next);
+        }
+        ways[to]
+    }
+
+    /// Lists a loop from its lowest disk along the row, then along a column, and so on in turn.
+    fn put_loop(&self, disks: &Disks, sheet: &mut [u8]) {
+        let of_loop = || self.disks().filter(|&disk| contains(disks, disk));
+        let others = self.others(of_loop());
+        let first = of_loop().next().expect("a loop has disks");
+        let [mut stripe, last] = self.stripes(first);
+        let mut before = last;
+        put_record(sheet, 0, first, stripe);
+        for k in 1.. {
+            let next = (others[stripe] & !(1 << before)).trailing_zeros() as usize;
+            put_record(sheet, k, self.crossing(stripe, next), next);
+            if next == last {
+                break;
+            }
+            (before, stripe) = (stripe, next);
         }
     }
 }
 
-/// A search from stripe to stripe over the disks that are left.
+/// A search for disks that are the only way between two stripes.
 #[derive(Default)]
 struct Search {
-    /// The stripes across each stripe with which it shares a disk, a bit for each.
     others: [u32; STRIPES],
     /// When a stripe was reached, from 1 on, and the earliest stripe to which a way leads from behind it.
     reached: [u32; STRIPES],
@@ -135,25 +208,17 @@ impl Search {
 impl Erased {
     /// How many of the disks that are left are lost: the others join two parts of the stripes that nothing else joins.
     fn lost(&self) -> usize {
-        let mut search = Search::default();
-        let left = (0..self.down * self.across).filter(|&disk| self.left[disk] != 0);
-        let count = left
-            .map(|disk| [disk / self.across, FIRST_COLUMN + disk % self.across])
-            .map(|[row, column]| {
-                search.others[row] |= 1 << column;
-                search.others[column] |= 1 << row;
-            })
-            .count();
+        let mut search = Search { others: self.others(self.disks()), ..Search::default() };
         for row in 0..self.down {
             if search.reached[row] == 0 {
                 search.visit(row, None);
             }
         }
-        count - search.bridges
+        self.disks().count() - search.bridges
     }
 }
 
-/// Writes the repairs in plan's order, or a loop, into the sheet.
+/// Writes the repairs in plan's order, or the smallest loop, into the sheet.
 pub fn plan(down: usize, across: usize, map: &[u8], sheet: &mut [u8]) -> Planned {
     let mut erased = Erased::new(down, across, map);
     let count = erased.count();
@@ -170,6 +235,6 @@ pub fn plan(down: usize, across: usize, map: &[u8], sheet: &mut [u8]) -> Planned
     }
     sheet.fill(0);
     sheet[0] = 2;
-    erased.put_loop(sheet);
+    erased.put_loop(&erased.smallest(), sheet);
     Planned::Fatal(erased.lost())
 }

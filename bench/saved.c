@@ -123,28 +123,13 @@ static void compare_with_check(struct input *input, struct size size)
     print_ratio(size, what, save_over(&calls[CHECK], input));
 }
 
-/* Plan by the clock, on losses of which it counts the disks that are lost. */
-static void print_plan(struct input *input, struct size size)
-{
-    char title[TITLE_MAX];
-    prepare(input, size);
-    put_title(title, &calls[PLAN], size);
-    printf("%-28s %6.2f us\n", title, time_call(&calls[PLAN], input) / 1e3);
-}
-
 int compare_save(struct input *input)
 {
-    static const struct size planned[] = {{3, 3, 1, RECTANGLES},       {15, 15, 1, RECTANGLES},
-                                          {15, 15, 1, CYCLE_AND_TREE}, {15, 15, 1, HALF_OF_ALL},
-                                          {15, 15, 1, ALL_DISKS},      {2, 15, 1, ALL_DISKS}};
     int warnings = 0;
     puts("Save: over rebuild on losses that are not fatal; on fatal ones over a check of the same array, which is sealed.");
     for (size_t i = 0; i < COUNT(restorable); i++)
         warnings += compare_with_rebuild(input, restorable[i].size);
     for (size_t i = 0; i < COUNT(fatal); i++)
         compare_with_check(input, fatal[i].size);
-    puts("Plan on fatal losses, whose lost disks it counts:");
-    for (size_t i = 0; i < COUNT(planned); i++)
-        print_plan(input, planned[i]);
     return warnings;
 }

@@ -7,7 +7,7 @@
 /* Whether save restores the disks that it should, and no others. */
 int save_agrees(void);
 
-/* Times save and prints its ratios, and the times of plan on fatal losses; says how many limits were passed. */
+/* Times save and prints its ratios; says how many limits were passed. */
 int compare_save(struct input *input);
 
 #endif

@@ -1,6 +1,5 @@
 #include "sectors.h"
 #include "guards.h"
-#include "loop.h"
 #include "maps.h"
 #include "random.h"
 #include "spots.h"
@@ -101,37 +100,17 @@ static void keep(struct kept *kept, const struct input *input)
     kept->position = spots.position;
 }
 
-/* Whether the sheet of the fatal position has a loop, and every other is zero. */
-static int one_loop(const struct input *input)
-{
-    uint8_t map[DISKS_MAX], *sheet = spots.sheets + SHEET_BYTES * spots.position;
-    get_position(input, spots.position, map);
-    for (size_t i = 0; i < spots.sheet_bytes; i++)
-        if (spots.sheets[i] != 0 && i / SHEET_BYTES != spots.position)
-            return 0;
-    return is_loop(input->size.rows, input->size.columns, map, sheet);
-}
-
-/* A fatal position has many loops, so there sheets are judged by the rule for loops, and else by their bytes. */
-static int sheets_are_right(const struct input *input, const struct kept *kept)
-{
-    if (input->status == FATAL)
-        return spots.position < spots.sectors && one_loop(input);
-    return memcmp(spots.sheets, kept->sheets, spots.sheet_bytes) == 0;
-}
-
 /* Whether the tuned loops give and leave what the library does, on a prepared input. */
 static int both_give(size_t library, size_t tuned, struct input *input, struct kept *kept)
 {
     memcpy(kept->before, input->array, input->bytes);
     run_from(&spot_calls[library], input, kept->before);
     keep(kept, input);
-    if (!sheets_are_right(input, kept))
-        return 0;
     run_from(&spot_calls[tuned], input, kept->before);
     return input->status == kept->status && input->count == kept->count && spots.position == kept->position
         && memcmp(input->array, kept->array, input->bytes) == 0
-        && memcmp(spots.lent, kept->map, spots.map_bytes) == 0 && sheets_are_right(input, kept);
+        && memcmp(spots.lent, kept->map, spots.map_bytes) == 0
+        && memcmp(spots.sheets, kept->sheets, spots.sheet_bytes) == 0;
 }
 
 /* Up to three disks at random at each position, which is never fatal. In two variants of three one position has up to

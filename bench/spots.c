@@ -40,12 +40,6 @@ void put_position(const struct input *input, size_t position, const uint8_t *map
         spots.map[d * spots.sectors + position] = map[d];
 }
 
-void get_position(const struct input *input, size_t position, uint8_t *map)
-{
-    for (size_t d = 0; d < input->disks; d++)
-        map[d] = spots.map[d * spots.sectors + position];
-}
-
 void erase_same(const struct input *input)
 {
     for (size_t d = 0; d < input->disks; d++)

@@ -32,9 +32,8 @@ void spots_close(void);
 /* Cuts the blocks of an input into sectors of this length. Nothing is erased. */
 void cut_blocks(const struct input *input, size_t sector);
 
-/* Copies the map of one position, a byte for each disk, into the map of all, and out of it. */
+/* Copies the map of one position, a byte for each disk, into the map of all. */
 void put_position(const struct input *input, size_t position, const uint8_t *map);
-void get_position(const struct input *input, size_t position, uint8_t *map);
 
 /* Erases the disks of the input's map at every position. */
 void erase_same(const struct input *input);

@@ -6,7 +6,7 @@
 #include <stdlib.h>
 #include <time.h>
 
-/* A sample of the library lasts at least so many nanoseconds: tiny sizes are repeated inside it. */
+/* A sample lasts at least so many nanoseconds: short calls are repeated inside it. */
 static const double SAMPLE_TIME = 50e3;
 
 static double now(void)
@@ -27,10 +27,10 @@ static double sample(const struct call *call, const struct peer *peer, struct in
     return now() - start;
 }
 
-static size_t repeats_for(const struct call *call, struct input *input)
+static size_t repeats_for(const struct call *call, const struct peer *peer, struct input *input)
 {
     size_t repeats = 1;
-    while (sample(call, &peers[LIBRARY], input, repeats) < SAMPLE_TIME)
+    while (sample(call, peer, input, repeats) < SAMPLE_TIME)
         repeats *= 2;
     return repeats;
 }
@@ -49,20 +49,24 @@ static double median_of(double *samples, size_t count)
 
 static double samples[PEERS][SAMPLES];
 
+/* Peers can differ much in their times, so that each has repeats of its own. */
 void time_peers(const struct call *call, struct input *input, double medians[PEERS])
 {
-    size_t repeats = repeats_for(call, input);
+    size_t repeats[PEERS];
+    for (size_t p = 0; p < PEERS; p++)
+        if (takes_part(&peers[p], call, input->size))
+            repeats[p] = repeats_for(call, &peers[p], input);
     for (size_t i = 0; i < SAMPLES; i++)
         for (size_t p = 0; p < PEERS; p++)
             if (takes_part(&peers[p], call, input->size))
-                samples[p][i] = sample(call, &peers[p], input, repeats);
+                samples[p][i] = sample(call, &peers[p], input, repeats[p]) / (double)repeats[p];
     for (size_t p = 0; p < PEERS; p++)
         medians[p] = takes_part(&peers[p], call, input->size) ? median_of(samples[p], SAMPLES) : 0;
 }
 
 void time_maps(const struct call *call, struct input *input, const size_t *kinds, size_t count, double *medians)
 {
-    size_t repeats = repeats_for(call, input);
+    size_t repeats = repeats_for(call, &peers[LIBRARY], input);
     for (size_t i = 0; i < SAMPLES; i++) {
         for (size_t k = 0; k < count; k++) {
             draw_map(kinds[k], input->size.rows, input->size.columns, input->map);
@@ -78,7 +82,7 @@ void time_disks(const struct call *call, struct input *input, const size_t *disk
     static double rounds[DISKS_MAX][FEW_SAMPLES];
     size_t repeats;
     input->disk = disks[0];
-    repeats = repeats_for(call, input);
+    repeats = repeats_for(call, &peers[LIBRARY], input);
     for (size_t i = 0; i < FEW_SAMPLES; i++) {
         for (size_t k = 0; k < count; k++) {
             input->disk = disks[k];
@@ -91,7 +95,7 @@ void time_disks(const struct call *call, struct input *input, const size_t *disk
 
 static void time_list(const struct call *const *list, size_t count, struct input *input, size_t rounds, double *medians)
 {
-    size_t repeats = repeats_for(list[0], input);
+    size_t repeats = repeats_for(list[0], &peers[LIBRARY], input);
     for (size_t i = 0; i < rounds; i++)
         for (size_t k = 0; k < count; k++)
             samples[k][i] = sample(list[k], &peers[LIBRARY], input, repeats);
@@ -109,13 +113,13 @@ void time_long_calls(const struct call *const *list, size_t count, struct input 
     time_list(list, count, input, FEW_SAMPLES, medians);
 }
 
-/* Cases can differ much in their times, so that each has repeats of its own. */
+/* Each case has repeats of its own, as peers have. */
 void time_cases(const struct call *call, struct input *input, prepare_case *prepare, size_t count, double *medians)
 {
     size_t repeats[PEERS];
     for (size_t k = 0; k < count; k++) {
         prepare(input, k);
-        repeats[k] = repeats_for(call, input);
+        repeats[k] = repeats_for(call, &peers[LIBRARY], input);
     }
     for (size_t i = 0; i < FEW_SAMPLES; i++) {
         for (size_t k = 0; k < count; k++) {
@@ -129,7 +133,7 @@ void time_cases(const struct call *call, struct input *input, prepare_case *prep
 
 double time_call(const struct call *call, struct input *input)
 {
-    size_t repeats = repeats_for(call, input);
+    size_t repeats = repeats_for(call, &peers[LIBRARY], input);
     for (size_t i = 0; i < SAMPLES; i++)
         samples[LIBRARY][i] = sample(call, &peers[LIBRARY], input, repeats);
     return median_of(samples[LIBRARY], SAMPLES) / (double)repeats;

@@ -9,7 +9,8 @@
    is less often. */
 enum { SAMPLES = 301, FEW_SAMPLES = 31 };
 
-/* The median time of each peer in one unit; 0 for a peer that takes no part. The input has been prepared. */
+/* The median time of one call of each peer, in nanoseconds; 0 for a peer that takes no part. The input has been
+   prepared. */
 void time_peers(const struct call *call, struct input *input, double medians[PEERS]);
 
 /* The median time of the library on each of at most PEERS maps, in one unit. The input has been prepared. */

@@ -111,7 +111,10 @@
  *                  second and the third a column, and so on in turn, the last
  *                  and the first a column; each stripe touched holds exactly
  *                  two of them. It begins with its lowest-numbered disk. Each
- *                  fatal position has a cycle, and no other has one.
+ *                  fatal position has a cycle, and no other has one. Of
+ *                  several the shortest is listed, and of equally short ones
+ *                  that whose disk numbers in ascending order come first,
+ *                  compared number by number from the left.
  *   turn           One call of raid2d_rebuild: it makes the next repairs of
  *                  plan's order, as many as its limit allows.
  *   sheet          A list of repairs or a cycle at one position, in
@@ -211,10 +214,10 @@ extern "C" {
 
 /* The version of this header, as three numbers, as one, and as a string. */
 #define RAID2D_VERSION_MAJOR   0
-#define RAID2D_VERSION_MINOR   10
+#define RAID2D_VERSION_MINOR   11
 #define RAID2D_VERSION_PATCH   0
-#define RAID2D_VERSION_NUMBER  1000
-#define RAID2D_VERSION_STRING  "0.10.0"
+#define RAID2D_VERSION_NUMBER  1100
+#define RAID2D_VERSION_STRING  "0.11.0"
 
 /* The range of a side: of data rows, and of data columns. */
 #define RAID2D_SIDE_MIN  2
@@ -535,13 +538,18 @@ size_t raid2d_look(size_t rows, size_t columns, size_t block,
  * none where no disk is erased.
  *
  * If it is fatal, *position is the lowest fatal position, the sheet of this
- * position lists a cycle, and all other sheets are zero. The disks of the
- * cycle are undetermined there; there can be more of these, up to all of the
- * grid, and determined disks beside them. Other positions can be fatal too:
- * with 1 for sectors and the bytes map[d * sectors + p] of all disks d for a
- * map, the call answers for position p alone. raid2d_save restores what is
- * determined, at every position. Where a position has several cycles, which of
- * them is listed is left open; raid2d_rebuild lists the same one.
+ * position lists its shortest cycle, and all other sheets are zero. The disks
+ * of the cycle are undetermined there; there can be more of these, up to all
+ * of the grid, and determined disks beside them. Other positions can be fatal
+ * too: with 1 for sectors and the bytes map[d * sectors + p] of all disks d
+ * for a map, the call answers for position p alone. raid2d_save restores what
+ * is determined, at every position.
+ *
+ * Of equally short cycles that is listed whose disk numbers in ascending order
+ * come first, compared number by number from the left. With 3 rows and 3
+ * columns and the disks 0, 1, 4, 6, 7, 9, 11, 13 and 14 erased there are three
+ * cycles, each of six disks: 0 1 4 6 13 14, 0 1 4 7 9 11 and 6 7 9 11 13 14.
+ * The first of these is listed.
  *
  *   sheets     receives the repairs of each position, or the cycle of one
  *   count      receives the number of repairs, which is that of the erased
@@ -561,9 +569,10 @@ size_t raid2d_look(size_t rows, size_t columns, size_t block,
  *   RAID2D_ERR_MAP
  *   RAID2D_ERR_SHEET_LENGTH
  *   RAID2D_FATAL             the loss is fatal; *position is the lowest fatal
- *                            position, its sheet lists a cycle, all others are
- *                            zero; *count is the number of undetermined disks
- *                            there; raid2d_save restores the determined ones
+ *                            position, its sheet lists its shortest cycle,
+ *                            all others are zero; *count is the number of
+ *                            undetermined disks there; raid2d_save restores the
+ *                            determined ones
  *   RAID2D_OK                the sheets list the repairs, *count is their
  *                            number: none and 0 where no sector is erased
  */

@@ -6,14 +6,15 @@ use mathlib.Core.Bool.{Bool, true, false}
 use mathlib.Core.List.{List, [], _∷_, _++_, map}
 use Prim.Native.Nat.{ℕ, _*_}
 use lib.ListN.{replicate}
-use Rattle.stripes.specs.Fold.{xsum, gate, every, bit, count, lowest, tabulate, _⊕_}
+use Rattle.stripes.specs.Fold.{xsum, gate, every, bit, count, least, lowest, tabulate, _⊕_}
 use Rattle.stripes.specs.System.{among, on, whole, byte, sumOver, stripeSum, sumsToZero, changed, consistent, firstOf, otherThan}
-use Rattle.stripes.specs.Erased.{erasures, without, below}
+use Rattle.stripes.specs.Erased.{erasures, without}
 use Rattle.stripes.specs.Repair.{mapAfter, alone, allowed, firstAllowed, someAllowed, nextDisk, repairOf, peel, repairs, after, residual, fatal, sumOfOthers, repaired, rebuilt, zeroed, residualCount}
 use Rattle.stripes.specs.Joined.{united, partBy, part, joined}
 use Rattle.stripes.specs.Undetermined.{undetermined, determined, lost, survivorSum, partSum, partsCancel, savedByte}
 use Rattle.stripes.specs.Sectors.{sectorAt, sectored, atPosition, sectorEntry, rising, sectorRepairs, ofPosition, fatalPosition}
-use Rattle.stripes.specs.Cycle.{closing, core, partner, trace, lowestOf, cycleOf, shownCycle}
+use Rattle.stripes.specs.Cycle.{partner, trace, lowestOf, cycleOf}
+use Rattle.stripes.specs.Smallest.{price, tooMuch, wayCosts, throughCost, onCheapest, onSmallest, shownCycle}
 use Rattle.model.specs.Grid.{grid, layoutOf, rectangle, rows, columns, across, disks, diskAt, isData, arrayBytes, arrayOf, sideFits, sizeFits, blockFits, sectorFits, sectorsFit, mapBytes, mapFits, down}
 use Rattle.model.specs.Equations.{cell, rowData, columnData}
 use Rattle.model.specs.Refusal.{refusal, arrayTests, sectorTests}
@@ -136,7 +137,7 @@ cases =
 -- Every case holds, and the paper's nine are there.
 pub cases-hold : (map (λ (c : Case). c .computed) cases ≡ map (λ (c : Case). c .expected) cases)
     × (map (λ (c : Case). c .number) cases ≡ 1 ∷ 2 ∷ 3 ∷ 4 ∷ 5 ∷ 6 ∷ 7 ∷ 8 ∷ 9 ∷ [])
-unfolding cases outcomePosition sectorAt sectored atPosition sectorEntry rising sectorRepairs ofPosition fatalPosition sectorTests sectorFits sectorsFit mapBytes oneTests sheetsOf repairSheets blankSheets cycleSheets sealStatus sealArray encoded encodedByte writeStatus writeArray writeTests written writtenByte isParityOf refusal arrayTests sideFits sizeFits blockFits arrayBytes arrayOf disks across down rows columns diskAt isData rowData columnData cell byte whole xsum _⊕_ tabulate gate every bit count lowest among on sumOver stripeSum sumsToZero grid layoutOf mapFits erasures without alone allowed firstAllowed someAllowed nextDisk repairOf peel repairs after residual residualCount lost fatal changed sumOfOthers repaired rebuilt zeroed consistent below closing core partner firstOf otherThan trace lowestOf cycleOf shownCycle numberBytes chainBytes sheetOf blankSheet sheetTests planTests lossOutcome lossSheets planOutcome planSheets outcomeStatus outcomeCount mapAfter clear lossTold contradiction repairsMade turnRepairs contradicts turnOf bufferTests rebuildTests rebuildRefusal rebuildTurn united partBy part joined undetermined rectangle digit decimal repairWord fatalWord refusedWord entryLines listed listing
+unfolding cases outcomePosition sectorAt sectored atPosition sectorEntry rising sectorRepairs ofPosition fatalPosition sectorTests sectorFits sectorsFit mapBytes oneTests sheetsOf repairSheets blankSheets cycleSheets sealStatus sealArray encoded encodedByte writeStatus writeArray writeTests written writtenByte isParityOf refusal arrayTests sideFits sizeFits blockFits arrayBytes arrayOf disks across down rows columns diskAt isData rowData columnData cell byte whole xsum _⊕_ tabulate gate every bit count lowest among on sumOver stripeSum sumsToZero grid layoutOf mapFits erasures without alone allowed firstAllowed someAllowed nextDisk repairOf peel repairs after residual residualCount lost fatal changed sumOfOthers repaired rebuilt zeroed consistent least price tooMuch wayCosts throughCost onCheapest onSmallest partner firstOf otherThan trace lowestOf cycleOf shownCycle numberBytes chainBytes sheetOf blankSheet sheetTests planTests lossOutcome lossSheets planOutcome planSheets outcomeStatus outcomeCount mapAfter clear lossTold contradiction repairsMade turnRepairs contradicts turnOf bufferTests rebuildTests rebuildRefusal rebuildTurn united partBy part joined undetermined rectangle digit decimal repairWord fatalWord refusedWord entryLines listed listing
 cases-hold = (refl, refl)
 
 -- The example of paper 02, P3, on the sealed array 1 2 4 7 / 8 16 32 56 / 64 128 3 195 / 73 146 39 252. Nine disks are erased: eight are

@@ -26,7 +26,7 @@ use Rattle.model.proofs.Turns.{first-peels, turn-length, turn-map, last
 use Rattle.model.proofs.Losses.{zero-seven, six-seven, order-restored, order-judged, resultsOf, Lawful, planned, edition-demand3}
 use Rattle.model.proofs.Refusal.{given-accepted, given-refused, fails, ArrayFits}
 use Rattle.model.proofs.Grid.{rows-below, Fits, size-fits, layout-two, layout-sized, layout-disks, sector-cut, sector-some}
-use Rattle.model.proofs.Loop.{loop-bound, fatal-loop, loop-is, loop-fits, three}
+use Rattle.model.proofs.Loop.{loop-bound, fatal-loop, loop-is, loop-cycle, loop-fits, three}
 use Rattle.model.proofs.Limits.{grid-repairs}
 use Rattle.model.proofs.Contents.{same-turn}
 use Rattle.stripes.specs.Fold.{count}
@@ -335,7 +335,7 @@ superparity-lawful z fits =
       two = layout-two z 16 above;
       limited = repairs-few z 16 above;
       limitFits = omega arith;
-      loops = loop-is z 16 above;
+      loops = λ e w. (loop-is z 16 above e w, loop-cycle z 16 above e w);
       loopsFit = λ e w y. loop-fits z 16 above e w y fits;
       few = λ e h. three z 16 above e (rw (layout-disks z 16) at h);
     }

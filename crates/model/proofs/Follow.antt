@@ -15,7 +15,7 @@ use Rattle.stripes.specs.System.{Layout, whole, Codeword, Bytes, consistent}
 use Rattle.stripes.specs.Erased.{erasures, Agree, Belongs}
 use Rattle.stripes.specs.Repair.{Entry, fatal, rebuilt, zeroed, clears}
 use Rattle.stripes.specs.Sectors.{sectored, atPosition, rising, sectorRepairs, ofPosition, fatalPosition}
-use Rattle.stripes.specs.Cycle.{shownCycle}
+use Rattle.stripes.specs.Smallest.{shownCycle}
 use Rattle.model.specs.Grid.{mapBytes, sizeFits}
 use Rattle.model.specs.Refusal.{refusal}
 use Rattle.model.specs.Sheet.{Format, narrow, sheetsBytes, sheetAt, repairSheets}

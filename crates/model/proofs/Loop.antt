@@ -21,7 +21,7 @@ use Rattle.model.specs.declared.Size.{Size}
 use Rattle.stripes.proofs.Fold.{by-cases, lt-or-le, count-ext}
 use Rattle.stripes.proofs.Degree.{two-each}
 use Rattle.stripes.proofs.Counts.{count-different}
-use Rattle.stripes.proofs.Trace.{following-last, following-inner, following-is, following-below, cycle-fatal, shown}
+use Rattle.stripes.proofs.Trace.{following-last, following-inner, following-is, following-below, cycle-fatal, core-cycle}
 use Rattle.model.proofs.Grid.{Fits, size-fits, layout-disks, layout-two, disk-is, row-within, column-within, on-row, on-column}
 
 -- ---- the stripes of a cycle
@@ -273,7 +273,7 @@ module _ (z : Size) (base : ℕ) (above : rows z < base) (e : ℕ → Bool) wher
   -- A loss is fatal exactly if there is a loop of erased disks.
   pub fatal-loop : (fatal (layoutOf z base) e ≡ true) ↔ ((w : List Entry) × Loop z base e w)
   fatal-loop = (
-    λ lossy. (_, loop-is z base above e _ (shown (layoutOf z base) (layout-two z base above) e lossy)),
+    λ lossy. (_, loop-is z base above e _ (core-cycle (layoutOf z base) (layout-two z base above) e lossy)),
     λ (w, y). cycle-fatal (layoutOf z base) e w (loop-cycle z base above e w y),
   )
 

@@ -14,25 +14,25 @@ use Rattle.stripes.specs.System.{Layout, TwoStripes, whole, Codeword, Bytes, co
 use Rattle.stripes.specs.Erased.{erasures, Agree, Belongs}
 use Rattle.stripes.specs.Repair.{Entry, Peels, repairs, fatal, rebuilt}
 use Rattle.stripes.specs.Undetermined.{undetermined, lost}
-use Rattle.stripes.specs.Cycle.{Cycle, shownCycle}
+use Rattle.stripes.specs.Cycle.{Cycle}
+use Rattle.stripes.specs.Smallest.{SmallestOf, Smallest, shownCycle}
 use Rattle.stripes.specs.Sectors.{sectored, atPosition, sectorRepairs, fatalPosition}
 use Rattle.model.specs.Sheet.{Format, repairSheets, blankSheets}
 use Rattle.model.specs.Plan.{lossOutcome, lossSheets, cycleSheets, outcomeStatus}
 use Rattle.model.specs.Turn.{Turn, lossTold, contradiction, turnOf, accepted, unfinished, turnsBy, turnsOf, lastOf, repairCount, madeBy}
 use Rattle.model.specs.Edition.{Edition}
-use Rattle.model.specs.Demand3.{Planned, Lists, LostAt, InTurns, turnsFor, Results, Demand3}
+use Rattle.model.specs.Demand3.{SmallestLoop, Planned, Lists, LostAt, InTurns, turnsFor, Results, Demand3}
 use Rattle.model.specs.declared.Outcome.{Outcome}
 use Rattle.model.specs.declared.Outcome.the-variants.{Repairs, Fatal}
 use Rattle.stripes.proofs.Fold.{by-cases, lt-or-le}
 use Rattle.stripes.proofs.Peel.{repairs-peels, repairs-count}
 use Rattle.stripes.proofs.Degree.{two-ordered}
-use Rattle.stripes.proofs.Trace.{shown}
 use Rattle.stripes.proofs.Clears.{clears-restored, clears-judged}
 use Rattle.stripes.proofs.Sectors.{two-sectors}
 use Rattle.stripes.proofs.Positions.{order-clears, length-order, order-rising, of-position, fine-all, fatal-at, fine-below, fatal-sectors}
 use Rattle.stripes.proofs.SectorBytes.{codeword-sectors}
 use Rattle.stripes.proofs.SectorParts.{lost-at}
-use Rattle.stripes.proofs.Theorems.{fatal-ambiguous, fatal-lost, all-unique}
+use Rattle.stripes.proofs.Theorems.{fatal-ambiguous, fatal-lost, all-unique, shown-is, shown-only}
 use Rattle.model.proofs.Turns.{all-clear, Shape, shape, last-made, array-restored, map-cleared, all-made, undone, made-before, turns-number}
 
 -- What is to be shown of an edition, with sheets of a format.
@@ -43,7 +43,7 @@ pub record Lawful (E : Edition) (f : Format) : Type 0 where
   pub limited : (e : ℕ → Bool) (w : List Entry) → Peels (E .layout) e w → length w ≤ E .mostRepairs
   pub limitFits : E .mostRepairs ≤ f .records
   -- Cycles are what the edition calls loops, and fit a sheet.
-  pub loops : (e : ℕ → Bool) (w : List Entry) → Cycle (E .layout) e w → E .Loops e w
+  pub loops : (e : ℕ → Bool) (w : List Entry) → Cycle (E .layout) e w ↔ E .Loops e w
   pub loopsFit : (e : ℕ → Bool) (w : List Entry) → Cycle (E .layout) e w → length w ≤ f .records
   -- So many disks always come back.
   pub few : (e : ℕ → Bool) → count (E .layout .disks) e ≤ E .always → fatal (E .layout) e ≡ false
@@ -91,6 +91,28 @@ module _ (n : ℕ) (L : Layout) (two : TwoStripes L) (e : ℕ → Bool) (fine : 
 abbrev sectors : (n : ℕ) → Edition → Layout
 sectors n E = sectored n (E .layout)
 
+-- ---- the smallest loop
+
+-- Of lists that are the same two ways the smallest is the same.
+smallest-of : (L : Layout) (P Q : List Entry → Type 0) → ((w : List Entry) → P w ↔ Q w) → (w : List Entry) → SmallestOf L P w → SmallestOf L Q w
+smallest-of L P Q same w s =
+    record {
+      cycle = same w .0 (s .cycle);
+      shortest = λ v h. s .shortest v (same v .1 h);
+      first = λ v h. s .first v (same v .1 h);
+    }
+
+-- The cycle that is shown of a fatal loss.
+smallest-loop : (E : Edition) (f : Format) → Lawful E f → (e : ℕ → Bool) → fatal (E .layout) e ≡ true → SmallestLoop E e (shownCycle (E .layout) e)
+smallest-loop E f law e lossy =
+    let L : Layout = E .layout in
+    record {
+      smallest = smallest-of L (Cycle L e) (E .Loops e) (law .loops e) (shownCycle L e) (shown-is L (law .two) e lossy);
+      only = λ u s.
+          shown-only L (law .two) e lossy u
+          (smallest-of L (E .Loops e) (Cycle L e) (λ w. (law .loops e w .1, law .loops e w .0)) u s);
+    }
+
 -- ---- plan
 module _ (n : ℕ) (E : Edition) (f : Format) (law : Lawful E f) (e : ℕ → Bool) where
   -- So many sectors are lost at a position, and none where the loss there is not fatal.
@@ -124,7 +146,7 @@ module _ (n : ℕ) (E : Edition) (f : Format) (law : Lawful E f) (e : ℕ → Bo
     unfolding outcomeStatus
     plan-fatal =
         let L : Layout = E .layout in
-        let cycle : Cycle L there (shownCycle L there) = shown L (law .two) there lossy-there in
+        let shown : Smallest L there (shownCycle L there) = shown-is L (law .two) there lossy-there in
         record {
           sealed = λ w. codeword-sectors n w (n * w) refl L;
           fatal = λ w some. (λ s. fatal-ambiguous (sectors n E) (two-sectors n L (law .two)) e w some .0 lossy, λ both. refl);
@@ -137,7 +159,7 @@ module _ (n : ℕ) (E : Edition) (f : Format) (law : Lawful E f) (e : ℕ → Bo
             fatal-lost L (law .two) there .0 lossy-there,
             lost-there position inside,
             λ w some q l. subst (LostAt n L w e q) (none-lost q (fine-below n L e l)) (lost-there q (omega (arith, inside)) w some),
-            (_, refl, law .loopsFit there _ cycle, law .loops there _ cycle),
+            (_, refl, law .loopsFit there _ (shown .cycle), smallest-loop E f law there lossy-there),
           );
           repairs = λ no. absurd (no refl);
           few = λ few s. not-few few;

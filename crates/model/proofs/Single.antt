@@ -15,7 +15,7 @@ use Rattle.stripes.specs.System.{Layout, whole}
 use Rattle.stripes.specs.Erased.{erasures}
 use Rattle.stripes.specs.Repair.{Entry, repairs, fatal, zeroed}
 use Rattle.stripes.specs.Undetermined.{lost, determined, partsCancel, saved}
-use Rattle.stripes.specs.Cycle.{shownCycle}
+use Rattle.stripes.specs.Smallest.{shownCycle}
 use Rattle.stripes.specs.Sectors.{sectorAt, sectored, atPosition, rising, sectorRepairs, fatalPosition}
 use Rattle.stripes.specs.declared.Stretch.{Stretch}
 use Rattle.stripes.proofs.Fold.{by-cases, and-both}

@@ -14,6 +14,7 @@ use Rattle.stripes.specs.Fold.{count}
 use Rattle.stripes.specs.System.{Layout, whole, Codeword}
 use Rattle.stripes.specs.Erased.{erasures, Agree, Belongs, Ambiguous, AmbiguousIn}
 use Rattle.stripes.specs.Repair.{Entry, fatal as Repair·fatal, mapAfter, rebuilt, zeroed}
+use Rattle.stripes.specs.Smallest.{SmallestOf}
 use Rattle.stripes.specs.Sectors.{sectorAt, sectored, atPosition, sectorRepairs, ofPosition, InRisingOrder}
 use Rattle.model.specs.Sheet.{Format, repairSheets, blankSheets}
 use Rattle.model.specs.Plan.{cycleSheets, outcomeStatus}
@@ -22,8 +23,14 @@ use Rattle.model.specs.Edition.{Edition}
 use Rattle.model.specs.declared.Outcome.{Outcome}
 use Rattle.model.specs.declared.Outcome.the-variants.{Repairs, Fatal}
 
+-- Of the loops of erased disks v is the shortest, and of equal ones that whose disk numbers in ascending order come first (paper 02, P7). There
+-- is no other such list.
+pub record SmallestLoop (E : Edition) (e : ℕ → Bool) (v : List Entry) : Type 0 where
+  pub smallest : SmallestOf (E .layout) (E .Loops e) v
+  pub only : (u : List Entry) → SmallestOf (E .layout) (E .Loops e) u → u ≡ v
+
 -- A list of repairs in plan's order, every erased sector once, and its sheets, one for each position; and sheets of which that of position p
--- shows a loop of the disks erased there, and the others are zero. The records fit.
+-- shows the smallest loop of the disks erased there, and the others are zero. The records fit.
 abbrev pub Lists : (n : ℕ) → Layout → Format → (ℕ → Bool) → List Entry → (sheets : List ℕ) → Type 0
 Lists n L f e v sheets =
     (sheets ≡ repairSheets f n v) × ((p : ℕ) → p < n → length (ofPosition n p v) ≤ f .records)
@@ -31,7 +38,7 @@ Lists n L f e v sheets =
 
 abbrev pub LoopSheets : (n : ℕ) → Edition → Format → (ℕ → Bool) → (p : ℕ) → (sheets : List ℕ) → Type 0
 LoopSheets n E f e p sheets =
-    (v : List Entry) × (sheets ≡ cycleSheets f n p v) × (length v ≤ f .records) × E .Loops (atPosition n p e) v
+    (v : List Entry) × (sheets ≡ cycleSheets f n p v) × (length v ≤ f .records) × SmallestLoop E (atPosition n p e) v
 
 -- At position p so many sectors are lost: two sealed arrays differ in them that agree on every survivor.
 abbrev pub LostAt : (n : ℕ) → Layout → (w : ℕ) → (e : ℕ → Bool) → (p number : ℕ) → Type 0
@@ -47,8 +54,8 @@ pub record Planned (n : ℕ) (E : Edition) (f : Format) (e : ℕ → Bool) (answ
   pub fatal : (w : ℕ) → 0 < w → (outcomeStatus answer ≡ 6) ↔ Ambiguous (sectored n (E .layout)) (whole w) e
   -- That is so exactly if plan's order leaves a sector erased.
   pub left : (outcomeStatus answer ≡ 6) ↔ (Repair·fatal (sectored n (E .layout)) e ≡ true)
-  -- Then it names the lowest position at which a sector is lost, and counts the lost sectors there. The sheet of that position shows a loop of
-  -- erased disks.
+  -- Then it names the lowest position at which a sector is lost, and counts the lost sectors there. The sheet of that position shows the smallest
+  -- loop of erased disks.
   pub lost : outcomeStatus answer ≡ 6
       → (number : ℕ) × (p : ℕ) × (answer ≡ Fatal number p) × (p < n) × (0 < number)
       × ((w : ℕ) → 0 < w → LostAt n (E .layout) w e p number)

@@ -7,7 +7,7 @@ use lib.Dec.{eqb, ltb}
 use lib.ListN.{length, getD, drop}
 use Rattle.stripes.specs.Repair.{Entry, repairs, fatal}
 use Rattle.stripes.specs.Erased.{erasures}
-use Rattle.stripes.specs.Cycle.{shownCycle}
+use Rattle.stripes.specs.Smallest.{shownCycle}
 use Rattle.model.specs.Grid.{rectangle}
 use Rattle.model.specs.Refusal.{refusal}
 use Rattle.model.specs.Sheet.{narrow, sheetBytes}

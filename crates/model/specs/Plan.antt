@@ -9,7 +9,7 @@ use Rattle.stripes.specs.System.{Layout}
 use Rattle.stripes.specs.Erased.{erasures}
 use Rattle.stripes.specs.Repair.{Entry}
 use Rattle.stripes.specs.Undetermined.{lost}
-use Rattle.stripes.specs.Cycle.{shownCycle}
+use Rattle.stripes.specs.Smallest.{shownCycle}
 use Rattle.stripes.specs.Sectors.{atPosition, sectorRepairs, fatalPosition}
 use Rattle.model.specs.Grid.{layoutOf, sizeFits, sectorsFit, mapBytes, mapFits}
 use Rattle.model.specs.Refusal.{Test, _unless_, refusal}
@@ -31,7 +31,7 @@ unfoldable pub oneTests : Size → List ℕ → (len : ℕ) → List Test
 oneTests z m len = 1 unless sizeFits z ∷ sheetTests z 1 m len
 
 -- What the loss of the sectors e comes to, and the sheets that say so. A fatal position refuses the whole plan: the lowest such is named, its
--- sheet shows a cycle there, and the other sheets are zero.
+-- sheet shows the smallest cycle there, and the other sheets are zero.
 unfoldable pub lossOutcome : (n : ℕ) → Layout → (e : ℕ → Bool) → Outcome
 lossOutcome n L e =
     let p : ℕ = fatalPosition n L e in

@@ -13,7 +13,7 @@ use Rattle.stripes.specs.System.{Layout, whole}
 use Rattle.stripes.specs.Erased.{erasures}
 use Rattle.stripes.specs.Repair.{Entry, repairs, fatal, mapAfter, rebuilt, zeroed}
 use Rattle.stripes.specs.Undetermined.{lost, determined, partsCancel, saved}
-use Rattle.stripes.specs.Cycle.{shownCycle}
+use Rattle.stripes.specs.Smallest.{shownCycle}
 use Rattle.stripes.specs.Sectors.{atPosition}
 use Rattle.stripes.specs.declared.Stretch.{Stretch}
 use Rattle.model.specs.Grid.{layoutOf, columnBase, disks, sizeFits, mapFits}

@@ -18,7 +18,7 @@ use Rattle.stripes.proofs.Fold.{by-cases, fails-with}
 use Rattle.stripes.proofs.Peel.{without-other, without-sub, without-apart}
 use Rattle.stripes.proofs.Joined.{part-stays, part-same, joined-of, is-joined, joined-self, joined-back, joined-comm, joined-chain, joined-disk, joined-least}
 use Rattle.parts.specs.Ways.{joinedBefore, between, wayBy, closedBy}
-use Rattle.parts.proofs.Digits.{digit, digit-⊕, digit-one, or-within, one-within}
+use Rattle.stripes.proofs.Digits.{digit, digit-⊕, digit-one, or-within, one-within}
 use Rattle.parts.proofs.Ways.{number, numbers-differ, between-link, between-closed, Cut, cut-way, cut-closed, twice-none}
 
 -- A digit with 1 added is 1 exactly if it was 0.

@@ -1,4 +1,3 @@
-pub mod Digits
 pub mod Filled
 pub mod Ways
 pub mod Bridges

@@ -16,7 +16,7 @@ use Rattle.stripes.proofs.Xor.{⊕-comm, ⊕-self, ⊕-zero, ⊕-assoc, ⊕-can
 use Rattle.stripes.proofs.Fold.{by-cases, and-left, and-right, lt-or-le}
 use Rattle.stripes.proofs.Joined.{part-united, part-kept, part-stays, part-disk}
 use Rattle.parts.specs.Ways.{joinedBefore, between, longer, wayBy, closedBy}
-use Rattle.parts.proofs.Digits.{digit, digit-⊕, digit-none, digit-one, digit-or, in-left, in-right}
+use Rattle.stripes.proofs.Digits.{digit, digit-⊕, digit-none, digit-one, digit-or, in-left, in-right}
 
 -- Nothing changes where two parts that become one are one already.
 united-same : (part : ℕ → ℕ) (low high : ℕ) → part low ≡ part high → (s : ℕ) → part s ≡ united low high part s

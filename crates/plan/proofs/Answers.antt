@@ -11,7 +11,7 @@ use lib.Seq.{take-all}
 use Rattle.stripes.specs.System.{Layout}
 use Rattle.stripes.specs.Erased.{erasures}
 use Rattle.stripes.specs.Repair.{repairs, fatal}
-use Rattle.stripes.specs.Cycle.{shownCycle}
+use Rattle.stripes.specs.Smallest.{shownCycle}
 use Rattle.stripes.specs.Sectors.{atPosition, ofPosition, sectorRepairs}
 use Rattle.stripes.proofs.Sectors.{one-position}
 use Rattle.stripes.proofs.Positions.{one-of, one-order, one-fatal}

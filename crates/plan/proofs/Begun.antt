@@ -16,7 +16,7 @@ use lib.ListN.{length, take, length-append, length-map}
 use Rattle.stripes.specs.System.{Layout}
 use Rattle.stripes.specs.Repair.{Entry, repairs, fatal}
 use Rattle.stripes.specs.Undetermined.{lost}
-use Rattle.stripes.specs.Cycle.{shownCycle}
+use Rattle.stripes.specs.Smallest.{shownCycle}
 use Rattle.stripes.specs.Sectors.{atPosition, sectorEntry, rising, sectorRepairs, fatalPosition}
 use Rattle.stripes.proofs.Fold.{by-cases, below-suc, lowest-found, lowest-end}
 use Rattle.stripes.proofs.Peel.{repairs-peels}

@@ -8,7 +8,7 @@ use Prim.Native.Nat.{ℕ}
 use Rattle.stripes.specs.System.{Layout}
 use Rattle.stripes.specs.Repair.{repairs, fatal}
 use Rattle.stripes.specs.Undetermined.{lost}
-use Rattle.stripes.specs.Cycle.{shownCycle}
+use Rattle.stripes.specs.Smallest.{shownCycle}
 use Rattle.stripes.specs.Sectors.{atPosition, sectorRepairs, fatalPosition}
 use Rattle.model.specs.Sheet.{Format, sheetOf, repairSheets}
 use Rattle.model.specs.Plan.{cycleSheets}

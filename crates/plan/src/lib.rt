@@ -14,8 +14,8 @@ use model::Outcome;
 use model::Size;
 use solve::Solved;
 
-// Writes the first repairs of the disks that are erased in a column, at most `limit`, into the sheet of its position, or for a fatal loss a
-// cycle, and says what the loss there comes to.
+// Writes the first repairs of the disks that are erased in a column, at most `limit`, into the sheet of its position, or for a fatal loss the
+// smallest cycle, and says what the loss there comes to.
 fn draft_column(
     size: Size,
     position: usize,
@@ -109,7 +109,7 @@ fn draft_all(size: Size, sectors: usize, map: &[u8], sheets: &mut [u8], limit: u
 }
 
 // Writes the first repairs of a loss, at most `limit`, into the sheets of their positions, which are taken in rising order; or for a fatal
-// loss a cycle at the lowest position where it is fatal, and zeros elsewhere. The map is only read. With one sector a block it is taken as
+// loss the smallest cycle at the lowest position where it is fatal, and zeros elsewhere. The map is only read. With one sector a block it is taken as
 // it is.
 pub fn draft(size: Size, sectors: usize, map: &[u8], sheets: &mut [u8], limit: usize) -> Outcome
     requires { ⌜ sizeFits size ≡ true ⌝ }
@@ -128,7 +128,7 @@ pub fn draft(size: Size, sectors: usize, map: &[u8], sheets: &mut [u8], limit: u
     draft_all(size, sectors, map, sheets, limit)
 }
 
-// Writes all repairs, or for a fatal loss a cycle, into the sheets. The map is only read.
+// Writes all repairs, or for a fatal loss the smallest cycle, into the sheets. The map is only read.
 pub fn plan(size: Size, sectors: usize, map: &[u8], sheets: &mut [u8]) -> Outcome
     ensures outcome { λ r. ⌜ r ≡ planOutcome size sectors (now (map .entry)) (now (sheets .entry)) ⌝ }
     ensures sheets { λ r. ⌜ now (sheets .exit) ≡ planSheets size sectors (now (map .entry)) (now (sheets .entry)) ⌝ }

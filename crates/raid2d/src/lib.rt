@@ -20,9 +20,9 @@ use model::Size;
 // The version of the library: 10000 times the major number, 100 times the minor number, and the patch.
 #[no_mangle]
 pub extern "C" fn raid2d_version_number() -> u32
-    ensures { λ r. ⌜ r ≡ 1000 ⌝ }
+    ensures { λ r. ⌜ r ≡ 1100 ⌝ }
 {
-    1000
+    1100
 }
 
 // The number of disks, which is the length of a map without sectors, and the length of an array.

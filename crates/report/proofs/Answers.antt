@@ -9,7 +9,7 @@ use lib.ListN.{length, getD, drop}
 use Rattle.stripes.specs.System.{Layout}
 use Rattle.stripes.specs.Erased.{erasures}
 use Rattle.stripes.specs.Repair.{repairs, fatal}
-use Rattle.stripes.specs.Cycle.{shownCycle}
+use Rattle.stripes.specs.Smallest.{shownCycle}
 use Rattle.model.specs.Grid.{rectangle, rows, columns, sizeFits, mapBytes, mapFits}
 use Rattle.model.specs.Refusal.{refusal}
 use Rattle.model.specs.Sheet.{narrow, sheetBytes}

@@ -7,13 +7,12 @@ use Prim.Native.Nat.{ℕ, _+_, _*_, _/_, _≤_, _<_}
 use native.Mathlib.Numerals.{add-one}
 use native.Mathlib.Omega.{arith}
 use lib.ListN.{length}
-use Rattle.stripes.specs.Fold.{count}
+use Rattle.stripes.specs.Fold.{count, total}
 use Rattle.stripes.specs.System.{Layout, TwoStripes, whole}
 use Rattle.stripes.specs.Erased.{erasures}
 use Rattle.stripes.specs.Sectors.{sectored, atPosition, stretchAt}
 use Rattle.stripes.specs.Undetermined.{determined, partsCancel, saved}
 use Rattle.stripes.proofs.Fold.{every-at, count-le}
-use Rattle.stripes.proofs.Degree.{total}
 use Rattle.stripes.proofs.SectorParts.{savedBelow, length-saved-below, saved-below-none, saved-below-next, saved-below-cancel, saved-below-all, count-determined}
 use Rattle.model.specs.Grid.{disks, layoutOf}
 use Rattle.model.specs.declared.Size.{Size}

@@ -13,15 +13,14 @@ use denote.Enum.Declared.{tagOf}
 use borrow.Author.Tests.{lt-ltb, le-ltb, ltb-true, eq-eqb, ne-eqb, eqb-true, eqb-false}
 use lib.Dec.{ltb, eqb}
 use lib.ListN.{length, take, length-take}
-use Rattle.stripes.specs.Fold.{count}
+use Rattle.stripes.specs.Fold.{count, total}
 use Rattle.stripes.specs.System.{Layout, whole}
 use Rattle.stripes.specs.Erased.{erasures}
 use Rattle.stripes.specs.Undetermined.{lost}
 use Rattle.stripes.specs.Repair.{Entry, repairs, fatal}
-use Rattle.stripes.specs.Cycle.{shownCycle}
+use Rattle.stripes.specs.Smallest.{shownCycle}
 use Rattle.stripes.specs.Sectors.{sectored, atPosition, sectorRepairs, fatalPosition}
 use Rattle.stripes.proofs.Fold.{same-test, by-cases, and-left, and-right, lt-or-le, count-some, count-found}
-use Rattle.stripes.proofs.Degree.{total}
 use Rattle.stripes.proofs.Peel.{repairs-peels}
 use Rattle.stripes.proofs.Positions.{length-rising, fatal-sectors}
 use Rattle.model.specs.Grid.{sizeFits, blockFits, sectorFits, mapBytes, mapFits}

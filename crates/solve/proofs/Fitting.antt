@@ -4,9 +4,9 @@ use mathlib.Core.Path.{_≡_}
 use mathlib.Core.Bool.{Bool, true}
 use Prim.Native.Nat.{ℕ}
 use Rattle.stripes.specs.Repair.{repairs, fatal}
-use Rattle.stripes.specs.Cycle.{shownCycle}
+use Rattle.stripes.specs.Smallest.{shownCycle}
 use Rattle.stripes.proofs.Peel.{repairs-peels}
-use Rattle.stripes.proofs.Trace.{shown}
+use Rattle.stripes.proofs.Theorems.{shown-is}
 use Rattle.model.specs.Grid.{sizeFits}
 use Rattle.model.specs.Sheet.{narrow}
 use Rattle.model.specs.Plan.{sheetLayout}
@@ -21,4 +21,4 @@ module _ (z : Size) (fits : sizeFits z ≡ true) where
   repairs-fit e = peels-fitting z fits e _ (repairs-peels (sheetLayout z) e)
 
   pub cycle-fits : (e : ℕ → Bool) → fatal (sheetLayout z) e ≡ true → Fitting narrow (shownCycle (sheetLayout z) e)
-  cycle-fits e lossy = cycle-fitting z fits e _ (shown (sheetLayout z) (layout-two z (narrow .base) (numbered z fits .above)) e lossy)
+  cycle-fits e lossy = cycle-fitting z fits e _ (shown-is (sheetLayout z) (layout-two z (narrow .base) (numbered z fits .above)) e lossy .cycle)

@@ -1,5 +1,4 @@
 pub mod Memory
-pub mod Solving
-pub mod Halving
-pub mod Shown
 pub mod Fitting
+pub mod Solving
+pub mod Shown

@@ -8,12 +8,12 @@ use native.Mathlib.Omega.{arith}
 use lib.ListN.{length}
 use Rattle.stripes.specs.Fold.{count}
 use Rattle.stripes.specs.System.{Layout}
-use Rattle.stripes.specs.Erased.{erasures, below}
+use Rattle.stripes.specs.Erased.{erasures}
 use Rattle.stripes.specs.Repair.{repairs, residual, residualCount}
 use Rattle.model.specs.Grid.{disks, layoutOf, mapFits}
 use Rattle.model.specs.declared.Size.{Size}
 use Rattle.stripes.proofs.Peel.{repairs-left}
-use Rattle.stripes.proofs.Erased.{past-end, below-not, below-all}
+use Rattle.stripes.proofs.Erased.{past-end}
 use Rattle.model.proofs.Grid.{layout-disks, map-length}
 use Rattle.layout.specs.Stripe.{Numbered}
 use Rattle.layout.proofs.Numbers.{map-few}
@@ -26,11 +26,10 @@ module _ (z : Size) (base : ℕ) (m : List ℕ) (fits : mapFits (disks z) m ≡ 
   pub map-disks : length m ≡ layoutOf z base .disks
   map-disks = map-length (disks z) m fits ∙ sym (layout-disks z base)
 
-  pub loaded-inside : (k : ℕ) → k ≤ length m → (work : List ℕ) → erasures work ≡ below k (erasures m)
-      → (d : ℕ) → disks z ≤ d → erasures work d ≡ false
-  loaded-inside k few work e d l =
+  pub loaded-inside : (work : List ℕ) → erasures work ≡ erasures m → (d : ℕ) → disks z ≤ d → erasures work d ≡ false
+  loaded-inside work e d l =
       let long = map-length (disks z) m fits in
-      ap (λ (c : ℕ → Bool). c d) e ∙ below-not k (erasures m) d (omega arith)
+      ap (λ (c : ℕ → Bool). c d) e ∙ past-end m d (omega arith)
 
 -- Of the disks that are loaded the repairs take some and leave the rest.
 module _ (z : Size) (base : ℕ) (c : ℕ → Bool) {erased made : ℕ} (all : erased ≡ count (disks z) c) (number : made ≡ length (repairs (layoutOf z base) c)) where
@@ -49,12 +48,6 @@ module _ (z : Size) (base : ℕ) (c : ℕ → Bool) {erased made : ℕ} (all : e
   peeled same {work} {stripes} {list} entries rest table =
       subst (λ (f : ℕ → Bool). Peeled (layoutOf z base) f made (erased - made) work stripes list) same
       (record { number = number; listed = entries; rest = left-over .1; erased = rest; table = table })
-
--- All disks of a map are below its length.
-pub peeled-whole : {L : Layout} (m : List ℕ) {made left : ℕ} {work stripes list : List ℕ}
-    → Peeled L (below (length m) (erasures m)) made left work stripes list → Peeled L (erasures m) made left work stripes list
-peeled-whole {L} m {made} {left} {work} {stripes} {list} p =
-    subst (λ (f : ℕ → Bool). Peeled L f made left work stripes list) (below-all (length m) (erasures m) (past-end m)) p
 
 -- ---- room
 

@@ -1,36 +1,35 @@
--- What is left up to the disk that makes a loss fatal: the cycle that is shown.
+-- The disks of the smallest cycle in a map of their own: they form a cycle, and their stripes are in the table.
 -- Assumes nothing.
 use mathlib.Core.Path.{_≡_, sym, _∙_, ap, subst}
 use mathlib.Core.Bool.{Bool, true}
-use Prim.Native.Nat.{ℕ, suc, _+_, _≤_, _<_}
-use native.Mathlib.Numerals.{add-one}
-use native.Mathlib.Omega.{arith}
+use mathlib.Core.List.{List}
+use Prim.Native.Nat.{ℕ, _<_}
+use lib.ListN.{length}
 use Rattle.stripes.specs.System.{Layout, TwoStripes}
-use Rattle.stripes.specs.Erased.{below}
-use Rattle.stripes.specs.Repair.{residual, fatal}
-use Rattle.stripes.specs.Cycle.{closing, core, Paired, lowestOf, cycleOf, shownCycle}
-use Rattle.stripes.proofs.Core.{closing-disk, core-some, core-paired}
+use Rattle.stripes.specs.Erased.{erasures}
+use Rattle.stripes.specs.Repair.{fatal}
+use Rattle.stripes.specs.Cycle.{Paired, lowestOf, cycleOf}
+use Rattle.stripes.specs.Smallest.{onSmallest, shownCycle}
 use Rattle.stripes.proofs.Walk.{lowest-holds}
+use Rattle.stripes.proofs.Cheapest.{smallest-paired, smallest-some, smallest-within}
+use Rattle.tally.specs.Tally.{Table}
+use Rattle.tally.proofs.Counted.{table-fewer}
 
-module _ (L : Layout) (e : ℕ → Bool) (lossy : fatal L e ≡ true) (k : ℕ) (at : k ≡ closing L e) where
-  pub closing-inside : k + 1 ≤ L .disks
-  closing-inside = let l = closing-disk L e lossy in omega arith
+module _ (L : Layout) (two : TwoStripes L) (work set : List ℕ) (lossy : fatal L (erasures work) ≡ true)
+    (is : erasures set ≡ onSmallest L (erasures work)) where
+  pub shown-paired : Paired L (erasures set)
+  shown-paired = subst (Paired L) (sym is) (smallest-paired L two (erasures work) lossy)
 
-  -- What plan's order leaves of the disks up to that one is the core of the loss.
-  module _ {c : ℕ → Bool} (left : c ≡ residual L (below (k + 1) e)) where
-    is-core : c ≡ core L e
-    unfolding core
-    is-core = left ∙ ap (λ (n : ℕ). residual L (below n e)) (add-one k ∙ ap suc at)
+  pub shown-lowest : lowestOf L (erasures set) < L .disks
+  unfolding lowestOf
+  shown-lowest =
+      let (d, l, h) = smallest-some L two (erasures work) lossy in
+      lowest-holds (L .disks) (erasures set) d l (ap (λ (f : ℕ → Bool). f d) is ∙ h) .0
 
-    pub left-paired : TwoStripes L → Paired L c
-    left-paired two = subst (Paired L) (sym is-core) (core-paired L two e lossy)
+  pub shown-table : {stripes : List ℕ} → Table L work stripes → length set ≡ length work → Table L set stripes
+  shown-table table long =
+      table-fewer table long (λ d h. smallest-within L two (erasures work) lossy d (sym (ap (λ (f : ℕ → Bool). f d) is) ∙ h))
 
-    pub left-lowest : lowestOf L c < L .disks
-    unfolding lowestOf
-    left-lowest =
-        let (d, l, h) = core-some L e lossy in
-        lowest-holds (L .disks) c d l (ap (λ (f : ℕ → Bool). f d) is-core ∙ h) .0
-
-    pub left-cycle : cycleOf L c ≡ shownCycle L e
-    unfolding shownCycle
-    left-cycle = ap (cycleOf L) is-core
+  pub shown-cycle : cycleOf L (erasures set) ≡ shownCycle L (erasures work)
+  unfolding shownCycle
+  shown-cycle = ap (cycleOf L) is

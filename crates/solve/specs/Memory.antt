@@ -12,9 +12,9 @@ use Rattle.layout.specs.Stripe.{stripeLimit}
 use Rattle.entries.specs.Listed.{capacity, listed}
 use Rattle.tally.specs.Tally.{Table}
 
--- It is large enough: for the disks of a layout, any stripes that can be numbered, and a whole list.
+-- It is large enough: just for the disks of a layout, for any stripes that can be numbered, and for a whole list.
 pub record Room (L : Layout) (work stripes counts list : List ℕ) : Type 0 where
-  pub disksFit : L .disks ≤ length work
+  pub disksFit : length work ≡ L .disks
   pub tableFits : 2 * length work ≤ length stripes
   pub stripesFit : stripeLimit ≤ length counts
   pub listFits : capacity ≤ length list

@@ -7,7 +7,7 @@ use Prim.Native.Nat.{ℕ}
 use lib.ListN.{length}
 use Rattle.stripes.specs.System.{Layout}
 use Rattle.stripes.specs.Repair.{repairs, fatal}
-use Rattle.stripes.specs.Cycle.{shownCycle}
+use Rattle.stripes.specs.Smallest.{shownCycle}
 use Rattle.stripes.specs.Undetermined.{lost}
 use Rattle.entries.specs.Listed.{listed}
 use Rattle.solve.specs.declared.Solved.{Solved}

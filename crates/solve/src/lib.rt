@@ -37,18 +37,18 @@ fn solve_in(
     requires { ⌜ Room (layoutOf size base) (now work) (now stripes) (now counts) (now list) ⌝ }
     ensures { λ r. ⌜ Solves (layoutOf size base) (erasures (now (map .entry))) r (now (list .exit)) ⌝ }
 {
-    let found = peeled::peel_below(size, base, map, map.len(), work, stripes, counts, list);
+    let found = peeled::peel(size, base, map, work, stripes, counts, list);
     if found.left == 0 {
         return Solved::Repairs(found.made);
     }
     let lost = parts::lost::undetermined_count(size, base, work, stripes);
     Solved::Cycle {
-        disks: fatal::show(size, base, map, work, stripes, counts, list),
+        disks: fatal::show(size, base, work, stripes, list),
         lost: lost,
     }
 }
 
-// Lists the repairs of a map's erased disks in plan's order, or for a fatal loss a cycle of them. The list has room for
+// Lists the repairs of a map's erased disks in plan's order, or for a fatal loss the smallest cycle of them. The list has room for
 // entries::CAPACITY words. No other function makes the planner's working memory; the working map is as long as the map, so that
 // nothing behind it is looked at.
 pub fn solve(size: Size, base: usize, map: &[u8], list: &mut [u32]) -> Solved

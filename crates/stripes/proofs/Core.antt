@@ -10,17 +10,17 @@ use native.Mathlib.Omega.{arith}
 use lib.Arith.{digits-div, digits-lt, lt-of-le-ne}
 use lib.Dec.{ltb}
 use lib.ListN.{length, getD}
-use Rattle.stripes.specs.Fold.{_⊕_, xsum, gate, bit, count, tabulate}
+use Rattle.stripes.specs.Fold.{_⊕_, xsum, gate, bit, count, lowest, tabulate, total}
 use Rattle.stripes.specs.System.{Layout, TwoStripes, on, byte, sumOver, stripeSum, Codeword}
 use Rattle.stripes.specs.Erased.{without, Ambiguous, AmbiguousIn, below}
-use Rattle.stripes.specs.Repair.{repairs, fatal}
-use Rattle.stripes.specs.Cycle.{closing, core, Paired}
+use Rattle.stripes.specs.Repair.{repairs, residual, fatal}
+use Rattle.stripes.specs.Cycle.{Paired}
 use Rattle.stripes.specs.declared.Stretch.{Stretch}
 use Rattle.stripes.proofs.Xor.{zero-⊕, ⊕-zero, ⊕-self}
 use Rattle.stripes.proofs.Fold.{and-left, and-right, and-both, fails-with, by-cases, lt-or-le, xsum-ext, xsum-zero, gate-zero, bit-le, count-some, count-found, count-without, Lowest, lowest-is, length-tabulate, getD-tabulate}
 use Rattle.stripes.proofs.Peel.{Within, Stuck, without-at, without-other, without-sub, stuck-other, repairs-peels, residual-stuck, residual-sub, is-fatal, fatal-of-stuck, fatal-mono, repairs-count}
 use Rattle.stripes.proofs.Erased.{below-is, is-below}
-use Rattle.stripes.proofs.Degree.{total, total-times, total-squeeze, count-total, count-two, Other, count-other, degree, touched, touches, on-low, on-bound, degrees, touching, touched-mono, peels-fewer}
+use Rattle.stripes.proofs.Degree.{total-times, total-squeeze, count-total, count-two, Other, count-other, degree, touched, touches, on-low, on-bound, degrees, touching, touched-mono, peels-fewer}
 
 -- ---- paired disks
 
@@ -55,6 +55,14 @@ module _ (L : Layout) (two : TwoStripes L) (c : ℕ → Bool) (stuck : Stuck L c
       sym same ∙ ap (λ (b : Bool). 2 * bit b) (touches L c d s l h k)
 
 -- ---- the core of a fatal loss
+
+-- Losing the erased disks one by one, lowest first, this is the first disk whose loss is fatal.
+unfoldable pub closing : Layout → (ℕ → Bool) → ℕ
+closing L e = lowest (L .disks) (λ d. fatal L (below (suc d) e))
+
+-- What plan's order then leaves.
+unfoldable pub core : Layout → (ℕ → Bool) → ℕ → Bool
+core L e = residual L (below (suc (closing L e)) e)
 
 -- There are none below 0.
 below-none : (L : Layout) (e : ℕ → Bool) → fatal L (below 0 e) ≡ false

@@ -34,7 +34,7 @@ count-injects (suc m) n t u f there same =
     omega arith)
     refl
 
-count-all : (m : ℕ) → count m (λ i. true) ≡ m
+pub count-all : (m : ℕ) → count m (λ i. true) ≡ m
 unfolding count bit
 count-all zero = refl
 count-all (suc m) = ap (λ (n : ℕ). n + 1) (count-all m) ∙ add-one m

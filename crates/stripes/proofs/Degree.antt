@@ -10,7 +10,7 @@ use native.Mathlib.Omega.{arith}
 use borrow.Author.Tests.{eq-eqb, ne-eqb, eqb-true, eqb-false, ltb-true, lt-ltb, le-ltb, not-true}
 use lib.Dec.{eqb, ltb}
 use lib.ListN.{length}
-use Rattle.stripes.specs.Fold.{every, bit, count}
+use Rattle.stripes.specs.Fold.{every, bit, count, total}
 use Rattle.stripes.specs.System.{Layout, TwoStripes, among, on, otherThan, Ordered, Rising}
 use Rattle.stripes.specs.Erased.{without}
 use Rattle.stripes.specs.Repair.{Entry, allowed, Peels}
@@ -18,11 +18,6 @@ use Rattle.stripes.proofs.Fold.{and-left, and-right, and-both, same-tes
 use Rattle.stripes.proofs.Peel.{Within, without-at, without-other, without-sub, without-apart, Allowed, allowed-is}
 
 -- ---- sums of numbers
-
--- f 0 + f 1 + .. + f (n - 1).
-unfoldable pub total : ℕ → (ℕ → ℕ) → ℕ
-total zero f = 0
-total (suc n) f = total n f + f n
 
 pub total-ext : (n : ℕ) {f g : ℕ → ℕ} → ((i : ℕ) → i < n → f i ≡ g i) → total n f ≡ total n g
 unfolding total

@@ -4,17 +4,17 @@
 use mathlib.Core.Path.{_≡_, refl, sym, _∙_, ap, ap₂}
 use mathlib.Core.Bool.{Bool, true, false, cond, not, _&&_, and-false, false≢true}
 use mathlib.Core.Logic.{⊎-elim}
-use Prim.Native.Nat.{ℕ, _+_, _<_}
+use Prim.Native.Nat.{ℕ, zero, suc, _+_, _≤_, _<_}
 use native.Mathlib.Omega.{arith}
-use borrow.Author.Tests.{ne-eqb, eqb-true, not-true}
+use borrow.Author.Tests.{eq-eqb, ne-eqb, eqb-true, not-true}
 use lib.Dec.{eqb}
-use Rattle.stripes.specs.Fold.{_⊕_, xsum, gate, bit, count}
+use Rattle.stripes.specs.Fold.{_⊕_, xsum, gate, bit, count, total}
 use Rattle.stripes.specs.System.{Layout, TwoStripes, lower, higher, on, otherThan, sumOver}
 use Rattle.stripes.specs.Joined.{joined, crosses}
-use Rattle.stripes.proofs.Xor.{⊕-comm, ⊕-self, ⊕-assoc, ⊕-cancel}
-use Rattle.stripes.proofs.Fold.{by-cases, xsum-ext, xsum-zero, xsum-⊕, xsum-swap, gate-⊕, gate-zero, gate-swap, gate-one, gate-or, gate-xsum, xsum-at, and-right}
+use Rattle.stripes.proofs.Xor.{zero-⊕, ⊕-comm, ⊕-self, ⊕-assoc, ⊕-cancel}
+use Rattle.stripes.proofs.Fold.{by-cases, lt-or-le, and-left, count-ext, count-found, count-zero-none, count-without, gate-and, xsum-ext, xsum-zero, xsum-⊕, xsum-swap, gate-⊕, gate-zero, gate-swap, gate-one, gate-or, gate-xsum, xsum-at, and-right}
 use Rattle.stripes.proofs.Sums.{sumOver-ext, sumOver-⊕}
-use Rattle.stripes.proofs.Degree.{total, total-ext, total-zero, total-swap, count-total, count-where, other-first, other-second, on-two, on-which, on-among}
+use Rattle.stripes.proofs.Degree.{total-ext, total-zero, total-swap, count-total, count-where, other-first, other-second, on-two, on-which, on-among}
 use Rattle.stripes.proofs.Joined.{lower-is, higher-is, lower-bound, higher-bound, joined-least}
 
 -- ---- a disk on its two stripes
@@ -47,7 +47,7 @@ ends-wider L c e sub s t f = record { set = f .set; within = λ d h. sub d (f .w
 
 module _ (L : Layout) (c : ℕ → Bool) where
   -- Nothing has its two ends on one stripe.
-  pub ends-none : (s : ℕ) → Ends L c s s
+  unfoldable pub ends-none : (s : ℕ) → Ends L c s s
   unfolding sumOver gate
   ends-none s =
       record {
@@ -90,6 +90,78 @@ module _ (L : Layout) (c : ℕ → Bool) where
     -- So disks of c with these ends are there wherever disks of c join two stripes.
     pub joined-ends-of : (s t : ℕ) → joined L c s t ≡ true → Ends L c s t
     joined-ends-of = joined-least L c (Ends L c) (record { self = ends-none; back = ends-back; chain = ends-chain; disk = ends-disk })
+
+-- ---- taking ends apart, and putting them together
+module _ (L : Layout) (two : TwoStripes L) (c : ℕ → Bool) where
+  -- A disk has its two stripes for ends, from either of them to the other.
+  unfoldable pub ends-over : (d : ℕ) → d < L .disks → c d ≡ true → (t : ℕ) → on L d t ≡ true → Ends L c t (otherThan t (L .through d))
+  ends-over d l h t there =
+      record {
+        set = λ i. eqb i d;
+        within = λ i q. ap c (eqb-true i d q) ∙ h;
+        sum = λ v x.
+            sum-disk L two d l v x
+            ∙ ap₂ (λ (p q : ℕ). gate (eqb x p) v ⊕ gate (eqb x q) v) (lower-is L two d l) (higher-is L two d l)
+            ∙ ⊎-elim
+            (λ (q : t ≡ two .low d).
+            rw (q, two .two d l, other-first (two .low d) (two .high d) apart) refl)
+            (λ (q : t ≡ two .high d).
+            rw (q, two .two d l, other-second (two .low d) (two .high d) apart)
+            (⊕-comm (gate (eqb x (two .low d)) v) (gate (eqb x (two .high d)) v)))
+            (on-which L two d l t there);
+      }
+    where
+      apart : two .high d ≡ two .low d → ⊥
+      apart e = let h = two .order d l in omega arith
+
+  -- Where the ends differ, a disk of the set lies on the last of them.
+  pub ends-found : (s t : ℕ) → (t ≡ s → ⊥) → (f : Ends L c s t) → (d : ℕ) × (d < L .disks) × (f .set d ≡ true) × (on L d t ≡ true)
+  unfolding sumOver gate
+  ends-found s t apart f =
+      ⊎-elim
+      (λ some.
+      let (d, l, h) = count-found (L .disks) (λ d. f .set d && on L d t) some in
+      (d, l, and-left (f .set d) (on L d t) h, and-right (f .set d) (on L d t) h))
+      (λ none.
+      let zero-sum : sumOver L (λ d. gate (f .set d) 1) t ≡ 0 =
+      xsum-zero (L .disks) (λ d l.
+      gate-and (on L d t) (f .set d) 1
+      ∙ ap (λ (b : Bool). gate b 1) (count-zero-none (L .disks) (λ d. f .set d && on L d t) (omega arith) d l)) in
+      let one-sum : sumOver L (λ d. gate (f .set d) 1) t ≡ 1 =
+      f .sum 1 t ∙ ap₂ (λ (p q : Bool). gate p 1 ⊕ gate q 1) (ne-eqb t s apart) (eq-eqb t t refl) ∙ zero-⊕ 1 in
+      absurd (omega arith))
+      (lt-or-le 0 (count (L .disks) (λ d. f .set d && on L d t)))
+
+  -- Without such a disk the set leads to the disk's other stripe.
+  unfoldable pub ends-step : (s t : ℕ) → Ends L c s t → (d : ℕ) → d < L .disks → c d ≡ true → on L d t ≡ true
+      → Ends L c s (otherThan t (L .through d))
+  ends-step s t f d l h there = ends-chain L c s t (otherThan t (L .through d)) f (ends-over d l h t there)
+
+  pub ends-step-count : (s t : ℕ) (f : Ends L c s t) (d : ℕ) (l : d < L .disks) (h : c d ≡ true) (there : on L d t ≡ true)
+      → f .set d ≡ true → count (L .disks) (ends-step s t f d l h there .set) + 1 ≡ count (L .disks) (f .set)
+  unfolding ends-step ends-chain ends-over
+  ends-step-count s t f d l h there held =
+      ap (λ (n : ℕ). n + 1)
+      (count-ext (L .disks) (λ i w.
+      by-cases (λ (b : Bool). cond (f .set i) (not b) b ≡ (f .set i && not b)) (eqb i d)
+      (λ q. ap (λ (b : Bool). cond b false true) (ap (f .set) (eqb-true i d q) ∙ held) ∙ sym (and-false (f .set i)))
+      (λ q. by-cases (λ (b : Bool). cond b true false ≡ (b && true)) (f .set i) (λ _. refl) (λ _. refl))))
+      ∙ count-without (L .disks) (f .set) d l held
+
+-- Two of them in a row have no more disks than both together.
+pub ends-chain-count : (L : Layout) (c : ℕ → Bool) (r s t : ℕ) (f : Ends L c r s) (g : Ends L c s t)
+    → count (L .disks) (ends-chain L c r s t f g .set) ≤ count (L .disks) (f .set) + count (L .disks) (g .set)
+unfolding ends-chain count bit
+ends-chain-count L c r s t f g = few (L .disks)
+  where
+    bits : (a b : Bool) → bit (cond a (not b) b) ≤ bit a + bit b
+    bits true true = omega arith
+    bits true false = omega arith
+    bits false b = omega arith
+
+    few : (n : ℕ) → count n (λ d. cond (f .set d) (not (g .set d)) (g .set d)) ≤ count n (f .set) + count n (g .set)
+    few zero = omega arith
+    few (suc n) = let up = few n in let here = bits (f .set n) (g .set n) in omega arith
 
 -- ---- sums over some stripes
 

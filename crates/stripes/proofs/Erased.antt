@@ -1,16 +1,16 @@
--- The laws of sets of disks: those erased in a map, those below a number, and all but one.
+-- The laws of sets of disks: those erased in a map, those below a number or above one, and all but one.
 -- Assumes nothing.
 use mathlib.Core.Path.{_≡_, refl, _∙_, ap, fun-ext, sym}
-use mathlib.Core.Bool.{Bool, true, false, true≢false}
+use mathlib.Core.Bool.{Bool, true, false, _&&_, true≢false}
 use mathlib.Core.Logic.{⊎-elim}
 use mathlib.Core.List.{List, [], _∷_}
 use Prim.Native.Nat.{ℕ, zero, suc, _+_, _≤_, _<_}
 use native.Mathlib.Omega.{arith}
-use borrow.Author.Tests.{eq-eqb, ne-eqb, eqb-true, eqb-false, lt-ltb, ltb-true}
+use borrow.Author.Tests.{eq-eqb, ne-eqb, eqb-true, eqb-false, lt-ltb, le-ltb, ltb-true}
 use lib.Dec.{eqb, ltb}
 use lib.ListN.{length, getD, set, List·getD-eq-default}
 use lib.Seq.{getD-set-other}
-use Rattle.stripes.specs.Erased.{erasures, without, below}
+use Rattle.stripes.specs.Erased.{erasures, without, below, above}
 use Rattle.stripes.specs.Fold.{count}
 use Rattle.stripes.proofs.Fold.{and-left, and-right, and-both, same-test, by-cases, lt-or-le, count-without}
 use Rattle.stripes.proofs.Peel.{without-at, without-other, without-sub, without-apart}
@@ -90,3 +90,16 @@ below-last d e =
 pub count-less : (n : ℕ) (e : ℕ → Bool) (d : ℕ) → d < n → e d ≡ true → count n (without e d) + 1 ≡ count n e
 unfolding without
 count-less n e d l h = count-without n e d l h
+
+-- ---- the disks above one
+pub above-is : (d : ℕ) (e : ℕ → Bool) (i : ℕ) → d < i → e i ≡ true → above d e i ≡ true
+unfolding above
+above-is d e i l h = and-both (lt-ltb d i l) h
+
+pub is-above : (d : ℕ) (e : ℕ → Bool) (i : ℕ) → above d e i ≡ true → (d < i) × (e i ≡ true)
+unfolding above
+is-above d e i h = (ltb-true d i (and-left (ltb d i) (e i) h), and-right (ltb d i) (e i) h)
+
+pub above-not : (d : ℕ) (e : ℕ → Bool) (i : ℕ) → i ≤ d → above d e i ≡ false
+unfolding above
+above-not d e i l = ap (λ (b : Bool). b && e i) (le-ltb d i l)

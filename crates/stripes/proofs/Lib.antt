@@ -1,5 +1,6 @@
 pub mod Xor
 pub mod Fold
+pub mod Digits
 pub mod Bytes
 pub mod Sums
 pub mod Peel
@@ -10,11 +11,17 @@ pub mod Counts
 pub mod Alone
 pub mod Walk
 pub mod Trace
+pub mod Price
+pub mod Listed
 pub mod Restore
 pub mod Split
 pub mod Clears
 pub mod Joined
 pub mod Ends
+pub mod Round
+pub mod Cost
+pub mod Cheapest
+pub mod AtLowest
 pub mod Undetermined
 pub mod Saved
 pub mod Side

@@ -11,13 +11,13 @@ use borrow.Author.Tests.{eq-eqb, ne-eqb, eqb-true, eqb-false, ltb-true, ltb-fals
 use lib.Dec.{eqb, ltb}
 use lib.ListN.{length, take, drop, getD, length-append, length-map, List·getD-append}
 use lib.Seq.{take-nil, drop-nil}
-use Rattle.stripes.specs.Fold.{every, count, lowest}
+use Rattle.stripes.specs.Fold.{every, count, lowest, total}
 use Rattle.stripes.specs.System.{Layout, Ordered, on}
 use Rattle.stripes.specs.Erased.{without}
 use Rattle.stripes.specs.Repair.{Entry, diskOf, stripeOf, InOrder, allowed, Peels, repairs, after, residual, fatal, allAllowed, clears}
 use Rattle.stripes.specs.Sectors.{sectorAt, sectored, atPosition, sectorEntry, rising, sectorRepairs, ofPosition, fatalPosition, InRisingOrder}
 use Rattle.stripes.proofs.Fold.{same-test, fails-with, by-cases, lt-or-le, below-suc, every-all, every-and, lowest-is, take-append, drop-append, take-map, drop-map}
-use Rattle.stripes.proofs.Degree.{total, total-ext, total-none}
+use Rattle.stripes.proofs.Degree.{total-ext, total-none}
 use Rattle.stripes.proofs.Peel.{Allowed, allowed-is, allowed-of, Stuck, after-append, repairs-peels, residual-stuck, order-free-all, not-fatal, in-order}
 use Rattle.stripes.proofs.Clears.{all-allowed-append, all-allowed-peels, peels-all-allowed, repairs-clear, clears-length}
 use Rattle.stripes.proofs.Split.{repairs-rest}

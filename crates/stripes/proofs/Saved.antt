@@ -14,7 +14,8 @@ use Rattle.stripes.specs.Fold.{gate, bit, count}
 use Rattle.stripes.specs.System.{Layout, TwoStripes, lower, whole, byte, Codeword}
 use Rattle.stripes.specs.Erased.{without, Agree, Belongs, AmbiguousIn}
 use Rattle.stripes.specs.Repair.{Entry, diskOf, Peels, repairs, after, fatal, rebuilt}
-use Rattle.stripes.specs.Cycle.{core, shownCycle}
+use Rattle.stripes.specs.Cycle.{Cycle}
+use Rattle.stripes.specs.Smallest.{disksOf}
 use Rattle.stripes.specs.Joined.{joined}
 use Rattle.stripes.specs.Undetermined.{undetermined, determined, lost, survivorSum, partSum, partsCancel, savedByte, saved}
 use Rattle.stripes.specs.declared.Stretch.{Stretch}
@@ -23,8 +24,8 @@ use Rattle.stripes.proofs.Bytes.{byte-changed, whole-inside, length-cha
 use Rattle.stripes.proofs.Sums.{sumOver-ext}
 use Rattle.stripes.proofs.Peel.{without-sub, without-other, without-apart, after-sub, peel-count, repairs-peels}
 use Rattle.stripes.proofs.Degree.{two-ordered}
-use Rattle.stripes.proofs.Core.{core-some, core-paired, core-sub, paired-sum, ones-differ, differ-in, ambiguous-in}
-use Rattle.stripes.proofs.Trace.{cycle-of}
+use Rattle.stripes.proofs.Core.{paired-sum, ones-differ, differ-in, ambiguous-in}
+use Rattle.stripes.proofs.Trace.{cycle-sub, cycle-paired, disk-of}
 use Rattle.stripes.proofs.Restore.{Bounded, agree-gate, length-rebuilt, rebuilt-outside, rebuilt-left, restore, none-left, restored-is, unique}
 use Rattle.stripes.proofs.Undetermined.{saved-byte, undetermined-iff}
 
@@ -88,16 +89,13 @@ module _ (L : Layout) (two : TwoStripes L) where
         (λ fine. absurd (unique L bounded e fine 1 (differ-in L (whole 1) e d (in-bytes e d l .0 h)))),
   )
 
-  -- The disks of the cycle that is shown are undetermined.
-  pub shown-undetermined : (e : ℕ → Bool) → fatal L e ≡ true → (i : ℕ) → i < length (shownCycle L e)
-      → undetermined L e (diskOf (shownCycle L e) i) ≡ true
-  unfolding shownCycle whole
-  shown-undetermined e lossy i l =
-      let (d, m, h) = core-some L e lossy in
-      let cycle = cycle-of L two (core L e) (core-paired L two e lossy) d m h in
-      in-bytes e (diskOf (shownCycle L e) i) (cycle .disk i l) .1
-      (ones-differ L (whole 1) (whole-inside 1) (omega arith) (core L e) e (paired-sum L (core L e) (core-paired L two e lossy)) (core-sub L e)
-      (diskOf (shownCycle L e) i) (cycle .disk i l) (cycle .erased i l))
+  -- The disks of a cycle of erased disks are undetermined.
+  pub cycle-undetermined : (e : ℕ → Bool) (w : List Entry) → Cycle L e w → (i : ℕ) → i < length w → undetermined L e (diskOf w i) ≡ true
+  unfolding whole
+  cycle-undetermined e w y i l =
+      in-bytes e (diskOf w i) (y .disk i l) .1
+      (ones-differ L (whole 1) (whole-inside 1) (omega arith) (disksOf w) e (paired-sum L (disksOf w) (cycle-paired L e w y))
+      (cycle-sub L e w y) (diskOf w i) (y .disk i l) (disk-of w i l))
 
   -- So where it is not fatal, none is, and every erased disk is determined.
   pub none-lost : (e : ℕ → Bool) → fatal L e ≡ false → lost L e ≡ 0

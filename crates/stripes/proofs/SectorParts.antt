@@ -9,7 +9,7 @@ use native.Mathlib.Omega.{arith}
 use borrow.Author.Tests.{ltb-true, lt-ltb, le-ltb}
 use lib.Dec.{eqb, ltb}
 use lib.ListN.{length}
-use Rattle.stripes.specs.Fold.{gate, every, count}
+use Rattle.stripes.specs.Fold.{gate, every, count, total}
 use Rattle.stripes.specs.System.{Layout, TwoStripes, lower, higher, whole, byte, changed}
 use Rattle.stripes.specs.Erased.{without, Agree, AmbiguousIn}
 use Rattle.stripes.specs.Joined.{joined}
@@ -18,7 +18,7 @@ use Rattle.stripes.specs.Sectors.{sectorAt, sectored, atPosition, stretc
 use Rattle.stripes.proofs.Fold.{by-cases, same-test, xsum-ext, every-ext, count-ext}
 use Rattle.stripes.proofs.Bytes.{whole-inside, length-changed, byte-changed, changed-again, changed-self, changed-ext}
 use Rattle.stripes.proofs.Sums.{sumOver-ext}
-use Rattle.stripes.proofs.Degree.{total, total-ext}
+use Rattle.stripes.proofs.Degree.{total-ext}
 use Rattle.stripes.proofs.Joined.{Joins, joined-self, joined-back, joined-chain, joined-disk, joined-least}
 use Rattle.stripes.proofs.Undetermined.{undetermined-iff}
 use Rattle.stripes.proofs.Saved.{parts-cancel-same, saved-byte-same}

@@ -10,13 +10,13 @@ use borrow.Author.Tests.{eq-eqb, ne-eqb, eqb-true}
 use lib.Arith.{digits-div, digits-mod, digits-lt}
 use lib.Dec.{eqb}
 use lib.ListN.{getD}
-use Rattle.stripes.specs.Fold.{xsum, gate, every, bit, count}
+use Rattle.stripes.specs.Fold.{xsum, gate, every, bit, count, total}
 use Rattle.stripes.specs.System.{Layout, TwoStripes, among, on, lower, higher, firstOf, otherThan, sumOver, whole, byte}
 use Rattle.stripes.specs.Erased.{without}
 use Rattle.stripes.specs.Sectors.{sectorAt, sectored, atPosition, stretchAt}
 use Rattle.stripes.proofs.Fold.{same-test, xsum-ext, xsum-mul, xsum-only, every-at, every-all, count-add}
 use Rattle.stripes.proofs.Bytes.{by-block, block-before}
-use Rattle.stripes.proofs.Degree.{total, total-add, total-zero, count-total, other-first}
+use Rattle.stripes.proofs.Degree.{total-add, total-zero, count-total, other-first}
 use Rattle.stripes.proofs.Joined.{lower-is, higher-is}
 
 -- ---- numbers

@@ -11,7 +11,8 @@ use Rattle.stripes.specs.Fold.{count}
 use Rattle.stripes.specs.System.{Layout, Ordered, TwoStripes, lower, higher, whole, byte, Codeword, Bytes, consistent}
 use Rattle.stripes.specs.Erased.{without, Agree, Belongs, Ambiguous, AmbiguousIn, LostCount}
 use Rattle.stripes.specs.Repair.{Entry, diskOf, Peels, repairs, after, residual, fatal, rebuilt, InOrder}
-use Rattle.stripes.specs.Cycle.{Cycle, shownCycle}
+use Rattle.stripes.specs.Cycle.{Cycle}
+use Rattle.stripes.specs.Smallest.{Smallest, shownCycle}
 use Rattle.stripes.specs.Joined.{joined}
 use Rattle.stripes.specs.Undetermined.{undetermined, determined, lost, partsCancel, savedByte}
 use Rattle.stripes.specs.Wanted.{wantedRepairs, Reached, Wanted}
@@ -22,12 +23,14 @@ use Rattle.stripes.proofs.Bytes.{whole-inside}
 use Rattle.stripes.proofs.Peel.{Stuck, residual-stuck, order-free-all, repairs-count, in-order}
 use Rattle.stripes.proofs.Degree.{two-ordered}
 use Rattle.stripes.proofs.Core.{ambiguous}
-use Rattle.stripes.proofs.Trace.{cycle-fatal, shown}
+use Rattle.stripes.proofs.Trace.{cycle-fatal, core-cycle}
+use Rattle.stripes.proofs.Listed.{smallest-only}
+use Rattle.stripes.proofs.Cheapest.{shown-smallest}
 use Rattle.stripes.proofs.Restore.{judge, restored-is, unique}
 use Rattle.stripes.proofs.Split.{repairs-rest, fatal-rest}
 use Rattle.stripes.proofs.Undetermined.{saved-byte, belongs-iff, damage-shown, any-bytes, undetermined-iff}
 use Rattle.stripes.proofs.Wanted.{unreached-iff, wanted-is, wanted-unique}
-use Rattle.stripes.proofs.Saved.{fatal-lost as Saved·fatal-lost, reached-determined as Saved·reached-determined, undetermined-after, lost-fewer, lost-tells, shown-undetermined}
+use Rattle.stripes.proofs.Saved.{fatal-lost as Saved·fatal-lost, reached-determined as Saved·reached-determined, undetermined-after, lost-fewer, lost-tells, cycle-undetermined}
 use Rattle.stripes.proofs.Sectors.{two-sectors, one-sector}
 use Rattle.stripes.proofs.Positions.{fatal-some, order-rest, one-order}
 use Rattle.stripes.proofs.SectorBytes.{codeword-sectors}
@@ -76,7 +79,7 @@ module _ (L : Layout) (e : ℕ → Bool) where
 module _ (L : Layout) (two : TwoStripes L) (e : ℕ → Bool) where
   -- A loss is fatal exactly if a cycle of erased disks exists,
   pub fatal-cycle : (fatal L e ≡ true) ↔ ((w : List Entry) × Cycle L e w)
-  fatal-cycle = (λ lossy. (_, shown L two e lossy), λ h. cycle-fatal L e (h .0) (h .1))
+  fatal-cycle = (λ lossy. (_, core-cycle L two e lossy), λ h. cycle-fatal L e (h .0) (h .1))
 
   -- and exactly if two different codewords agree on the survivors.
   pub fatal-ambiguous : (B : ℕ) → 0 < B → (fatal L e ≡ true) ↔ Ambiguous L (whole B) e
@@ -85,6 +88,13 @@ module _ (L : Layout) (two : TwoStripes L) (e : ℕ → Bool) where
     λ lossy. ambiguous L two (whole B) e lossy some (whole-inside B),
     λ both. by-cases (λ (f : Bool). f ≡ true) (fatal L e) (λ lossy. refl) (λ fine. absurd (all-unique L e (two-ordered L two) fine B both)),
   )
+
+  -- The cycle that is shown of a fatal loss is the smallest, and the only one that is.
+  pub shown-is : fatal L e ≡ true → Smallest L e (shownCycle L e)
+  shown-is = shown-smallest L two e
+
+  pub shown-only : fatal L e ≡ true → (w : List Entry) → Smallest L e w → w ≡ shownCycle L e
+  shown-only lossy w small = smallest-only L two e w (shownCycle L e) small (shown-is lossy)
 
   -- A loss is fatal exactly if some disk is undetermined.
   pub fatal-lost : (fatal L e ≡ true) ↔ (0 < lost L e)
@@ -98,9 +108,9 @@ module _ (L : Layout) (two : TwoStripes L) (e : ℕ → Bool) where
   pub never-more : (d : ℕ) → d < L .disks → lost L (without e d) ≤ lost L e
   never-more = lost-fewer L two e
 
-  -- The disks of the cycle that is shown are undetermined.
-  pub cycle-lost : fatal L e ≡ true → (i : ℕ) → i < length (shownCycle L e) → undetermined L e (diskOf (shownCycle L e) i) ≡ true
-  cycle-lost = shown-undetermined L two e
+  -- The disks of every cycle of erased disks are undetermined.
+  pub cycle-lost : (w : List Entry) → Cycle L e w → (i : ℕ) → i < length w → undetermined L e (diskOf w i) ≡ true
+  cycle-lost = cycle-undetermined L two e
 
   module _ (x : Stretch) where
     -- A disk is undetermined exactly if two codewords agree on the survivors and differ in it.

@@ -1,24 +1,25 @@
 -- The cycle that is shown of a set of disks with just two on each stripe touched.
 -- Assumes nothing.
 use mathlib.Core.Path.{_≡_, refl, sym, _∙_, ap, ap₂, subst}
-use mathlib.Core.Bool.{Bool, true, cond}
+use mathlib.Core.Bool.{Bool, true, false, cond, _&&_, _||_, and-true, or-true, false≢true}
 use mathlib.Core.Logic.{_⊎_, inl, inr, ⊎-elim}
 use mathlib.Core.List.{List, _∷_, []}
-use Prim.Native.Nat.{ℕ, zero, suc, _+_, _≤_, _<_, zero-le}
-use native.Mathlib.Nat.{le-refl, le-of-suc-le, eq-or-lt-of-le, ne-of-lt}
+use Prim.Native.Nat.{ℕ, zero, suc, _+_, _≤_, _<_, zero-le, suc-le-suc}
+use native.Mathlib.Nat.{le-refl, le-of-suc-le, le-of-suc-le-suc, eq-or-lt-of-le, ne-of-lt, not-suc-le-zero, zero-lt-suc}
 use native.Mathlib.Omega.{arith}
-use borrow.Author.Tests.{eqb-true, eqb-false, eq-eqb, ne-eqb, ltb-true, lt-ltb}
-use lib.Dec.{eqb, ltb}
+use borrow.Author.Tests.{eqb-true, eqb-false, eq-eqb, ne-eqb}
+use lib.Dec.{eqb}
 use lib.ListN.{length, getD}
 use Rattle.stripes.specs.Fold.{count, lowest}
 use Rattle.stripes.specs.System.{Layout, TwoStripes, on, firstOf}
 use Rattle.stripes.specs.Repair.{Entry, fatal, diskOf, stripeOf}
-use Rattle.stripes.specs.Cycle.{following, Cycle, Paired, trace, lowestOf, cycleOf, core, shownCycle}
-use Rattle.stripes.proofs.Fold.{count-ext, count-some, count-found, Lowest, lowest-is}
+use Rattle.stripes.specs.Cycle.{following, Cycle, Paired, trace, lowestOf, cycleOf}
+use Rattle.stripes.specs.Smallest.{disksOf}
+use Rattle.stripes.proofs.Fold.{and-left, and-right, and-both, count-ext, Lowest, lowest-is}
 use Rattle.stripes.proofs.Peel.{Within, Stuck, other-stuck, fatal-of-stuck}
 use Rattle.stripes.proofs.Degree.{count-other, on-low, on-which}
-use Rattle.stripes.proofs.Core.{core-sub, core-some, core-paired}
-use Rattle.stripes.proofs.Counts.{count-pair}
+use Rattle.stripes.proofs.Core.{core, core-sub, core-some, core-paired}
+use Rattle.stripes.proofs.Counts.{count-injects, count-all, count-pair}
 use Rattle.stripes.proofs.Walk.{lowest-le, lowest-holds, next, Walk, walkFrom, walk-is, Same, same-number, disks-differ, walk-bound, comes-back}
 
 -- ---- the list of a walk
@@ -57,18 +58,18 @@ pub following-below : (w : List Entry) (i : ℕ) → i < length w → following 
 following-below w i l = ⊎-elim (λ p. omega (arith, p .1)) (λ p. omega (arith, p .0, p .1)) (following-is w i l)
 
 -- The list of a walk up to entry m.
-walked : (ℕ → Entry) → ℕ → List Entry
+pub walked : (ℕ → Entry) → ℕ → List Entry
 walked at m = table at 0 (suc m)
 
 module _ (at : ℕ → Entry) (m : ℕ) where
-  length-walked : length (walked at m) ≡ suc m
+  pub length-walked : length (walked at m) ≡ suc m
   unfolding walked
   length-walked = length-table at 0 (suc m)
 
   up-to : (i : ℕ) → i < length (walked at m) → i ≤ m
   up-to i l = let n = length-walked in omega arith
 
-  entry-walked : (i : ℕ) → i ≤ m → getD (walked at m) i (record { disk = 0; stripe = 0 }) ≡ at i
+  pub entry-walked : (i : ℕ) → i ≤ m → getD (walked at m) i (record { disk = 0; stripe = 0 }) ≡ at i
   unfolding walked
   entry-walked i l = getD-table at (record { disk = 0; stripe = 0 }) 0 (suc m) i (omega arith) ∙ ap at (omega arith)
 
@@ -201,10 +202,10 @@ trace-is L c r first m before last (suc n) i (suc k) e l =
     ∙ ap (λ (w : List Entry). walkFrom L c r i ∷ w) (trace-is L c r first m before last n (suc i) k (omega arith) (omega arith))
 
 -- The walk from the lowest disk of c along its lower stripe, and the number of the entry from which it first comes back.
-walkOf : Layout → (ℕ → Bool) → ℕ → Entry
+pub walkOf : Layout → (ℕ → Bool) → ℕ → Entry
 walkOf L c = walkFrom L c (record { disk = lowestOf L c; stripe = firstOf (L .through (lowestOf L c)) })
 
-lastOf : Layout → (ℕ → Bool) → ℕ
+pub lastOf : Layout → (ℕ → Bool) → ℕ
 lastOf L c = lowest (L .stripeBound) (λ i. eqb (walkOf L c (suc i) .disk) (walkOf L c 0 .disk))
 
 module _ (L : Layout) (two : TwoStripes L) (c : ℕ → Bool) (paired : Paired L c) (d : ℕ) (l : d < L .disks) (h : c d ≡ true) where
@@ -216,7 +217,7 @@ module _ (L : Layout) (two : TwoStripes L) (c : ℕ → Bool) (paired : Paired L
   unfolding firstOf
   first-stripe = ap firstOf (two .two (lowestOf L c) (first-disk .0))
 
-  walk-of : Walk L c (walkOf L c)
+  pub walk-of : Walk L c (walkOf L c)
   unfolding walkOf
   walk-of =
       walk-is L two c paired _
@@ -226,11 +227,11 @@ module _ (L : Layout) (two : TwoStripes L) (c : ℕ → Bool) (paired : Paired L
         lies = ap (on L (lowestOf L c)) first-stripe ∙ on-low L two (lowestOf L c) (first-disk .0);
       })
 
-  least : (i : ℕ) → i < L .disks → c i ≡ true → walkOf L c 0 .disk ≤ i
+  pub least : (i : ℕ) → i < L .disks → c i ≡ true → walkOf L c 0 .disk ≤ i
   unfolding walkOf walkFrom lowestOf
   least i k e = lowest-le (L .disks) c i e
 
-  lower : (s : ℕ) → on L (walkOf L c 0 .disk) s ≡ true → walkOf L c 0 .stripe ≤ s
+  pub lower : (s : ℕ) → on L (walkOf L c 0 .disk) s ≡ true → walkOf L c 0 .stripe ≤ s
   unfolding walkOf walkFrom
   lower s k =
       let first = first-stripe in
@@ -241,17 +242,17 @@ module _ (L : Layout) (two : TwoStripes L) (c : ℕ → Bool) (paired : Paired L
   unfolding lastOf
   last-is = lowest-is (L .stripeBound) _
 
-  fresh-of : (i : ℕ) → 0 < i → i ≤ lastOf L c → walkOf L c i .disk ≡ walkOf L c 0 .disk → ⊥
+  pub fresh-of : (i : ℕ) → 0 < i → i ≤ lastOf L c → walkOf L c i .disk ≡ walkOf L c 0 .disk → ⊥
   fresh-of zero p k = absurd (omega arith)
   fresh-of (suc i) p k = eqb-false (walkOf L c (suc i) .disk) (walkOf L c 0 .disk) (last-is .none i k)
 
   last-below : lastOf L c < L .stripeBound
   last-below = walk-bound L c (walkOf L c) walk-of (lastOf L c) fresh-of two
 
-  returns : walkOf L c (suc (lastOf L c)) .disk ≡ walkOf L c 0 .disk
+  pub returns : walkOf L c (suc (lastOf L c)) .disk ≡ walkOf L c 0 .disk
   returns = eqb-true (walkOf L c (suc (lastOf L c)) .disk) (walkOf L c 0 .disk) (last-is .found last-below)
 
-  cycle-is : cycleOf L c ≡ walked (walkOf L c) (lastOf L c)
+  pub cycle-is : cycleOf L c ≡ walked (walkOf L c) (lastOf L c)
   unfolding cycleOf walked walkOf walkFrom
   cycle-is =
       trace-is L c _ (lowestOf L c) (lastOf L c) (λ i k. fresh-of (suc i) (omega arith) (omega arith)) returns
@@ -282,19 +283,61 @@ cycle-mono L c e w sub y =
       lowerFirst = y .lowerFirst;
     }
 
--- The disks of a list.
-disksOf : List Entry → ℕ → Bool
-disksOf w d = ltb 0 (count (length w) (λ i. eqb (diskOf w i) d))
+-- The disks of a list are those of its entries.
+pub disk-of : (w : List Entry) (i : ℕ) → i < length w → disksOf w (diskOf w i) ≡ true
+unfolding disksOf diskOf
+disk-of [] i l = absurd (not-suc-le-zero l)
+disk-of (r ∷ rs) zero l = ap (λ (b : Bool). b || disksOf rs (r .disk)) (eq-eqb (r .disk) (r .disk) refl)
+disk-of (r ∷ rs) (suc i) l =
+    ap (λ (b : Bool). eqb (r .disk) (diskOf rs i) || b) (disk-of rs i (le-of-suc-le-suc l)) ∙ or-true (eqb (r .disk) (diskOf rs i))
 
-disk-of : (w : List Entry) (i : ℕ) → i < length w → disksOf w (diskOf w i) ≡ true
-unfolding disksOf
-disk-of w i l = lt-ltb 0 _ (count-some (length w) _ i l (eq-eqb (diskOf w i) (diskOf w i) refl))
+pub of-disk : (w : List Entry) (d : ℕ) → disksOf w d ≡ true → (i : ℕ) × (i < length w) × (diskOf w i ≡ d)
+unfolding disksOf diskOf
+of-disk [] d h = absurd (false≢true h)
+of-disk (r ∷ rs) d h = go (eqb (r .disk) d) refl (of-disk rs d)
+  where
+    go : (b : Bool) → eqb (r .disk) d ≡ b → (disksOf rs d ≡ true → (i : ℕ) × (i < length rs) × (diskOf rs i ≡ d))
+        → (i : ℕ) × (i < suc (length rs)) × (diskOf (r ∷ rs) i ≡ d)
+    go true q rest = (0, zero-lt-suc (length rs), eqb-true (r .disk) d q)
+    go false q rest =
+        let (i, l, e) = rest (ap (λ (b : Bool). b || disksOf rs d) (sym q) ∙ h) in
+        (suc i, suc-le-suc l, e)
 
-of-disk : (w : List Entry) (d : ℕ) → disksOf w d ≡ true → (i : ℕ) × (i < length w) × (diskOf w i ≡ d)
-unfolding disksOf
-of-disk w d h =
-    let (i, l, q) = count-found (length w) (λ i. eqb (diskOf w i) d) (ltb-true 0 _ h) in
-    (i, l, eqb-true (diskOf w i) d q)
+-- Where they are different disks, each counts once.
+module _ (L : Layout) (e : ℕ → Bool) (w : List Entry) (y : Cycle L e w) where
+  pub cycle-sub : (d : ℕ) → disksOf w d ≡ true → e d ≡ true
+  cycle-sub d h = let (i, b, q) = of-disk w d h in ap e (sym q) ∙ y .erased i b
+
+  pub cycle-count : (u : ℕ → Bool) → count (L .disks) (λ d. disksOf w d && u d) ≡ count (length w) (λ i. u (diskOf w i))
+  cycle-count u =
+      let most : count (L .disks) (λ d. disksOf w d && u d) ≤ count (length w) (λ i. u (diskOf w i)) =
+      count-injects (L .disks) (length w) (λ d. disksOf w d && u d) (λ i. u (diskOf w i)) place
+      (λ d l h. let (k, q) = placed d (and-left (disksOf w d) (u d) h) in (k, ap u q ∙ and-right (disksOf w d) (u d) h))
+      (λ d i l k h j q.
+      sym (placed d (and-left (disksOf w d) (u d) h) .1) ∙ ap (diskOf w) q ∙ placed i (and-left (disksOf w i) (u i) j) .1) in
+      let few : count (length w) (λ i. u (diskOf w i)) ≤ count (L .disks) (λ d. disksOf w d && u d) =
+      count-injects (length w) (L .disks) (λ i. u (diskOf w i)) (λ d. disksOf w d && u d) (diskOf w)
+      (λ i l h. (y .disk i l, and-both (disk-of w i l) h)) (λ i j l k h q. y .different i j l k) in
+      omega arith
+    where
+      place : ℕ → ℕ
+      place d = lowest (length w) (λ i. eqb (diskOf w i) d)
+
+      placed : (d : ℕ) → disksOf w d ≡ true → (place d < length w) × (diskOf w (place d) ≡ d)
+      placed d h =
+          let (i, b, q) = of-disk w d h in
+          let (k, held) = lowest-holds (length w) (λ i. eqb (diskOf w i) d) i b (eq-eqb (diskOf w i) d q) in
+          (k, eqb-true (diskOf w (place d)) d held)
+
+  -- So a cycle has as many disks as entries, and each stripe that they touch holds two of them.
+  pub cycle-length : count (L .disks) (disksOf w) ≡ length w
+  cycle-length =
+      count-ext (L .disks) (λ d l. sym (and-true (disksOf w d))) ∙ cycle-count (λ d. true) ∙ count-all (length w)
+
+  pub cycle-paired : Paired L (disksOf w)
+  cycle-paired d s l h k =
+      let (i, b, q) = of-disk w d h in
+      cycle-count (λ i. on L i s) ∙ y .two i b s (ap (λ (d : ℕ). on L d s) q ∙ k)
 
 -- No repair is allowed among them, so a cycle of erased disks is a fatal loss.
 module _ (L : Layout) (e : ℕ → Bool) (w : List Entry) (y : Cycle L e w) where
@@ -308,13 +351,11 @@ module _ (L : Layout) (e : ℕ → Bool) (w : List Entry) (y : Cycle L e w) wher
 
   pub cycle-fatal : fatal L e ≡ true
   cycle-fatal =
-      fatal-of-stuck L (disksOf w) e (λ d l h. let (i, b, q) = of-disk w d h in ap e (sym q) ∙ y .erased i b) cycle-stuck
+      fatal-of-stuck L (disksOf w) e (λ d l. cycle-sub L e w y d) cycle-stuck
       (diskOf w 0) (y .disk 0 (y .some)) (disk-of w 0 (y .some))
 
--- The cycle that is shown of a fatal loss.
-module _ (L : Layout) (two : TwoStripes L) (e : ℕ → Bool) (lossy : fatal L e ≡ true) where
-  pub shown : Cycle L e (shownCycle L e)
-  unfolding shownCycle
-  shown =
-      let (d, l, h) = core-some L e lossy in
-      cycle-mono L (core L e) e (shownCycle L e) (λ d l. core-sub L e d) (cycle-of L two (core L e) (core-paired L two e lossy) d l h)
+-- The core of a fatal loss forms a cycle.
+pub core-cycle : (L : Layout) → TwoStripes L → (e : ℕ → Bool) → fatal L e ≡ true → Cycle L e (cycleOf L (core L e))
+core-cycle L two e lossy =
+    let (d, l, h) = core-some L e lossy in
+    cycle-mono L (core L e) e (cycleOf L (core L e)) (λ d l. core-sub L e d) (cycle-of L two (core L e) (core-paired L two e lossy) d l h)

@@ -1,4 +1,4 @@
--- Cycles of erased disks (paper 01: loops): what they are, and the one that a fatal loss is shown by.
+-- Cycles of erased disks (paper 01: loops): what they are, and how the cycle that a set of disks forms is listed.
 -- Assumes nothing.
 use mathlib.Core.Path.{_≡_}
 use mathlib.Core.Bool.{Bool, true, cond, not, _&&_}
@@ -8,8 +8,7 @@ use lib.Dec.{eqb}
 use lib.ListN.{length}
 use Rattle.stripes.specs.Fold.{count, lowest}
 use Rattle.stripes.specs.System.{Layout, on, firstOf, otherThan}
-use Rattle.stripes.specs.Repair.{Entry, residual, fatal, diskOf, stripeOf}
-use Rattle.stripes.specs.Erased.{below}
+use Rattle.stripes.specs.Repair.{Entry, diskOf, stripeOf}
 
 -- ---- The rule
 
@@ -34,16 +33,7 @@ pub record Cycle (L : Layout) (e : ℕ → Bool) (w : List Entry) : Type 0 where
   pub lowestFirst : (i : ℕ) → i < length w → diskOf w 0 ≤ diskOf w i
   pub lowerFirst : (s : ℕ) → on L (diskOf w 0) s ≡ true → stripeOf w 0 ≤ s
 
--- ---- The cycle that is shown. Paper 01 leaves the choice free.
-
--- Losing the erased disks one by one, lowest first, this is the first disk whose loss is fatal.
-unfoldable pub closing : Layout → (ℕ → Bool) → ℕ
-closing L e = lowest (L .disks) (λ d. fatal L (below (suc d) e))
-
--- What plan's order then leaves. Where every disk lies on two stripes, each stripe touched by these disks holds exactly two of
--- them, so they form a cycle.
-unfoldable pub core : Layout → (ℕ → Bool) → ℕ → Bool
-core L e = residual L (below (suc (closing L e)) e)
+-- ---- The cycle that a set of disks forms
 
 -- Each stripe touched by a disk of c holds exactly two of them.
 abbrev pub Paired : Layout → (ℕ → Bool) → Type 0
@@ -67,6 +57,3 @@ lowestOf L c = lowest (L .disks) c
 -- The cycle from its lowest disk on, along the lower stripe first.
 unfoldable pub cycleOf : Layout → (ℕ → Bool) → List Entry
 cycleOf L c = trace L c (lowestOf L c) (L .stripeBound) (record { disk = lowestOf L c; stripe = firstOf (L .through (lowestOf L c)) })
-
-unfoldable pub shownCycle : Layout → (ℕ → Bool) → List Entry
-shownCycle L e = cycleOf L (core L e)

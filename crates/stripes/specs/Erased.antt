@@ -19,9 +19,12 @@ erasures m d = eqb (getD m d 0) 1
 unfoldable pub without : (ℕ → Bool) → ℕ → ℕ → Bool
 without e d i = e i && not (eqb i d)
 
--- Those below number k.
+-- Those below number k, and those above disk d.
 unfoldable pub below : ℕ → (ℕ → Bool) → ℕ → Bool
 below k e d = ltb d k && e d
+
+unfoldable pub above : ℕ → (ℕ → Bool) → ℕ → Bool
+above d e i = ltb d i && e i
 
 -- Two arrays have the same bytes on every disk that is not erased: on the survivors.
 abbrev pub Agree : Layout → Stretch → (ℕ → Bool) → (a b : List ℕ) → Type 0

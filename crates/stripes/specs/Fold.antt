@@ -2,7 +2,7 @@
 -- Assumes nothing.
 use mathlib.Core.Bool.{Bool, true, false, cond, _&&_}
 use mathlib.Core.List.{List, _∷_, []}
-use Prim.Native.Nat.{ℕ, zero, suc, _+_}
+use Prim.Native.Nat.{ℕ, zero, suc, _+_, min}
 use lib.Bits.{bitXor}
 
 -- The exclusive or, bit by bit.
@@ -34,6 +34,15 @@ bit false = 0
 unfoldable pub count : ℕ → (ℕ → Bool) → ℕ
 count zero t = 0
 count (suc n) t = count n t + bit (t n)
+
+-- The sum f 0 + f 1 + .. + f (n - 1), and the least of these numbers and m.
+unfoldable pub total : ℕ → (ℕ → ℕ) → ℕ
+total zero f = 0
+total (suc n) f = total n f + f n
+
+unfoldable pub least : ℕ → (ℕ → ℕ) → (m : ℕ) → ℕ
+least zero f m = m
+least (suc n) f m = min (least n f m) (f n)
 
 -- The lowest number below n of which the test holds, or n where there is none.
 unfoldable pub lowest : ℕ → (ℕ → Bool) → ℕ

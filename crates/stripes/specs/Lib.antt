@@ -3,6 +3,7 @@ pub mod System
 pub mod Erased
 pub mod Repair
 pub mod Cycle
+pub mod Smallest
 pub mod Joined
 pub mod Undetermined
 pub mod Wanted

@@ -11,7 +11,7 @@ use borrow.Author.Count.{below-more}
 use lib.Dec.{eqb}
 use lib.ListN.{length, getD, set}
 use lib.Seq.{getD-set-same, getD-set-other}
-use Rattle.stripes.specs.Fold.{_⊕_, xsum, gate, every, count, bit}
+use Rattle.stripes.specs.Fold.{_⊕_, xsum, gate, every, count, bit, total}
 use Rattle.stripes.specs.System.{Layout, TwoStripes, otherThan, byte, sumOver, changed}
 use Rattle.stripes.specs.Joined.{crosses}
 use Rattle.stripes.specs.declared.Stretch.{Stretch}
@@ -20,7 +20,7 @@ use Rattle.model.specs.declared.Size.{Size}
 use Rattle.stripes.proofs.Xor.{⊕-assoc, ⊕-zero}
 use Rattle.stripes.proofs.Fold.{and-both, xsum-ext, xsum-zero, every-ext, count-le, gate-zero}
 use Rattle.stripes.proofs.Counts.{count-injects}
-use Rattle.stripes.proofs.Degree.{total, total-upto, count-upto, on-bound}
+use Rattle.stripes.proofs.Degree.{total-upto, count-upto, on-bound}
 use Rattle.stripes.proofs.Ends.{crosses-from, cut-sum, cut-count}
 use Rattle.stripes.proofs.Walk.{besides}
 use Rattle.model.proofs.Grid.{layout-disks, disk-below}

@@ -8,12 +8,12 @@ use Prim.Native.Nat.{ℕ, _+_, _-_, _≤_, _<_}
 use native.Mathlib.Nat.{le-refl, add-sub-of-le}
 use native.Mathlib.Omega.{arith}
 use borrow.Author.Count.{below-more}
-use borrow.Author.Tests.{eqb-true, le-leb, leb-true, lt-leb, lt-ltb, le-ltb}
-use lib.Dec.{eqb, leb, ltb}
+use borrow.Author.Tests.{eqb-true, le-leb, leb-true, lt-leb}
+use lib.Dec.{eqb, leb}
 use lib.ListN.{length, getD, set, List·getD-eq-default}
 use lib.Seq.{getD-set-other, getD-set-same}
 use Rattle.stripes.specs.Fold.{every}
-use Rattle.stripes.specs.Erased.{erasures, below}
+use Rattle.stripes.specs.Erased.{erasures}
 use Rattle.stripes.proofs.Fold.{and-left, and-right, and-both, lt-or-le, every-at, Lowest, lowest-is, lowest-unique}
 use Rattle.stripes.proofs.Erased.{is-present}
 use Rattle.tally.specs.Tally.{nextErased, Passed}
@@ -94,25 +94,24 @@ copied-next f work i l same =
     below-more (λ j. getD (set work i (f i)) j 0 ≡ f j) i
     (λ j h. getD-set-other work i j (f i) 0 (λ q. omega arith) ∙ same j h) (getD-set-same work i (f i) 0 l)
 
--- Where they are those of a map, with zeros behind them, they are the erased disks below k.
-pub copied-below : (map work : List ℕ) (k : ℕ) → k ≤ length work → Copied (λ j. getD map j 0) work k
-    → erasures (stored work k (length work - k) (λ i. 0)) ≡ below k (erasures map)
-unfolding erasures below
-copied-below map work k fits same =
-    fun-ext (λ d. ⊎-elim (copied d) (zeros d) (lt-or-le d k))
+-- Where they are those of a map, with zeros behind them, its disks are erased.
+pub copied-all : (map work : List ℕ) → length map ≤ length work → Copied (λ j. getD map j 0) work (length map)
+    → erasures (stored work (length map) (length work - length map) (λ i. 0)) ≡ erasures map
+unfolding erasures
+copied-all map work fits same = fun-ext (λ d. ap (λ (x : ℕ). eqb x 1) (⊎-elim (copied d) (zeros d) (lt-or-le d (length map))))
   where
+    n : ℕ
+    n = length map
+
     stretch : List ℕ
-    stretch = stored work k (length work - k) (λ i. 0)
+    stretch = stored work n (length work - n) (λ i. 0)
 
-    copied : (d : ℕ) → d < k → eqb (getD stretch d 0) 1 ≡ (ltb d k && eqb (getD map d 0) 1)
-    copied d l =
-        ap (λ (x : ℕ). eqb x 1) (getD-before work k (length work - k) (λ i. 0) d l ∙ same d l)
-        ∙ ap (λ (b : Bool). b && eqb (getD map d 0) 1) (sym (lt-ltb d k l))
+    copied : (d : ℕ) → d < n → getD stretch d 0 ≡ getD map d 0
+    copied d l = getD-before work n (length work - n) (λ i. 0) d l ∙ same d l
 
-    zeros : (d : ℕ) → k ≤ d → eqb (getD stretch d 0) 1 ≡ (ltb d k && eqb (getD map d 0) 1)
+    zeros : (d : ℕ) → n ≤ d → getD stretch d 0 ≡ getD map d 0
     zeros d l =
-        ap (λ (x : ℕ). eqb x 1)
-        (⊎-elim (λ h. getD-stored work k (length work - k) (λ i. 0) d h l (omega arith))
-        (λ h. List·getD-eq-default stretch 0 {n = d} (let same = length-stored work k (length work - k) (λ i. 0) in omega arith))
-        (lt-or-le d (length work)))
-        ∙ ap (λ (b : Bool). b && eqb (getD map d 0) 1) (sym (le-ltb d k l))
+        ⊎-elim (λ h. getD-stored work n (length work - n) (λ i. 0) d h l (omega arith))
+        (λ h. List·getD-eq-default stretch 0 {n = d} (let same = length-stored work n (length work - n) (λ i. 0) in omega arith))
+        (lt-or-le d (length work))
+        ∙ sym (List·getD-eq-default map 0 {n = d} l)

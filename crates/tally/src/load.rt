@@ -4,7 +4,7 @@ ghost use mathlib.Core.Bool.{false};
 ghost use Prim.Native.Nat.{ℕ, _*_, _≤_};
 ghost use lib.ListN.{length};
 ghost use Rattle.stripes.specs.Fold.{count};
-ghost use Rattle.stripes.specs.Erased.{erasures, below};
+ghost use Rattle.stripes.specs.Erased.{erasures};
 ghost use Rattle.stripes.specs.Sectors.{atPosition};
 ghost use Rattle.model.specs.Grid.{disks, layoutOf};
 ghost use Rattle.layout.specs.Stripe.{Numbered, stripeLimit};
@@ -12,18 +12,17 @@ ghost use Rattle.tally.specs.Tally.{Tallied};
 ghost use Rattle.tally.specs.Column.{columnOf, Located};
 use model::Size;
 
-// `work` becomes the first k bytes of a map, with zeros behind them.
-pub fn copy(map: &[u8], k: usize, work: &mut [u8])
-    requires { ⌜ k ≤ length (now map) ⌝ }
+// `work` becomes a map, with zeros behind it.
+pub fn copy(map: &[u8], work: &mut [u8])
     requires { ⌜ length (now map) ≤ length (now work) ⌝ }
-    ensures { λ r. ⌜ erasures (now (work .exit)) ≡ below k (erasures (now (map .entry))) ⌝ }
+    ensures { λ r. ⌜ erasures (now (work .exit)) ≡ erasures (now (map .entry)) ⌝ }
 {
     let mut i = 0;
-    while i < k {
+    while i < map.len() {
         work[i] = map[i];
         i += 1;
     }
-    zeros::wipe(work, k, work.len() - k);
+    zeros::wipe(work, i, work.len() - i);
 }
 
 // `work` becomes the bytes of one position of a map that has `sectors` bytes for each disk. The size says only of what the contract speaks.
@@ -44,7 +43,7 @@ pub fn load_position(size: Size, map: &[u8], sectors: usize, position: usize, wo
     ensures { λ r. ⌜ erasures (now (work .exit)) ≡ atPosition sectors position (erasures (now (map .entry))) ⌝ }
 {
     if sectors == 1 {
-        copy(map, map.len(), work);
+        copy(map, work);
     } else {
         gather(size, map, sectors, position, work);
     }

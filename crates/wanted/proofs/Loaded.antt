@@ -6,18 +6,18 @@ use mathlib.Core.List.{List}
 use Prim.Native.Nat.{ℕ, _≤_}
 use lib.ListN.{length, set}
 use Rattle.stripes.specs.System.{Layout}
-use Rattle.stripes.specs.Erased.{erasures, below, without}
+use Rattle.stripes.specs.Erased.{erasures, without}
 use Rattle.stripes.proofs.Fold.{fails-with}
-use Rattle.stripes.proofs.Erased.{past-end, below-all, erasures-clear}
+use Rattle.stripes.proofs.Erased.{past-end, erasures-clear}
 use Rattle.stripes.proofs.Peel.{without-sub}
 use Rattle.parts.specs.Parted.{Parted}
 use Rattle.wanted.specs.Side.{inPart, sideIn}
 
 -- A map is copied, and then one disk is taken out.
-pub others-loaded : (map work : List ℕ) (d : ℕ) → erasures work ≡ below (length map) (erasures map)
+pub others-loaded : (map work : List ℕ) (d : ℕ) → erasures work ≡ erasures map
     → erasures (set work d 0) ≡ without (erasures map) d
 others-loaded map work d e =
-    erasures-clear work d ∙ ap (λ (f : ℕ → Bool). without f d) (e ∙ below-all (length map) (erasures map) (past-end map))
+    erasures-clear work d ∙ ap (λ (f : ℕ → Bool). without f d) e
 
 -- Nothing is erased past the end of the map.
 pub others-outside : (map others : List ℕ) (d : ℕ) → erasures others ≡ without (erasures map) d → (i : ℕ) → length map ≤ i

@@ -77,11 +77,11 @@ pub record Sided (L : Layout) (map others parts : List ℕ) (name k : ℕ) (work
 
 -- First it is a copy of the map.
 pub sided-none : (L : Layout) (map others parts : List ℕ) (name : ℕ) {work : List ℕ}
-    → erasures work ≡ below (length map) (erasures map) → Sided L map others parts name 0 work
+    → erasures work ≡ erasures map → Sided L map others parts name 0 work
 sided-none L map others parts name copied =
     record {
       sided = λ i.
-          ap (λ (e : ℕ → Bool). e i) (copied ∙ below-all (length map) (erasures map) (past-end map))
+          ap (λ (e : ℕ → Bool). e i) copied
           ∙ sym (ap (λ (b : Bool). cond b (inPart L parts name i) (erasures map i)) (below-not 0 (erasures others) i (omega arith)));
     }
 

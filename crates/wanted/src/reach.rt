@@ -36,7 +36,7 @@ fn load_others(
         Others (layoutOf size base) (now (map .entry)) disk (now (others .exit)) (now (stripes .exit)) (now (parts .exit))
         ⌝ }
 {
-    tally::load::copy(map, map.len(), others);
+    tally::load::copy(map, others);
     others[disk] = 0;
     tally::load::tally(size, base, others, stripes, counts);
     parts::join::join_all(size, base, others, stripes, parts);

@@ -82,7 +82,7 @@ pub fn load(
         ≡ sideIn (layoutOf size base) (now (map .entry)) (now (others .entry)) (now (parts .entry)) name i)
         ⌝ }
 {
-    tally::load::copy(map, map.len(), work);
+    tally::load::copy(map, work);
     let mut from = 0;
     loop {
         let d = tally::scan::next_erased(others, from);

@@ -5,15 +5,16 @@ use mathlib.Core.Path.{_≡_, refl}
 use mathlib.Core.List.{List, [], _∷_, _++_, map}
 use Prim.Native.Nat.{ℕ}
 use lib.ListN.{replicate}
-use Rattle.stripes.specs.Fold.{xsum, gate, every, bit, count, lowest, tabulate, _⊕_}
+use Rattle.stripes.specs.Fold.{xsum, gate, every, bit, count, least, lowest, tabulate, _⊕_}
 use Rattle.stripes.specs.System.{among, on, whole, byte, sumOver, stripeSum, sumsToZero, changed, consistent, firstOf, otherThan}
-use Rattle.stripes.specs.Erased.{erasures, without, below}
+use Rattle.stripes.specs.Erased.{erasures, without}
 use Rattle.stripes.specs.Repair.{mapAfter, alone, allowed, firstAllowed, someAllowed, nextDisk, repairOf, peel, repairs, after, residual, fatal, sumOfOthers, repaired, rebuilt, zeroed, allAllowed, clears, residualCount}
 use Rattle.stripes.specs.Joined.{united, partBy, part, joined}
 use Rattle.stripes.specs.Undetermined.{undetermined, determined, lost, survivorSum, partSum, partsCancel, savedByte, saved}
 use Rattle.stripes.specs.Wanted.{onSide, sideRepairs, serves, takesLower, wantedStripe, wantedRepairs}
 use Rattle.stripes.specs.Sectors.{sectorAt, sectored, atPosition, sectorEntry, rising, sectorRepairs, ofPosition, fatalPosition}
-use Rattle.stripes.specs.Cycle.{closing, core, partner, trace, lowestOf, cycleOf, shownCycle}
+use Rattle.stripes.specs.Cycle.{partner, trace, lowestOf, cycleOf}
+use Rattle.stripes.specs.Smallest.{price, tooMuch, wayCosts, throughCost, onCheapest, onSmallest, shownCycle}
 use Rattle.model.specs.Grid.{grid, layoutOf, rectangle, rows, columns, across, disks, diskAt, isData, arrayBytes, arrayOf, sideFits, sizeFits, blockFits, sectorFits, sectorsFit, mapBytes, mapFits, down}
 use Rattle.model.specs.Equations.{cell, rowData, columnData}
 use Rattle.model.specs.Refusal.{refusal, arrayTests, sectorTests}
@@ -214,7 +215,7 @@ blockCases =
 
 -- Every case holds.
 pub blocks-hold : map (λ (c : Case). c .computed) blockCases ≡ map (λ (c : Case). c .expected) blockCases
-unfolding blockCases sectorAt sectored atPosition sectorEntry rising sectorRepairs ofPosition fatalPosition sectorTests sectorFits sectorsFit mapBytes oneTests sheetsOf sheetAt repairSheets blankSheets cycleSheets outcomePosition sheetsEntries chainsTests sheetsTests onSide sideRepairs serves takesLower wantedStripe wantedRepairs canBeWanted planDiskTests diskOutcome diskSheet planDiskOutcome planDiskSheet sealStatus sealArray encoded encodedByte writeStatus writeArray writeTests written writtenByte isParityOf refusal arrayTests sideFits sizeFits blockFits arrayBytes arrayOf disks across down rows columns diskAt isData rowData columnData cell byte whole xsum _⊕_ tabulate gate every bit count lowest among on sumOver stripeSum sumsToZero grid layoutOf mapFits erasures without alone allowed firstAllowed someAllowed nextDisk repairOf peel repairs after residual residualCount lost fatal changed sumOfOthers repaired rebuilt zeroed consistent below closing core partner firstOf otherThan trace lowestOf cycleOf shownCycle numberBytes numberAt chainBytes sheetOf blankSheet sheetTests planTests lossOutcome lossSheets planOutcome planSheets outcomeStatus outcomeCount mapAfter clear lossTold contradiction repairsMade turnRepairs contradicts turnOf bufferTests rebuildTests rebuildRefusal rebuildTurn entryAt nextNumber visited chainNumbers within different chainTests onChain noLeftovers entriesAt chainEntries tidyTests tidyStatus tidyForm tidySheet allAllowed clears listTests followTests followStatus followOutcome followArray united partBy part joined undetermined determined survivorSum partSum partsCancel savedByte saved mapTests saveTests saveStatus saveAnswer saveArray savingStatus savingCount rectangle digit decimal repairWord fatalWord refusedWord entryLines listed listing
+unfolding blockCases sectorAt sectored atPosition sectorEntry rising sectorRepairs ofPosition fatalPosition sectorTests sectorFits sectorsFit mapBytes oneTests sheetsOf sheetAt repairSheets blankSheets cycleSheets outcomePosition sheetsEntries chainsTests sheetsTests onSide sideRepairs serves takesLower wantedStripe wantedRepairs canBeWanted planDiskTests diskOutcome diskSheet planDiskOutcome planDiskSheet sealStatus sealArray encoded encodedByte writeStatus writeArray writeTests written writtenByte isParityOf refusal arrayTests sideFits sizeFits blockFits arrayBytes arrayOf disks across down rows columns diskAt isData rowData columnData cell byte whole xsum _⊕_ tabulate gate every bit count lowest among on sumOver stripeSum sumsToZero grid layoutOf mapFits erasures without alone allowed firstAllowed someAllowed nextDisk repairOf peel repairs after residual residualCount lost fatal changed sumOfOthers repaired rebuilt zeroed consistent least price tooMuch wayCosts throughCost onCheapest onSmallest partner firstOf otherThan trace lowestOf cycleOf shownCycle numberBytes numberAt chainBytes sheetOf blankSheet sheetTests planTests lossOutcome lossSheets planOutcome planSheets outcomeStatus outcomeCount mapAfter clear lossTold contradiction repairsMade turnRepairs contradicts turnOf bufferTests rebuildTests rebuildRefusal rebuildTurn entryAt nextNumber visited chainNumbers within different chainTests onChain noLeftovers entriesAt chainEntries tidyTests tidyStatus tidyForm tidySheet allAllowed clears listTests followTests followStatus followOutcome followArray united partBy part joined undetermined determined survivorSum partSum partsCancel savedByte saved mapTests saveTests saveStatus saveAnswer saveArray savingStatus savingCount rectangle digit decimal repairWord fatalWord refusedWord entryLines listed listing
 blocks-hold = refl
 
 -- ---- blocks of two sectors
@@ -295,5 +296,5 @@ sectorCases =
 
 -- Every case holds here too.
 pub sectors-hold : map (λ (c : Case). c .computed) sectorCases ≡ map (λ (c : Case). c .expected) sectorCases
-unfolding sectorCases sectorAt sectored atPosition sectorEntry rising sectorRepairs ofPosition fatalPosition sectorTests sectorFits sectorsFit mapBytes sheetsOf sheetAt repairSheets cycleSheets outcomePosition sheetsEntries chainsTests sheetsTests refusal arrayTests sideFits sizeFits blockFits arrayBytes disks across down rows columns byte whole xsum _⊕_ tabulate gate every bit count lowest among on sumOver stripeSum sumsToZero grid layoutOf mapFits erasures without alone allowed firstAllowed someAllowed nextDisk repairOf peel repairs after residual residualCount lost fatal changed sumOfOthers repaired rebuilt consistent below closing core partner firstOf otherThan trace lowestOf cycleOf shownCycle numberBytes numberAt chainBytes sheetOf blankSheet sheetTests planTests lossOutcome lossSheets planOutcome planSheets outcomeStatus outcomeCount mapAfter clear lossTold repairsMade turnRepairs contradicts turnOf bufferTests rebuildTests rebuildRefusal rebuildTurn entryAt nextNumber visited chainNumbers within different onChain noLeftovers entriesAt chainEntries allAllowed clears listTests followTests followStatus followOutcome followArray united partBy part joined undetermined rectangle allPresent canLook lookOffset lookLength
+unfolding sectorCases sectorAt sectored atPosition sectorEntry rising sectorRepairs ofPosition fatalPosition sectorTests sectorFits sectorsFit mapBytes sheetsOf sheetAt repairSheets cycleSheets outcomePosition sheetsEntries chainsTests sheetsTests refusal arrayTests sideFits sizeFits blockFits arrayBytes disks across down rows columns byte whole xsum _⊕_ tabulate gate every bit count lowest among on sumOver stripeSum sumsToZero grid layoutOf mapFits erasures without alone allowed firstAllowed someAllowed nextDisk repairOf peel repairs after residual residualCount lost fatal changed sumOfOthers repaired rebuilt consistent least price tooMuch wayCosts throughCost onCheapest onSmallest partner firstOf otherThan trace lowestOf cycleOf shownCycle numberBytes numberAt chainBytes sheetOf blankSheet sheetTests planTests lossOutcome lossSheets planOutcome planSheets outcomeStatus outcomeCount mapAfter clear lossTold repairsMade turnRepairs contradicts turnOf bufferTests rebuildTests rebuildRefusal rebuildTurn entryAt nextNumber visited chainNumbers within different onChain noLeftovers entriesAt chainEntries allAllowed clears listTests followTests followStatus followOutcome followArray united partBy part joined undetermined rectangle allPresent canLook lookOffset lookLength
 sectors-hold = refl

@@ -1,15 +1,16 @@
 -- `solve::solve_in` meets its contract: what plan's order leaves decides.
 -- Assumes nothing.
-use native.Mathlib.Nat.{le-refl}
+use native.Mathlib.Omega.{arith}
 use borrow.Author.Needs.{needs}
 use Rattle.model.proofs.Grid.{layout-two}
-use Rattle.solve.proofs.Memory.{peeled-whole, same-room}
-use Rattle.solve.proofs.Solving.{solves-repairs, is-lossy, solves-cycle}
+use Rattle.layout.proofs.Numbers.{map-few}
+use Rattle.solve.proofs.Memory.{map-disks}
+use Rattle.solve.proofs.Solving.{solves-repairs, left-lossy, solves-cycle}
 use Rattle.solve.proofs.solve_in.Statement.{statement}
 use Rattle.solve.proofs.solve_in.Tie as tie
 
-peel-below-requires : tie.Need-peel-below-requires
-peel-below-requires c κs = let p = c .before .before .before .before .before .before .before .before .before .pre in (p .0, (p .1 .0, (le-refl _, p .1 .1)))
+peel-requires : tie.Need-peel-requires
+peel-requires c κs = search needs
 
 same-length : tie.Need-same-length
 same-length c = search needs
@@ -24,27 +25,23 @@ same-length-4 : tie.Need-same-length-4
 same-length-4 c = search needs
 
 returns : tie.Need-returns
-returns c = solves-repairs (peeled-whole _ (c .before .before .before .before .before .before .before .before .before .before .peel-below .ensures)) (c .if1 .taken)
+returns c = solves-repairs (c .before .before .before .before .before .before .before .before .before .before .peel .ensures) (c .if1 .taken)
 
 undetermined-count-requires : tie.Need-undetermined-count-requires
-undetermined-count-requires c κs =
-    let l = c .before .before .before .before .before .before .before .before .before .before .before .before in
-    (l .before .before .before .before .before .before .before .before .before .before .pre .0, l .peel-below .ensures .table)
+undetermined-count-requires c κs = search needs
 
 show-requires : tie.Need-show-requires
 show-requires c κs =
-    let l = c .before .before .before .before .before .before .before .before .before .before .before .before .before .before .before .before .before in
-    let p = l .before .before .before .before .before .before .before .before .before .before .pre in
-    let k = l .peel-below .kept .1 .1 .1 .1 in (
-      p .0,
-      (
-        p .1 .0,
-        (
-          is-lossy (peeled-whole _ (l .peel-below .ensures)) (c .before .before .before .before .before .before .before .if1 .left),
-          same-room (p .1 .1) (k .0) (k .1 .0) (k .1 .1 .0) (k .1 .1 .1 .0),
-        ),
-      ),
-    )
+    let l = c .before .before .before .before .before .before .before .before .before .before .before .before .before .before .before .before in
+    let s = l .before .before .before .before .before .before .before .before .before .before in
+    let few = map-few _ _ (s .pre .0) _ (s .pre .1 .0) in
+    let long = map-disks _ (s .args .base) _ (s .pre .1 .0) in
+    let kept = l .peel .kept .1 .1 .1 in
+    let room = s .pre .1 .1 .disksFit in
+    let work = kept .0 in
+    let list = kept .1 .1 .1 .0 in
+    let fits = s .pre .1 .1 .listFits in
+    (s .pre .0, (l .peel .ensures .table, (left-lossy (l .peel .ensures) (c .before .before .before .before .before .before .if1 .left), (omega arith, omega arith))))
 
 same-length-5 : tie.Need-same-length-5
 same-length-5 c = search needs
@@ -60,18 +57,18 @@ same-length-8 c = search needs
 
 returns-2 : tie.Need-returns-2
 returns-2 c =
-    let s = c .before .before .before .before .before .before .before .before in
-    let u = s .before .before .before .before .before in
+    let s = c .before .before .before .before in
+    let u = s .before .before .before .before in
     let l = u .before .before .before .before .before .before .before .before .before .before .before .before .before in
     let a = l .before .before .before .before .before .before .before .before .before .before in
-    solves-cycle (peeled-whole _ (l .peel-below .ensures)) (u .before .before .before .if1 .left)
-    (layout-two (a .args .size) (a .args .base) (a .pre .0 .above)) (u .undetermined-count .ensures) _ (s .show .ensures .0) (s .show .ensures .1)
+    solves-cycle (l .peel .ensures) (u .before .before .before .if1 .left) (layout-two (a .args .size) (a .args .base) (a .pre .0 .above))
+    (u .undetermined-count .ensures) _ (s .show .ensures .0) (s .show .ensures .1)
 
 pub solve-in-spec : {M : Type 1} → statement M
 solve-in-spec =
     tie.close
     (tie.spec
-    peel-below-requires
+    peel-requires
     same-length
     same-length-2
     same-length-3

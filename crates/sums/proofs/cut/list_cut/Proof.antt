@@ -5,9 +5,8 @@ use Prim.Native.Nat.{_≤_, _<_, _-_}
 use native.Mathlib.Omega.{arith}
 use borrow.Author.Needs.{needs}
 use lib.ListN.{length}
-use Rattle.stripes.specs.Fold.{xsum}
+use Rattle.stripes.specs.Fold.{xsum, total}
 use Rattle.stripes.specs.Erased.{erasures}
-use Rattle.stripes.proofs.Degree.{total}
 use Rattle.model.specs.Grid.{layoutOf}
 use Rattle.model.proofs.Grid.{layout-disks}
 use Rattle.layout.proofs.Runs.{numbered-two}

@@ -6,16 +6,16 @@ use native.Mathlib.Nat.{not-suc-le-zero}
 use native.Mathlib.Omega.{arith}
 use borrow.Author.Needs.{needs}
 use lib.ListN.{length, getD}
-use Rattle.tally.proofs.Scanned.{Copied, copied-next, copied-below}
+use Rattle.tally.proofs.Scanned.{Copied, copied-next, copied-all}
 use Rattle.tally.proofs.load.copy.Statement.{statement}
 use Rattle.stripes.specs.Erased.{erasures}
 use Rattle.tally.proofs.load.copy.Tie as tie
 
 abbrev Inv-loop : tie.InvT-loop
-Inv-loop map k work₀ i₀ work i = (i ≤ k) × (length work ≡ length work₀) × Copied (λ j. getD map j 0) work i
+Inv-loop map work₀ i₀ work i = (i ≤ length map) × (length work ≡ length work₀) × Copied (λ j. getD map j 0) work i
 
 abbrev μ-loop : tie.MeasureT-loop
-μ-loop map k work₀ i₀ work i = k - i
+μ-loop map work₀ i₀ work i = length map - i
 
 loop-holds : tie.Need-loop-holds Inv-loop μ-loop
 loop-holds c = (search needs, search needs, λ j h. absurd (not-suc-le-zero h))
@@ -49,10 +49,11 @@ same-length c = search needs
 
 returns : tie.Need-returns Inv-loop μ-loop
 returns c =
-    let l = c .before .before .before .before .before .loop in
-    let h = c .before .before .before .before .loop-test .left in
-    ap erasures (c .before .before .wipe .ensures)
-    ∙ copied-below _ (l .work) _ (search needs) (λ j w. l .inv .2 j (omega arith))
+    let l = c .before .before .before .before .before in
+    let end = c .before .before .before .before .loop-test .left in
+    let m = l .before .before .before .args .map .now in
+    let all : l .loop .i ≡ length m = omega arith in
+    ap erasures (c .before .before .wipe .ensures) ∙ rw all (copied-all m (l .loop .work) (search needs) (rw all at (l .loop .inv .2)))
 
 pub copy-spec : {M : Type 1} → statement M
 copy-spec =

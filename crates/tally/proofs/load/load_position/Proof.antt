@@ -1,12 +1,9 @@
 -- `tally::load::load_position` meets its contract: with one sector a block the map is its only position.
 -- Assumes nothing.
 use mathlib.Core.Path.{_∙_, ap}
-use native.Mathlib.Nat.{le-refl}
 use native.Mathlib.Omega.{arith}
 use borrow.Author.Needs.{needs}
-use lib.ListN.{length}
 use Rattle.stripes.specs.Erased.{erasures}
-use Rattle.stripes.proofs.Erased.{past-end, below-all}
 use Rattle.model.proofs.Grid.{map-length}
 use Rattle.tally.proofs.Column.{one-fits, one-erased, position-erased}
 use Rattle.tally.proofs.load.load_position.Statement.{statement}
@@ -17,7 +14,7 @@ copy-requires c κs =
     let p = c .before .before .before .before .pre in
     let same = p .room in
     let long = map-length _ _ (one-fits (p .positioned) (c .before .if1 .taken)) in
-    (le-refl _, omega arith)
+    omega arith
 
 gather-requires : tie.Need-gather-requires
 gather-requires c κs = search needs
@@ -29,8 +26,7 @@ returns : tie.Need-returns
 returns c =
     let t = c .before .before .before .before in
     let s = t .before .before .before in
-    let m = s .args .map .now in
-    c .before .before .copy .ensures ∙ below-all (length m) (erasures m) (past-end m) ∙ one-erased (s .pre .positioned) (t .if1 .taken)
+    c .before .before .copy .ensures ∙ one-erased (s .pre .positioned) (t .if1 .taken)
 
 same-length-2 : tie.Need-same-length-2
 same-length-2 c = search needs

@@ -22,7 +22,7 @@ tally-requires c κs =
     let long = map-length _ _ (s .pre .1 .0) in
     let room = s .pre .1 .1 .1 .0 in
     let table = s .pre .1 .1 .1 .1 .0 in
-    let same = l .copy .kept .1 .1 .0 in
+    let same = l .copy .kept .1 .0 in
     (s .pre .0, (rw (length-set _ _ _) (omega arith), (λ d h. others-outside (s .args .map .now) _ (s .args .disk) loaded d (omega arith), (rw (length-set _ _ _) (omega arith), s .pre .1 .1 .1 .1 .1 .0))))
 
 join-all-requires : tie.Need-join-all-requires

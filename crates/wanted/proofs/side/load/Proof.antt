@@ -25,7 +25,7 @@ abbrev μ-loop : tie.MeasureT-loop
 μ-loop size base map others stripes parts name work₀ from₀ work from = length others - from
 
 copy-requires : tie.Need-copy-requires Inv-loop μ-loop
-copy-requires c κs = (le-refl _, c .before .before .before .before .before .before .pre .1 .1 .1 .0)
+copy-requires c κs = c .before .before .before .before .before .before .pre .1 .1 .1 .0
 
 loop-holds : tie.Need-loop-holds Inv-loop μ-loop
 loop-holds c = (sided-none _ _ _ _ _ (c .before .before .copy .ensures), omega arith, refl)
@@ -39,7 +39,7 @@ start l = l .before .before .before .before .before .before .before .before .bef
 
 -- The length of `work` stays.
 long : (l : tie.At-loop Inv-loop μ-loop) → length (l .loop .work) ≡ length (start l .args .work .now)
-long l = l .loop .inv .2 ∙ l .before .before .before .copy .kept .1 .1 .0
+long l = l .loop .inv .2 ∙ l .before .before .before .copy .kept .1 .0
 
 -- The disks that a turn passes over.
 passed : (c : tie.After-next-erased Inv-loop μ-loop) → Passed (start (c .before) .args .others .now) (c .before .loop .from) (c .next-erased .result)
