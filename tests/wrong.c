@@ -6,7 +6,8 @@
  * millions, rows that are taken for columns, and turns that do not end as they
  * should. These are in what a call makes of blocks as one sector;
  * wrong_sectors.c has the faults in several. wrong_disk.c has plan_disk,
- * wrong_save.c save, wrong_tidy.c tidy and what follow makes of a sheet.
+ * wrong_loop.c the loop of a fatal loss, wrong_save.c save, wrong_tidy.c tidy
+ * and what follow makes of a sheet.
  * tests/wrong renames the archive's functions and sees that the tests fail.
  */
 #include <stdlib.h>
@@ -15,6 +16,7 @@
 #include "raid2d.h"
 #include "wrong.h"
 #include "wrong_disk.h"
+#include "wrong_loop.h"
 #include "wrong_sectors.h"
 #include "wrong_tidy.h"
 
@@ -541,9 +543,13 @@ uint32_t raid2d_plan_disk(size_t rows, size_t columns,
     struct size size = passed_on("plan_disk", rows, columns);
     uint32_t status;
 
-    if (strncmp(wanted(), "plan_disk ", 10) != 0)
-        return right_plan_disk(rows, columns, map, map_len, sheet, sheet_len,
-                               disk, count);
+    if (strncmp(wanted(), "plan_disk ", 10) != 0) {
+        status = right_plan_disk(rows, columns, map, map_len, sheet,
+                                 sheet_len, disk, count);
+        if (status == 6)
+            spoil_loop(rows, columns, 1, map, 0, sheet);
+        return status;
+    }
     status = plan_disk_wrongly(size.rows, size.columns, map, map_len, sheet,
                                sheet_len, disk, count);
     if (status == 0 || status == 6)

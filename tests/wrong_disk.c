@@ -8,6 +8,7 @@
 
 #include "raid2d.h"
 #include "wrong_disk.h"
+#include "wrong_loop.h"
 
 enum {
     BYTES = RAID2D_SHEET_BYTES,
@@ -380,6 +381,16 @@ static void show_other_cycle(const struct asked *a)
         }
 }
 
+/* A cycle without the disk, where there is such. */
+static void show_cycle_without(const struct asked *a)
+{
+    uint8_t sheet[BYTES];
+    size_t unused;
+
+    if (plan_without(a, a->disk, sheet, &unused) == RAID2D_FATAL)
+        memcpy(a->sheet, sheet, BYTES);
+}
+
 /* Where the disk is determined, without it as many disks are lost. */
 static int is_determined(const struct asked *a)
 {
@@ -403,6 +414,10 @@ static uint32_t spoil_fatal(const struct asked *a)
         *a->count = count_left(a);
     if (wrong("plan_disk shows another cycle than plan"))
         show_other_cycle(a);
+    if (wrong("plan_disk shows the smallest cycle through the disk"))
+        show_loop_through(a->rows, a->columns, a->map, a->disk, a->sheet);
+    if (wrong("plan_disk shows the smallest cycle without the disk"))
+        show_cycle_without(a);
     if (wrong("plan_disk leaves the sheet with 6"))
         memcpy(a->sheet, a->sheet_before, BYTES);
     if (wrong("plan_disk leaves the count with 6"))

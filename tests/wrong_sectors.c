@@ -8,7 +8,9 @@
 #include <stdlib.h>
 #include <string.h>
 
+#include "loop.h"
 #include "raid2d.h"
+#include "wrong_loop.h"
 #include "wrong_sectors.h"
 
 enum {
@@ -17,7 +19,9 @@ enum {
     COLUMN = RAID2D_COLUMN_STRIPE
 };
 
-/* ---- The right calls, with the length of a sector or the number ---- */
+/* ---- The right calls, with the length of a sector or the number ----
+
+   But for the loop that plan and rebuild show, where that is the fault. */
 
 static size_t look(const struct cut *c)
 {
@@ -27,16 +31,27 @@ static size_t look(const struct cut *c)
 
 static uint32_t plan(const struct cut *c)
 {
-    return right_plan(c->rows, c->columns, c->sectors, c->map, c->map_len,
-                      c->sheets, c->sheets_len, c->count, c->position);
+    uint32_t status = right_plan(c->rows, c->columns, c->sectors, c->map,
+                                 c->map_len, c->sheets, c->sheets_len,
+                                 c->count, c->position);
+
+    if (status == RAID2D_FATAL)
+        spoil_loop(c->rows, c->columns, c->sectors, c->map, *c->position,
+                   c->sheets);
+    return status;
 }
 
 static uint32_t rebuild(const struct cut *c)
 {
-    return right_rebuild(c->rows, c->columns, c->block, c->array,
-                         c->array_len, c->sector, c->map, c->map_len,
-                         c->sheets, c->sheets_len, c->limit, c->count,
-                         c->position);
+    uint32_t status = right_rebuild(c->rows, c->columns, c->block, c->array,
+                                    c->array_len, c->sector, c->map,
+                                    c->map_len, c->sheets, c->sheets_len,
+                                    c->limit, c->count, c->position);
+
+    if (status == RAID2D_FATAL)
+        spoil_loop(c->rows, c->columns, c->block / c->sector, c->map,
+                   *c->position, c->sheets);
+    return status;
 }
 
 static uint32_t follow(const struct cut *c)
@@ -410,10 +425,60 @@ static void name_last(const struct cut *c)
     *c->position = last;
 }
 
+/* The smallest loop of any position, or that of the last fatal one, stands in
+   the sheet of the first. */
+static void show_other(const struct cut *c, int last)
+{
+    const struct loss_at grid = { c->rows, c->columns, NULL };
+    struct loop best = { 0, { 0 } };
+    size_t position;
+
+    for (position = 0; position < c->sectors; position++) {
+        struct cut part = part_of(c, position);
+        const struct loss_at loss = { c->rows, c->columns, part.map };
+        struct loop loop = smallest_loop(&loss);
+
+        if (loop.length > 0
+            && (last || best.length == 0 || loop.length < best.length
+                || (loop.length == best.length && comes_first(&loop, &best))))
+            best = loop;
+        end_part(&part);
+    }
+    list_loop(&grid, &best, c->sheets + *c->position * SHEET);
+}
+
+/* A disk counts as erased if it is so at any position. */
+static void show_together(const struct cut *c)
+{
+    uint8_t map[DISKS] = { 0 };
+    const struct loss_at loss = { c->rows, c->columns, map };
+    struct loop loop;
+    size_t i;
+
+    for (i = 0; i < c->map_len; i++)
+        map[i / c->sectors] |= c->map[i];
+    loop = smallest_loop(&loss);
+    list_loop(&loss, &loop, c->sheets + *c->position * SHEET);
+}
+
+static void spoil_shown(const struct cut *c)
+{
+    if (either(c, "plan shows the smallest loop of all positions",
+               "rebuild shows the smallest loop of all positions"))
+        show_other(c, 0);
+    if (either(c, "plan shows the loop of the last fatal position",
+               "rebuild shows the loop of the last fatal position"))
+        show_other(c, 1);
+    if (either(c, "plan shows the loop of all positions together",
+               "rebuild shows the loop of all positions together"))
+        show_together(c);
+}
+
 static void spoil_fatal(const struct cut *c, const uint8_t *before)
 {
     size_t last;
 
+    spoil_shown(c);
     if (either(c, "plan names the last fatal position",
                "rebuild names the last fatal position"))
         name_last(c);

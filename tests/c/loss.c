@@ -4,6 +4,7 @@
  */
 #include <string.h>
 
+#include "../loop.h"
 #include "loss.h"
 
 /* ---- Losses ---- */
@@ -128,6 +129,44 @@ struct repairs in_plans_order(const struct call *c)
     return in_order_among(c->map.bytes, c->size, c->map.bytes);
 }
 
+/* ---- What nothing brings back ---- */
+
+/* No stripe has a higher number. */
+#define STRIPES 32
+
+/* Follows the other erased disks from the row of a disk on, from stripe to
+   stripe, as long as they lead to further ones. Whether its column is among
+   them. */
+static int is_joined(const uint8_t *map, struct size s, size_t disk)
+{
+    uint8_t reached[STRIPES] = { 0 };
+    size_t before = 0, now = 1, other;
+
+    reached[row_of(s, disk)] = 1;
+    while (now > before) {
+        before = now;
+        for (other = 0; other < disks_of(s); other++) {
+            uint8_t *row = &reached[row_of(s, other)];
+            uint8_t *column = &reached[column_of(s, other)];
+
+            if (map[other] && other != disk && *row != *column) {
+                *row = *column = 1;
+                now++;
+            }
+        }
+    }
+    return reached[column_of(s, disk)];
+}
+
+size_t count_undetermined(const uint8_t *map, struct size s)
+{
+    size_t count = 0, disk;
+
+    for (disk = 0; disk < disks_of(s); disk++)
+        count += map[disk] && is_joined(map, s, disk);
+    return count;
+}
+
 /* ---- What is expected ---- */
 
 void expect_kind(struct call *c, uint8_t kind)
@@ -154,6 +193,16 @@ void expect_list(struct call *c, const struct repairs *list, size_t from,
     for (k = from; k < to; k++)
         expect_record(c, k - from + 1, list->number[k].disk,
                       list->number[k].stripe);
+}
+
+size_t expect_loop(struct call *c)
+{
+    const struct loss_at loss = { c->size.rows, c->size.columns,
+                                  c->map.bytes };
+    struct loop loop = smallest_loop(&loss);
+
+    list_loop(&loss, &loop, c->sheet.expected);
+    return count_undetermined(c->map.bytes, c->size);
 }
 
 void expect_zero_blocks(struct call *c)

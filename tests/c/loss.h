@@ -1,7 +1,7 @@
 /*
- * Losses of known shapes, plan's order of their repairs, and what is expected
- * of the sheet and the blocks: what the tests of plan, plan_disk, rebuild,
- * follow and save share.
+ * Losses of known shapes, plan's order of their repairs, what nothing brings
+ * back of them, and what is expected of the sheet and the blocks: what the
+ * tests of plan, plan_disk, rebuild, follow and save share.
  */
 #ifndef LOSS_H
 #define LOSS_H
@@ -65,6 +65,10 @@ struct repairs in_order_among(const uint8_t *map, struct size s,
 /* Plan's order for the loss of a call: the same with all erased disks. */
 struct repairs in_plans_order(const struct call *c);
 
+/* How many disks of a map are undetermined: the erased disks whose row and
+   column are joined by other erased disks. */
+size_t count_undetermined(const uint8_t *map, struct size s);
+
 /* A sheet without records; then its record k. */
 void expect_kind(struct call *c, uint8_t kind);
 void expect_record(struct call *c, size_t k, size_t disk, size_t stripe);
@@ -72,6 +76,10 @@ void expect_record(struct call *c, size_t k, size_t disk, size_t stripe);
 /* A sheet that lists the repairs from one number up to another. */
 void expect_list(struct call *c, const struct repairs *list, size_t from,
                  size_t to);
+
+/* A sheet that shows the smallest loop of the call's map, as ../loop.h has it.
+   Returns the number of undetermined disks. */
+size_t expect_loop(struct call *c);
 
 /* The erased blocks are zero, as with 7. */
 void expect_zero_blocks(struct call *c);

@@ -101,11 +101,25 @@ static void expect_restored(struct call *c, size_t repairs, const char *what)
     expect_run(c, 0, repairs, what);
 }
 
+/* The sheet expected of the call and the number of lost disks are also what
+   expect_loop finds. */
+static void expect_same_loop(struct call *c, size_t lost, const char *what)
+{
+    uint8_t typed[RAID2D_SHEET_BYTES];
+
+    memcpy(typed, c->sheet.expected, sizeof typed);
+    expect(expect_loop(c) == lost
+               && memcmp(typed, c->sheet.expected, sizeof typed) == 0,
+           "%s: the smallest loop, %zu rows, %zu columns", what, c->size.rows,
+           c->size.columns);
+}
+
 /* Plan and rebuild call the loss fatal with the sheet expected of the call,
    which is no list of repairs to follow. The array and the map keep their
    bytes, also where one repair could be made and the limit is 1. */
 static void expect_fatal(struct call *c, size_t lost, const char *what)
 {
+    expect_same_loop(c, lost, what);
     memcpy(c->array.expected, c->array.bytes, c->array.len);
     expect_plan(c, 6, lost, what);
     expect_follow(c, 10, OUT_BEFORE, what);
@@ -301,22 +315,19 @@ static void lose_rectangle(struct size s)
     end_call(&c);
 }
 
-/* Every disk: which cycle is shown is left open, so that only its kind is
-   expected, and the same sheet of plan and of rebuild. The survivors, none,
-   belong to any sealed array. */
+/* Every disk: of all rectangles that with disks 0 and 1 and those below them
+   comes first. The survivors, none, belong to any sealed array. */
 static void lose_all(struct size s)
 {
     struct call c = fitting_call(REBUILD, s);
 
     memset(c.map.bytes, 1, c.map.len);
     expect_as_now(&c);
-    c.function = PLAN;
-    expect(run(&c) == 6 && c.sheet.bytes[0] == RAID2D_SHEET_CYCLE,
-           "plan for a loss of all disks, %zu rows, %zu columns", s.rows,
-           s.columns);
-    c.function = REBUILD;
-    memcpy(c.sheet.expected, c.sheet.bytes, c.sheet.len);
-    fill(c.sheet.bytes, c.sheet.len);
+    expect_kind(&c, RAID2D_SHEET_CYCLE);
+    expect_record(&c, 1, 0, 0);
+    expect_record(&c, 2, 1, 17);
+    expect_record(&c, 3, disk_at(s, 1, 1), 1);
+    expect_record(&c, 4, disk_at(s, 1, 0), 16);
     expect_save(&c, 0, 0, "all disks");
     expect_fatal(&c, c.map.len, "all disks");
     end_call(&c);

@@ -51,13 +51,20 @@ void damage_at(struct call *c, size_t position, size_t r, size_t k)
            (uint8_t)(1 + below(255)));
 }
 
-struct repairs repairs_at(const struct call *c, size_t position)
+/* The bytes of the map for one position. */
+static void gather(const struct call *c, size_t position, uint8_t *map)
 {
-    uint8_t map[DISKS];
     size_t disk;
 
     for (disk = 0; disk < disks_of(c->size); disk++)
         map[disk] = *mark_of(c->map.bytes, c, position, disk);
+}
+
+struct repairs repairs_at(const struct call *c, size_t position)
+{
+    uint8_t map[DISKS];
+
+    gather(c, position, map);
     return in_order_among(map, c->size, map);
 }
 
@@ -78,6 +85,19 @@ void expect_list_at(struct call *c, size_t position,
     one.sheet.expected += position * RAID2D_SHEET_BYTES;
     one.sheet.len = RAID2D_SHEET_BYTES;
     expect_list(&one, list, from, to);
+}
+
+size_t expect_loop_at(struct call *c, size_t position)
+{
+    struct call one = *c;
+    uint8_t map[DISKS];
+
+    gather(c, position, map);
+    memset(c->sheet.expected, 0, c->sheet.len);
+    c->fatal = position;
+    one.map.bytes = map;
+    one.sheet.expected += position * RAID2D_SHEET_BYTES;
+    return expect_loop(&one);
 }
 
 void expect_zero_sectors(struct call *c)

@@ -35,6 +35,11 @@ void expect_kinds(struct call *c, uint8_t kind);
 void expect_list_at(struct call *c, size_t position,
                     const struct repairs *list, size_t from, size_t to);
 
+/* The sheet of a position shows the smallest loop of the loss there, all others
+   are zero, and with 6 this position is named. Returns the number of
+   undetermined disks there. */
+size_t expect_loop_at(struct call *c, size_t position);
+
 /* All erased sectors are zero, as with 7. */
 void expect_zero_sectors(struct call *c);
 

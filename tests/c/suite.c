@@ -518,6 +518,16 @@ void at_every_size(void (*test)(struct size size))
             at_every_length(test, rows, columns);
 }
 
+void at_every_grid(void (*test)(struct size size))
+{
+    struct size s = { 0, 0, 1 };
+
+    for (s.rows = RAID2D_SIDE_MIN; s.rows <= RAID2D_SIDE_MAX; s.rows++)
+        for (s.columns = RAID2D_SIDE_MIN; s.columns <= RAID2D_SIDE_MAX;
+             s.columns++)
+            test(s);
+}
+
 /* Where lent bytes are to stand, by the argument. */
 static enum placement placement_of(const char *name)
 {
@@ -543,6 +553,7 @@ int main(int argc, char **argv)
     test_refusals();
     test_answers();
     test_losses();
+    test_loops();
     test_wanted();
     test_turns();
     test_saves();

@@ -124,12 +124,16 @@ void end_call(struct call *call);
    library sums at a time, the others two of these lengths in turn. */
 void at_every_size(void (*test)(struct size size));
 
+/* The same with one byte in a block. */
+void at_every_grid(void (*test)(struct size size));
+
 /* The parts of the suite, one to a file. */
 void test_header(void);
 void test_fields(void);
 void test_refusals(void);
 void test_answers(void);
 void test_losses(void);
+void test_loops(void);
 void test_wanted(void);
 void test_turns(void);
 void test_saves(void);

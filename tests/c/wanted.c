@@ -15,19 +15,8 @@
 
 /* ---- What is expected ---- */
 
-/* The sheet is plan's for the call's map, and a cycle. Returns plan's count. */
-static size_t expect_plans_cycle(struct call *c)
-{
-    size_t count = OUT_BEFORE, position = 0;
-
-    raid2d_plan(c->size.rows, c->size.columns, 1, c->map.bytes, c->map.len,
-                c->sheet.expected, c->sheet.len, &count, &position);
-    c->sheet.expected[0] = RAID2D_SHEET_CYCLE;
-    return count;
-}
-
 /* The sheet lists these repairs. If there are none, the disk is one that no
-   repair reaches. */
+   repair reaches, and the loop is that of the whole map. */
 static void expect_answer(struct call *c, const struct repairs *list,
                           const char *what)
 {
@@ -37,7 +26,7 @@ static void expect_answer(struct call *c, const struct repairs *list,
         expect_list(c, list, 0, list->count);
         expect_run(c, 0, list->count, what);
     } else {
-        expect_run(c, 6, expect_plans_cycle(c), what);
+        expect_run(c, 6, expect_loop(c), what);
     }
 }
 
@@ -302,10 +291,16 @@ static const struct example examples[] = {
       { 1, 2, 3, 5, 8, 11, 12 },
       { 1, 1, 2, 18, 2, 5, 1, 3, 1, 17, 4, 3, 0, 0 } },
     { "3 by 3, between two cycles", 3, 3, 6, 6, 8, 9,
-      { 0, 1, 4, 5, 6, 10, 11, 14, 15 }, { 2 } }
+      { 0, 1, 4, 5, 6, 10, 11, 14, 15 },
+      { 2, 1, 0, 0, 2, 1, 17, 3, 5, 1, 4, 4, 16, 0 } },
+    { "3 by 3, on the second of two cycles", 3, 3, 10, 6, 8, 9,
+      { 0, 1, 4, 5, 6, 10, 11, 14, 15 },
+      { 2, 1, 0, 0, 2, 1, 17, 3, 5, 1, 4, 4, 16, 0 } },
+    { "3 by 3, on a longer cycle than the shortest", 3, 3, 0, 6, 8, 8,
+      { 0, 1, 4, 6, 9, 10, 13, 14 },
+      { 2, 1, 9, 2, 2, 10, 18, 3, 14, 3, 4, 13, 17, 0 } }
 };
 
-/* The sheet of two cycles shows the one that plan chooses. */
 static void run_example(const struct example *e)
 {
     const struct size size = { e->rows, e->columns, 1 };
@@ -320,8 +315,6 @@ static void run_example(const struct example *e)
         expect_kind(&c, 0);
         memcpy(c.sheet.expected, e->sheet, sizeof e->sheet);
     }
-    if (e->status == 6 && e->sheet[1] == 0)
-        expect_plans_cycle(&c);
     expect_run(&c, e->status, e->status == 15 ? OUT_BEFORE : e->count,
                e->what);
     end_call(&c);
@@ -612,16 +605,6 @@ static void at_size(struct size s)
     deliver(s, lose_stair, some);
     deliver_damaged(s, some);
     deliver_from_fatal(s);
-}
-
-static void at_every_grid(void (*test)(struct size size))
-{
-    struct size s = { 0, 0, 1 };
-
-    for (s.rows = RAID2D_SIDE_MIN; s.rows <= RAID2D_SIDE_MAX; s.rows++)
-        for (s.columns = RAID2D_SIDE_MIN; s.columns <= RAID2D_SIDE_MAX;
-             s.columns++)
-            test(s);
 }
 
 void test_wanted(void)

@@ -4,6 +4,7 @@
  */
 #include <string.h>
 
+#include "../loop.h"
 #include "model.h"
 
 /* The refusals, by the order's numbers. */
@@ -393,82 +394,12 @@ size_t plan_for_disk(struct grid g, const uint8_t *map, size_t disk,
     return columns;
 }
 
-/* How many records a loop has that stand in the order 1, 2, 3 and so on, with
-   zeros behind them. 0 if they do not. */
-static size_t loop_length(const uint8_t *sheet)
+void show_loop(struct grid g, const uint8_t *column, uint8_t *sheet)
 {
-    size_t k = 1, at;
+    const struct loss_at loss = {g.rows, g.columns, column};
+    struct loop loop = smallest_loop(&loss);
 
-    if (sheet[0] != 2 || sheet[1] != 1)
-        return 0;
-    while (k < RECORDS && sheet[record_at(k) + 2] == k + 1)
-        k++;
-    if (sheet[record_at(k) + 2] != 0)
-        return 0;
-    for (at = record_at(k + 1); at < SHEET_BYTES; at++)
-        if (sheet[at] != 0)
-            return 0;
-    return k;
-}
-
-/* Each stripe holds none or two of a loop's disks. */
-static int two_on_each_stripe(struct grid g, const uint8_t *sheet,
-                              size_t length)
-{
-    size_t stripe, k, count;
-
-    for (stripe = 0; stripe < STRIPES; stripe++) {
-        count = 0;
-        for (k = 1; k <= length; k++)
-            count += on_stripe(g, sheet[record_at(k)], stripe) ? 1 : 0;
-        if (count != 0 && count != 2)
-            return 0;
-    }
-    return 1;
-}
-
-/* Record k of a loop: an erased disk of the grid, not below the first, and the
-   stripe that it shares with the next: a row for odd k, a column for even. */
-static const char *judge_loop_record(struct grid g, const uint8_t *map,
-                                     const uint8_t *sheet, size_t k,
-                                     size_t length)
-{
-    size_t next = k == length ? 1 : k + 1;
-    size_t disk = sheet[record_at(k)];
-    size_t stripe = sheet[record_at(k) + 1];
-    size_t after = sheet[record_at(next)];
-
-    if (disk >= disks_of(g) || map[disk] != 1)
-        return "a loop has a disk that is not erased";
-    if (k > 1 && disk <= sheet[record_at(1)])
-        return "a loop does not begin with its lowest disk";
-    if ((k % 2 == 1) != (stripe < COLUMN_STRIPE))
-        return "a loop's rows and columns do not take turns";
-    if (!on_stripe(g, disk, stripe) || !on_stripe(g, after, stripe))
-        return "a loop's disk does not share its stripe with the next";
-    return NULL;
-}
-
-/* The sheet of a position shows a loop among the disks erased there. */
-static const char *judge_loop(struct grid g, const uint8_t *map,
-                              const uint8_t *sheet)
-{
-    size_t length = loop_length(sheet), k, other;
-
-    if (length < 4 || length % 2 != 0)
-        return "the sheet is not a loop of four disks or more";
-    for (k = 1; k <= length; k++) {
-        const char *wrong = judge_loop_record(g, map, sheet, k, length);
-
-        if (wrong != NULL)
-            return wrong;
-        for (other = 1; other < k; other++)
-            if (sheet[record_at(other)] == sheet[record_at(k)])
-                return "a loop has a disk twice";
-    }
-    if (!two_on_each_stripe(g, sheet, length))
-        return "a loop's stripe does not hold two of its disks";
-    return NULL;
+    list_loop(&loss, &loop, sheet);
 }
 
 /* A refusal: the status, and that nothing has changed. */
@@ -512,7 +443,7 @@ static const char *judge_fatal(const struct planned *p, size_t position,
                                const uint8_t *column)
 {
     const uint8_t *sheet = p->sheets + position * SHEET_BYTES;
-    uint8_t is_lost[DISKS_MAX];
+    uint8_t is_lost[DISKS_MAX], loop[SHEET_BYTES];
 
     if (p->status != FATAL)
         return "a fatal loss is not refused";
@@ -522,7 +453,10 @@ static const char *judge_fatal(const struct planned *p, size_t position,
         !is_zero(sheet + SHEET_BYTES,
                  (p->sheets_len / SHEET_BYTES - position - 1) * SHEET_BYTES))
         return "a sheet beside that of a fatal position is not zero";
-    return judge_loop(p->grid, column, sheet);
+    show_loop(p->grid, column, loop);
+    if (memcmp(sheet, loop, SHEET_BYTES) != 0)
+        return "the loop is another one";
+    return NULL;
 }
 
 /* Plan's sheet for one position. Returns the number of repairs, or one more
@@ -937,6 +871,8 @@ uint32_t model_rebuild(struct grid g, size_t block,
         return WRONG_LIMIT;
     fatal = first_fatal(g, block / sector, map, column);
     if (fatal < block / sector) {
+        memset(sheets, 0, sheets_len);
+        show_loop(g, column, sheets + fatal * SHEET_BYTES);
         *count = find_lost(g, column, is_lost);
         *position = fatal;
         return FATAL;

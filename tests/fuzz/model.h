@@ -2,7 +2,8 @@
  * What plan, plan_disk, follow, rebuild, save, look and tidy must answer, in
  * plain C, written from the order alone: its rules, its numbers and its
  * formats. Only the words are those of include/raid2d.h. It goes position by
- * position, disk by disk and byte by byte.
+ * position, disk by disk and byte by byte. ../loop.h has the loop of a fatal
+ * loss.
  */
 #ifndef MODEL_H
 #define MODEL_H
@@ -71,6 +72,10 @@ size_t count_erased(const uint8_t *map, size_t disks);
    in them. is_lost gets a byte for each disk: 1 for these, else 0. */
 size_t find_lost(struct grid g, const uint8_t *map, uint8_t *is_lost);
 
+/* The sheet of a fatal position, with these bytes of the map: the smallest
+   loop. */
+void show_loop(struct grid g, const uint8_t *column, uint8_t *sheet);
+
 /*
  * The chain of a sheet from elsewhere: its record numbers in order, and how
  * many. A chain that is refused gives the refusal's number below 0: -10 if the
@@ -99,10 +104,7 @@ uint32_t model_follow(struct grid g, size_t block,
                       const uint8_t *sheets, size_t sheets_len,
                       size_t *count);
 
-/*
- * What raid2d_rebuild must do in one turn, with its parameters. For a fatal
- * loss the sheets are left alone, since which loop is shown is free.
- */
+/* What raid2d_rebuild must do in one turn, with its parameters. */
 uint32_t model_rebuild(struct grid g, size_t block,
                        uint8_t *array, size_t array_len, size_t sector,
                        uint8_t *map, size_t map_len,

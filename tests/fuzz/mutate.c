@@ -7,6 +7,7 @@
  */
 #include <string.h>
 
+#include "../loop.h"
 #include "input.h"
 #include "model.h"
 
@@ -164,9 +165,24 @@ static void draw_stair(struct draft *d, size_t steps, size_t left_out)
                            column + (i + 1) / 2 % steps)] = 1;
 }
 
+/* Many disks, but no rectangle: several loops of six or more. */
+static void draw_longer_loops(struct draft *d)
+{
+    const struct loss_at loss = {d->grid.rows, d->grid.columns, d->map};
+    size_t left = draw(&d->random, 2 * (uint32_t)d->disks);
+
+    for (; left > 0; left--) {
+        size_t disk = draw(&d->random, (uint32_t)d->disks);
+
+        if (!closes_rectangle(&loss, disk))
+            d->map[disk] = 1;
+    }
+}
+
 /* As many disks as can be repaired, or fewer; such a loss with a loop in it;
    one loop, or a longest one that is open; all disks or none; rectangles with
-   disks between them, or all that there is room for with few between them. */
+   disks between them, or all that there is room for with few between them;
+   longer loops that share disks. */
 static void draw_loss(struct draft *d)
 {
     size_t rows = d->grid.rows, columns = d->grid.columns;
@@ -174,7 +190,7 @@ static void draw_loss(struct draft *d)
     uint32_t most = (uint32_t)(rows + columns + 1);
 
     memset(d->map, 0, COLUMN_BYTES - SHEET_BYTES);
-    switch (draw(&d->random, 10)) {
+    switch (draw(&d->random, 11)) {
     case 0:
         draw_forest(d, most);
         break;
@@ -197,6 +213,9 @@ static void draw_loss(struct draft *d)
         break;
     case 6:
         draw_rectangles(d, longest / 2, draw(&d->random, 4));
+        break;
+    case 7:
+        draw_longer_loops(d);
         break;
     default:
         draw_forest(d, draw(&d->random, most + 1));

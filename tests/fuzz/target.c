@@ -273,31 +273,16 @@ static uint32_t call_plan_disk(const struct input *in)
     return status;
 }
 
-/* The sheets of a fatal loss are those of plan. */
-static int is_plans_sheet(const struct input *in, size_t sectors)
-{
-    static uint8_t planned[SHEET_LEN_MAX];
-    size_t lost, at;
-
-    raid2d_plan(in->grid.rows, in->grid.columns, sectors, in->map,
-                in->map_len, planned, in->sheet_len, &lost, &at);
-    return memcmp(sheet.bytes, planned, in->sheet_len) == 0;
-}
-
 /* What is wrong with plan_disk. */
 static const char *try_plan_disk(const struct input *in)
 {
-    const char *wrong;
     struct planned p;
 
     lend_all(in);
     lend(&array, 0, in->behind);
     fill_sheets(in, 0);
     p = answer(in, 1, call_plan_disk(in));
-    wrong = judge_plan_disk(&p, in->wanted);
-    if (wrong == NULL && p.status == RAID2D_FATAL && !is_plans_sheet(in, 1))
-        return "plan_disk's loop is not that of plan";
-    return wrong;
+    return judge_plan_disk(&p, in->wanted);
 }
 
 static uint32_t call_rebuild(const struct input *in)
@@ -307,17 +292,6 @@ static uint32_t call_rebuild(const struct input *in)
                           passed(in, &map), in->map_len,
                           passed(in, &sheet), in->sheet_len,
                           in->limit, out(&count), out(&position));
-}
-
-/* What is wrong with the sheets of a fatal loss. */
-static const char *try_loop(const struct input *in)
-{
-    size_t sectors = in->block / in->sector;
-    struct planned p = answer(in, sectors, RAID2D_FATAL);
-
-    if (!is_plans_sheet(in, sectors))
-        return "rebuild's loop is not that of plan";
-    return judge_plan(&p);
 }
 
 /* What is wrong with one turn of rebuild, which should end with *status. */
@@ -338,8 +312,6 @@ static const char *try_turn(const struct input *in, uint32_t *status)
         return "rebuild leaves another array";
     if (memcmp(map.bytes, model_map, in->map_len) != 0)
         return "rebuild leaves another map";
-    if (*status == RAID2D_FATAL)
-        return try_loop(in);
     if (memcmp(sheet.bytes, model_sheet, in->sheet_len) != 0)
         return "rebuild leaves another sheet";
     return NULL;

@@ -2,15 +2,16 @@
  * A stand-in for the archive that is wrong on purpose: the model's plan, follow
  * and rebuild, with the one fault that the environment variable WRONG names, or
  * none. wrong_save.c has save, ../wrong_disk.c plan_disk, ../wrong_tidy.c tidy
- * and what follow makes of a sheet, ../wrong_sectors.c what the calls make of
- * several sectors; the faults below are in blocks as one. tests/fuzz/wrong sees
- * that the fuzzer finds each fault. It takes their names from the calls of
- * `wrong` below and in these files.
+ * and what follow makes of a sheet, ../wrong_loop.c the loop of a fatal loss,
+ * ../wrong_sectors.c what the calls make of several sectors; the faults below
+ * are in blocks as one. tests/fuzz/wrong sees that the fuzzer finds each fault.
+ * It takes their names from the calls of `wrong` below and in these files.
  */
 #include <stdlib.h>
 #include <string.h>
 
 #include "../wrong_disk.h"
+#include "../wrong_loop.h"
 #include "../wrong_sectors.h"
 #include "../wrong_tidy.h"
 #include "model.h"
@@ -399,73 +400,6 @@ uint32_t raid2d_tidy(uint8_t *sheet, size_t sheet_len)
 
 /* ---- plan */
 
-/* Takes lost disks off the map as long as a loss remains that is fatal. What
-   is left is one loop. */
-static void keep_one_loop(struct grid g, uint8_t *work)
-{
-    uint8_t rest[DISKS_MAX], unused[SHEET_BYTES];
-    size_t disks = disks_of(g), disk;
-
-    for (disk = 0; disk < disks; disk++) {
-        memcpy(rest, work, disks);
-        rest[disk] = 0;
-        plan_repairs(g, rest, unused);
-        if (count_erased(rest, disks) > 0)
-            memcpy(work, rest, disks);
-    }
-}
-
-/* The other disk that is marked on the stripe. */
-static size_t partner(struct grid g, const uint8_t *work,
-                      size_t disk, size_t stripe)
-{
-    size_t other;
-
-    for (other = 0; other < disks_of(g); other++)
-        if (other != disk && work[other] == 1 && on_stripe(g, other, stripe))
-            return other;
-    return disk;
-}
-
-/* Lists the loop that is left on the map, from this disk on. */
-static void list_loop(struct grid g, const uint8_t *work, size_t first,
-                      uint8_t *sheet)
-{
-    size_t disk = first, k = 0, stripe;
-
-    memset(sheet, 0, SHEET_BYTES);
-    sheet[0] = 2;
-    sheet[1] = 1;
-    do {
-        k++;
-        stripe = k % 2 == 1 ? row_of(g, disk) : column_of(g, disk);
-        if (k > 1)
-            sheet[record_at(k - 1) + 2] = (uint8_t)k;
-        sheet[record_at(k)] = (uint8_t)disk;
-        sheet[record_at(k) + 1] = (uint8_t)stripe;
-        disk = partner(g, work, disk, stripe);
-    } while (disk != first);
-}
-
-static void show_loop(struct grid g, uint8_t *work, uint8_t *sheet)
-{
-    size_t first = 0;
-
-    if (!wrong("shows a loop through too many disks") || disks_of(g) > 16)
-        keep_one_loop(g, work);
-    while (work[first] != 1)
-        first++;
-    if (wrong("begins a loop with its second disk"))
-        first = partner(g, work, first, row_of(g, first));
-    list_loop(g, work, first, sheet);
-    if (wrong("swaps rows and columns of a loop"))
-        sheet[record_at(1) + 1] ^= COLUMN_STRIPE;
-    if (wrong("numbers a loop's records in a ring"))
-        sheet[record_at(4) + 2] |= sheet[record_at(4) + 2] == 0;
-    if (wrong("shows one stock loop"))
-        memcpy(sheet, "\2\1\0\0\2\1\21\3\4\1\4\3\20", 14);
-}
-
 static void spoil_repairs(struct grid g, uint8_t *sheet, size_t repairs)
 {
     size_t k;
@@ -493,6 +427,7 @@ static int too_many(struct grid g, size_t repairs)
     return 0;
 }
 
+/* A fatal loss shows the right loop here. */
 static uint32_t plan_with_fault(struct grid g, const uint8_t *map,
                                 size_t map_len, uint8_t *sheet, size_t *count)
 {
@@ -514,7 +449,7 @@ static uint32_t plan_with_fault(struct grid g, const uint8_t *map,
         *count = count_erased(map, map_len);
     if (wrong("counts lost disks in a byte"))
         *count = (uint8_t)*count;
-    show_loop(g, work, sheet);
+    show_loop(g, map, sheet);
     return 6;
 }
 
@@ -526,6 +461,9 @@ static uint32_t plan_one(size_t rows, size_t columns,
     struct grid g = half_tested(rows, columns,
                                 wrong("plan tests the columns only"),
                                 wrong("plan tests the rows only"));
+    struct grid in = grid_to_plan_in(g);
+    uint8_t own_map[DISKS_MAX] = {0};
+    uint32_t status;
     size_t disk;
 
     if (!grid_fits(g))
@@ -539,7 +477,11 @@ static uint32_t plan_one(size_t rows, size_t columns,
             return 4;
     if (sheet_len != SHEET_BYTES)
         return 5;
-    return plan_with_fault(grid_to_plan_in(g), map, map_len, sheet, count);
+    memcpy(own_map, map, map_len);
+    status = plan_with_fault(in, own_map, map_len, sheet, count);
+    if (status == 6)
+        spoil_loop(in.rows, in.columns, 1, own_map, 0, sheet);
+    return status;
 }
 
 /* Plans each position, up to a fatal one. The other sheets are zero then. */
@@ -826,18 +768,22 @@ static uint32_t spoil_undone(struct turn *t)
     return 7;
 }
 
-/* Takes the last erased disk off a map if the loss is then still fatal. */
-static void drop_last(struct grid g, uint8_t *map)
+/* Takes the first disk of a loop off a map that still has another without
+   it. */
+static void break_loop(struct grid g, uint8_t *map, const uint8_t *sheet)
 {
     uint8_t left[DISKS_MAX], unused[SHEET_BYTES];
-    size_t last = disks_of(g) - 1;
+    size_t k;
 
-    while (map[last] == 0)
-        last--;
-    memcpy(left, map, disks_of(g));
-    left[last] = 0;
-    plan_repairs(g, left, unused);
-    map[last] = count_erased(left, disks_of(g)) == 0;
+    for (k = 1; k != 0; k = sheet[record_at(k) + 2]) {
+        memcpy(left, map, disks_of(g));
+        left[sheet[record_at(k)]] = 0;
+        plan_repairs(g, left, unused);
+        if (count_erased(left, disks_of(g)) > 0) {
+            map[sheet[record_at(k)]] = 0;
+            return;
+        }
+    }
 }
 
 /* What is wrong after a turn that found the loss fatal. Count and sheet are
@@ -854,7 +800,7 @@ static uint32_t spoil_fatal(struct turn *t)
     if (wrong("makes a fatal loss's repairs first") && t->limit <= t->repairs)
         return 0;
     if (wrong("rebuild shows another loop than plan")) {
-        drop_last(g, t->map_before);
+        break_loop(g, t->map_before, t->sheet);
         plan_one(g.rows, g.columns, t->map_before, t->map_len, t->sheet,
                  SHEET_BYTES, &unused);
     }
@@ -920,8 +866,8 @@ static uint32_t rebuild_one(const struct cut *c)
     return rebuild_with_fault(&t);
 }
 
-/* What ../wrong_sectors.c stands before. The model leaves the sheets of a fatal
-   loss alone. */
+/* What ../wrong_sectors.c stands before. The count of a fatal loss is plan's,
+   with its fault. */
 uint32_t right_rebuild(size_t rows, size_t columns, size_t block,
                        uint8_t *array, size_t array_len, size_t sector,
                        uint8_t *map, size_t map_len,
