@@ -61,17 +61,24 @@ fn sheet(begins: &[u8]) -> Vec<u8> {
     sheet
 }
 
+/// How a sheet of this kind with these cards and lines begins, as far as its last line.
+fn records(kind: u8, records: &[(u8, u8)]) -> Vec<u8> {
+    let numbered = (1..).zip(records).flat_map(|(number, &(card, line))| [number, card, line]);
+    [kind].into_iter().chain(numbered).collect()
+}
+
+/// How a sheet with a loop begins.
+fn shows(cards: &[(u8, u8)]) -> Vec<u8> {
+    records(2, cards)
+}
+
 /// What is in the sheet before a call.
 const OLD: [u8; SHEET] = [77; SHEET];
 
-/// The outcome stated is expected of plan. The model leaves the loop open, so that of a fatal loss it has only the
-/// status and the count.
+/// The outcome stated is expected of plan.
 fn plan(run: &mut Run, case: &str, grid: Grid, map: &[u8], status: usize, count: usize, begins: &[u8]) {
     let expected = Outcome { answer: status, out: Some(count), written: vec![sheet(begins)] };
-    let mut model = model::plan(grid, map, &OLD);
-    if status == FATAL {
-        model.written = expected.written.clone();
-    }
+    let model = model::plan(grid, map, &OLD);
     stated(run, &format!("{case}, plan"), expected, || whole::plan(grid, map, &OLD), model);
 }
 
@@ -86,21 +93,14 @@ fn plan_disk(run: &mut Run, case: &str, grid: Grid, map: &[u8], disk: usize, exp
     let known = if erased_disks(map).len() <= FEW { rules.len() } else { 1 };
     run.tally.compare(|| format!("{case}, the library"), &expected, || ffi::plan_disk(grid, map, &OLD, disk));
     for &rule in &rules[..known] {
-        let mut model = model::plan_disk(&planned, rule, grid, map, &OLD, disk);
-        if expected.answer == FATAL {
-            model.written = expected.written.clone();
-        }
+        let model = model::plan_disk(&planned, rule, grid, map, &OLD, disk);
         run.tally.compare(|| format!("{case}, the model"), &expected, || Ok(model));
     }
 }
 
 /// The list for a disk that is wanted, while these cards are marked.
 fn wanted(run: &mut Run, grid: Grid, marked: &[usize], disk: usize, repairs: &[(u8, u8)]) {
-    let mut begins = vec![1];
-    for (number, &(card, line)) in (1..).zip(repairs) {
-        begins.extend([number, card, line]);
-    }
-    let expected = Outcome { answer: 0, out: Some(repairs.len()), written: vec![sheet(&begins)] };
+    let expected = Outcome { answer: 0, out: Some(repairs.len()), written: vec![sheet(&records(1, repairs))] };
     plan_disk(run, &format!("marked {marked:?}"), grid, &map_of(grid, marked), disk, expected);
 }
 
@@ -116,10 +116,7 @@ fn lost(size: Size, array: &[u8], map: &[u8]) -> Vec<u8> {
 /// The same of rebuild with a limit.
 fn rebuild(run: &mut Run, case: &str, size: Size, array: &[u8], map: &[u8], limit: usize, expected: Outcome) {
     let lost = lost(size, array, map);
-    let mut model = model::rebuild(size, &lost, map, &OLD, limit);
-    if expected.answer == FATAL {
-        model.written[2] = expected.written[2].clone();
-    }
+    let model = model::rebuild(size, &lost, map, &OLD, limit);
     let case = format!("{case}, rebuild, limit {limit}");
     stated(run, &case, expected, || whole::rebuild(size, &lost, map, &OLD, limit), model);
 }
@@ -178,19 +175,25 @@ fn restored(run: &mut Run, case: &str, known: Known, marked: &[usize], begins: &
     tidy(run, case, &sheet(begins), Outcome::writing(0, sheet(begins)));
 }
 
-fn fatal(run: &mut Run, case: &str, known: Known, marked: &[usize], begins: &[u8]) {
+/// Plan and rebuild count these of the marked cards as lost and show this loop. Save brings back the others.
+fn fatal_but(run: &mut Run, case: &str, known: Known, marked: &[usize], left: &[usize], begins: &[u8]) {
     let Known { size, array } = known;
-    let (map, out) = (map_of(size.grid, marked), Some(marked.len()));
+    let (map, out) = (map_of(size.grid, marked), Some(left.len()));
     let kept = lost(size, array, &map);
-    plan(run, case, size.grid, &map, FATAL, marked.len(), begins);
+    plan(run, case, size.grid, &map, FATAL, left.len(), begins);
     let rebuilt = Outcome { answer: FATAL, out, written: vec![kept.clone(), map.clone(), sheet(begins)] };
     for limit in [1, marked.len(), AT_ONCE] {
         rebuild(run, case, size, array, &map, limit, rebuilt.clone());
     }
     no_repairs(run, case, known, marked);
     follow(run, case, size, array, &map, begins, Outcome::writing(OUT_OF_RANGE, kept));
-    saved(run, case, known, marked, marked);
+    saved(run, case, known, marked, left);
     tidy(run, case, &sheet(begins), Outcome::writing(OUT_OF_RANGE, sheet(begins)));
+}
+
+/// All marked cards are lost.
+fn fatal(run: &mut Run, case: &str, known: Known, marked: &[usize], begins: &[u8]) {
+    fatal_but(run, case, known, marked, marked, begins);
 }
 
 /// Cases 2 to 8. The paper gives no sheets for 5 and 7: there is one loop in 5, and 7 follows plan's order by hand.
@@ -379,6 +382,42 @@ fn wanted_in_a_loop(run: &mut Run) {
         plan_disk(run, "5 and card 8", grid, &map, disk, kept.clone());
         plan_disk(run, "2", grid, &[0; 9], disk, kept.clone());
     }
+}
+
+/// Paper 02 gives no loops: these follow its words by hand. Three ways of three cards between a row and a column are three
+/// loops of six; in the first case the loop that starts 0, 1, 9 has the higher numbers in ascending order. Of two
+/// rectangles with the same lowest card the second number decides, though the rows of the other are lower.
+fn smallest_loops(run: &mut Run) {
+    let ways = [(0, 0), (1, 17), (13, 3), (14, 18), (6, 1), (4, 16)];
+    fatal(run, "three ways", SQUARE, &[0, 1, 4, 6, 7, 9, 11, 13, 14], &shows(&ways));
+    let ways = [(1, 0), (3, 19), (15, 3), (12, 16), (4, 1), (5, 17)];
+    fatal(run, "three other ways", SQUARE, &[1, 3, 4, 5, 6, 10, 11, 12, 15], &shows(&ways));
+    let (marked, left) = ([0, 1, 2, 3, 4, 6, 8, 9], [0, 1, 2, 4, 6, 8, 9]);
+    let rectangle = shows(&[(0, 0), (1, 17), (9, 2), (8, 16)]);
+    fatal_but(run, "two rectangles", SQUARE, &marked, &left, &rectangle);
+    fatal(run, "two rectangles, wide", WIDE, &left, &rectangle);
+    fatal(run, "two rectangles, high", HIGH, &[0, 1, 2, 3, 5, 9, 10], &shows(&[(0, 0), (1, 17), (10, 3), (9, 16)]));
+    fatal(run, "two rectangles apart", WIDE, &[0, 2, 4, 6, 1, 3, 9, 11], &shows(&[(0, 0), (2, 18), (6, 1), (4, 16)]));
+    fatal(run, "all cards", A, &[0, 1, 2, 3, 4, 5, 6, 7, 8], &shows(&[(0, 0), (1, 17), (4, 1), (3, 16)]));
+    // The loop is that of the whole map, also where the wanted card is on others only.
+    let (grid, map) = (SQUARE.size.grid, map_of(SQUARE.size.grid, &marked));
+    wanted(run, grid, &marked, 3, &[(3, 19)]);
+    for card in left {
+        let written = vec![sheet(&rectangle)];
+        plan_disk(run, "two rectangles", grid, &map, card, Outcome { answer: FATAL, out: Some(7), written });
+    }
+    let (map, written) = (map_of(grid, &NINE), vec![sheet(&shows(&[(0, 0), (1, 17), (5, 1), (4, 16)]))]);
+    plan_disk(run, "the nine cards", grid, &map, 6, Outcome { answer: FATAL, out: Some(8), written });
+}
+
+/// The longest loop there is, of 32 cards, and all cards of the largest grid.
+fn largest_loops(run: &mut Run) {
+    let stair: Vec<(u8, u8)> =
+        (0..15).flat_map(|i| [(17 * i, i), (17 * i + 1, 17 + i)]).chain([(255, 15), (240, 16)]).collect();
+    let cards: Vec<usize> = stair.iter().map(|&(card, _)| card as usize).collect();
+    plan(run, "a loop of 32", LARGEST, &map_of(LARGEST, &cards), FATAL, 32, &shows(&stair));
+    let rectangle = shows(&[(0, 0), (1, 17), (17, 1), (16, 16)]);
+    plan(run, "all cards of the largest grid", LARGEST, &[1; 256], FATAL, 256, &rectangle);
 }
 
 /// The like of cases 1, 3, 4, 7, 9 and 11 on a grid of two rows and three columns.
@@ -572,6 +611,8 @@ pub fn run(run: &mut Run) {
     wanted_disks(run);
     wanted_in_a_loop(run);
     nine_cards(run);
+    smallest_loops(run);
+    largest_loops(run);
     write(run, "9", A, 0, 0, &[9, 2, 11, 4, 8, 12, 13, 10, 7]);
     wider_than_high(run);
     higher_than_wide(run);

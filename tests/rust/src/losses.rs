@@ -81,22 +81,23 @@ fn one_loop(random: &mut Random, grid: Grid) -> Vec<usize> {
     disks
 }
 
+/// Loops that share no row and no column, each through so many rows and as many columns.
+pub fn rings(random: &mut Random, grid: Grid, rows: usize, loops: usize) -> Vec<usize> {
+    let (r, c) = (shuffled(random, grid.rows + 1), shuffled(random, grid.columns + 1));
+    let row = |first: usize, i: usize| [0, 1].map(|next| grid.disk_at(r[first + i], c[first + (i + next) % rows]));
+    (0..loops).flat_map(|number| (0..rows).flat_map(move |i| row(number * rows, i))).collect()
+}
+
 /// A loop through so many rows and as many columns, and some disks more.
 pub fn ring(random: &mut Random, grid: Grid, rows: usize, more: usize) -> Vec<usize> {
-    let (r, c) = (shuffled(random, grid.rows + 1), shuffled(random, grid.columns + 1));
-    let corner = |i: usize| [grid.disk_at(r[i], c[i]), grid.disk_at(r[i], c[(i + 1) % rows])];
-    let mut disks: Vec<usize> = (0..rows).flat_map(corner).collect();
+    let mut disks = rings(random, grid, rows, 1);
     disks.extend(some(random, grid, more));
     disks
 }
 
-/// Rectangles that share no row and no column, and so many disks more, or as many as close no further loop: these are not
-/// lost, though no repair reaches those that stand between two rectangles.
-pub fn rectangles_and_more(random: &mut Random, grid: Grid, rectangles: usize, more: usize) -> Vec<usize> {
-    let (r, c) = (shuffled(random, grid.rows + 1), shuffled(random, grid.columns + 1));
+/// These disks and so many more, or as many as close no further loop.
+pub fn and_trees(random: &mut Random, grid: Grid, mut disks: Vec<usize>, more: usize) -> Vec<usize> {
     let mut equations = Equations::new(grid);
-    let corners = |i: usize| [(0, 0), (0, 1), (1, 0), (1, 1)].map(|(x, y)| grid.disk_at(r[2 * i + x], c[2 * i + y]));
-    let mut disks: Vec<usize> = (0..rectangles).flat_map(corners).collect();
     for &disk in &disks {
         equations.add(disk);
     }
@@ -104,6 +105,13 @@ pub fn rectangles_and_more(random: &mut Random, grid: Grid, rectangles: usize, m
     let others: Vec<usize> = others.filter(|&disk| equations.add(disk)).take(more).collect();
     disks.extend(others);
     disks
+}
+
+/// Rectangles that share no row and no column, and so many disks more, or as many as close no further loop: these are not
+/// lost, though no repair reaches those that stand between two rectangles.
+pub fn rectangles_and_more(random: &mut Random, grid: Grid, rectangles: usize, more: usize) -> Vec<usize> {
+    let disks = rings(random, grid, 2, rectangles);
+    and_trees(random, grid, disks, more)
 }
 
 /// Disks that grow on some stripes: each new one lies on a stripe that was reached and on one that was free.

@@ -15,6 +15,7 @@ mod cases;
 mod check;
 mod cores;
 mod equations;
+mod every_loop;
 mod exhaustive;
 mod faults;
 mod ffi;
@@ -24,6 +25,8 @@ mod guard;
 mod huge;
 mod inputs;
 mod look;
+mod loop_losses;
+mod loops;
 mod losses;
 mod model;
 mod outcome;
@@ -44,6 +47,7 @@ mod tally;
 mod tidy;
 mod turns;
 mod wanted;
+mod ways;
 mod whole;
 mod write;
 
@@ -179,6 +183,7 @@ fn gate(run: &mut Run, rounds: usize) {
     save::run(run, rounds);
     wanted::run(run, rounds);
     exhaustive::run(run, rounds);
+    loops::run(run, rounds);
     sectors::run(run, rounds);
 }
 
@@ -196,6 +201,7 @@ fn main() -> ExitCode {
         Some("maps") => {
             exhaustive::more_maps(&mut run);
             wanted::more_maps(&mut run);
+            loops::more_maps(&mut run);
         }
         Some("sets") => sets::run(&mut run),
         Some("sectors") => sectors::run(&mut run, rounds),

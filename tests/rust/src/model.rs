@@ -7,6 +7,7 @@ use crate::equations::{sums_of_survivors, Equations};
 use crate::outcome::Outcome;
 use crate::sheet::{self, Record};
 use crate::size::{Grid, Size};
+use crate::ways;
 
 /// The status of a call that refuses nothing.
 pub const SUCCESS: usize = 0;
@@ -213,6 +214,8 @@ pub fn erased_disks(map: &[u8]) -> Vec<usize> {
 
 /// A loss: the stripe equations say whether it is fatal, plan's order how it is repaired.
 struct Loss {
+    grid: Grid,
+    erased: Vec<usize>,
     fatal: bool,
     equations: Equations,
     /// The repairs that can be made, in plan's order.
@@ -234,19 +237,20 @@ impl Loss {
         assert_eq!(fatal, !lost.is_empty(), "rank and lost disks differ, {grid}, map {map:?}");
         assert!(lost.iter().all(|disk| left.contains(disk)), "a lost disk is repaired, {grid}, map {map:?}");
         assert!(repairs.len() <= grid.most_repairs(), "too many repairs, {grid}, map {map:?}");
-        Loss { fatal, equations, repairs, lost }
+        Loss { grid, erased, fatal, equations, repairs, lost }
     }
 
-    /// The status of plan, its count and its sheet. Which loop a fatal loss shows is free.
+    /// The status of plan, its count and its sheet. A fatal loss shows its smallest loop.
     fn planned(&self) -> (usize, Option<usize>, Vec<u8>) {
         if self.fatal {
-            return (FATAL, Some(self.lost.len()), sheet::ANY_LOOP.to_vec());
+            let smallest = ways::smallest(self.grid, &self.erased).expect("a fatal loss has a loop");
+            return (FATAL, Some(self.lost.len()), sheet::of_loop(&smallest));
         }
         (SUCCESS, Some(self.repairs.len()), sheet::of_repairs(&self.repairs))
     }
 }
 
-/// The repairs in plan's order and their number, or any loop and the number of lost disks.
+/// The repairs in plan's order and their number, or the smallest loop and the number of lost disks.
 pub fn plan(grid: Grid, map: &[u8], sheet: &[u8]) -> Outcome {
     let mut refusal = side_refusal(grid);
     if refusal == SUCCESS {

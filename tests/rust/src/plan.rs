@@ -1,27 +1,14 @@
-//! Plan: the repairs in its order, on a sheet that is tidy, or a loop by the paper's rule.
+//! Plan: the repairs in its order, on a sheet that is tidy, or the smallest loop.
 
-use crate::model::FATAL;
-use crate::outcome::Outcome;
-use crate::sheet::{is_loop, ANY_LOOP, SHEET};
+use crate::sheet::SHEET;
 use crate::size::{Grid, Size};
 use crate::tally::{show, Tally};
 use crate::{arguments, losses, model, tidy, whole, Run};
 
-/// The outcome of plan or rebuild, whose last buffer is the sheet. Where a fatal loss is expected and found, the loop
-/// is judged, and the sheet then stands for any loop.
-pub fn judged(grid: Grid, map: &[u8], expected: &Outcome, mut found: Outcome) -> Result<Outcome, String> {
-    if expected.answer == FATAL && found.answer == FATAL {
-        let sheet = found.written.last_mut().expect("the sheet is written");
-        is_loop(grid, map, sheet)?;
-        *sheet = ANY_LOOP.to_vec();
-    }
-    Ok(found)
-}
-
 pub fn compare(tally: &mut Tally, grid: Grid, map: &[u8], sheet: &[u8]) {
     let input = || format!("plan, {grid}, map {}, sheet {}", show(map), show(sheet));
     let expected = model::plan(grid, map, sheet);
-    tally.compare(input, &expected, || judged(grid, map, &expected, whole::plan(grid, map, sheet)?));
+    tally.compare(input, &expected, || whole::plan(grid, map, sheet));
     tidy::own_sheet(tally, &expected);
 }
 

@@ -5,15 +5,17 @@ use crate::equations::stripes_through;
 use crate::losses::map_of_bits;
 use crate::model::{erased_disks, FATAL, NOT_ERASED, SUCCESS};
 use crate::outcome::Outcome;
-use crate::sheet::{allowed, list, of_repairs, plans_order, Record, SHEET};
+use crate::sheet::{allowed, in_turn, list, of_loop, of_repairs, plans_order, Record, SHEET};
 use crate::size::Grid;
 use crate::tally::must;
 use crate::wanted::{numbers, Asked};
-use crate::{arguments, branch, ffi, whole, Run};
+use crate::{arguments, branch, every_loop, ffi, whole, Run};
 
 /// Where all maps and all numbers are tried, and how many arguments good and bad are drawn.
 const GRID: Grid = Grid::new(2, 2);
 const DRAWS: usize = 1_000;
+/// The disks of a loop that is shown in another's place.
+const FOUR: usize = 4;
 
 /// Makes a wrong outcome of the right one for a disk.
 type Spoil = fn(&Asked, usize, Outcome) -> Outcome;
@@ -58,6 +60,18 @@ fn shortened(asked: &Asked, disk: usize, right: Outcome) -> Outcome {
         return right;
     }
     asked.expected(branch::shortest, disk)
+}
+
+/// The smallest loop of four disks through the wanted one in place of the right loop, where there is one.
+fn through(asked: &Asked, disk: usize, right: Outcome) -> Outcome {
+    let mut loops: Vec<Vec<usize>> = Vec::new();
+    every_loop::each(asked.grid, &erased_disks(asked.map), FOUR, &mut |disks| {
+        loops.extend(disks.contains(&disk).then(|| disks.to_vec()));
+    });
+    match loops.iter().min_by_key(|disks| every_loop::ascending(disks)) {
+        Some(disks) => Outcome { written: vec![of_loop(&in_turn(asked.grid, disks))], ..right },
+        None => right,
+    }
 }
 
 /// Wrong lists.
@@ -110,7 +124,7 @@ const LISTS: [(&str, Spoil); 9] = [
 ];
 
 /// Wrong answers, counts and sheets.
-const ANSWERS: [(&str, Spoil); 14] = [
+const ANSWERS: [(&str, Spoil); 15] = [
     ("6 for each fatal loss", |asked, _, right| match asked.due.answer {
         FATAL if right.answer == SUCCESS => asked.due.clone(),
         _ => right,
@@ -162,6 +176,10 @@ const ANSWERS: [(&str, Spoil); 14] = [
             _ => right,
         }
     }),
+    ("with 6 a loop through the disk", |asked, disk, right| match right.answer {
+        FATAL => through(asked, disk, right),
+        _ => right,
+    }),
     ("the number in a byte", |asked, disk, right| shortened(asked, disk & 255, right)),
     ("the number in 32 bits", |asked, disk, right| shortened(asked, disk & ((1 << 32) - 1), right)),
     ("the number modulo the disks", |asked, disk, right| match right.answer {
@@ -175,7 +193,7 @@ fn found(asked: &Asked, disks: impl IntoIterator<Item = usize>, spoil: Spoil) ->
     let fails = |&disk: &usize| {
         let expected = asked.expected(branch::shortest, disk);
         let right = ffi::plan_disk(asked.grid, asked.map, asked.sheet, disk);
-        right.and_then(|right| asked.judge(&expected, &spoil(asked, disk, right))).is_err()
+        right.map_or(true, |right| spoil(asked, disk, right) != expected)
     };
     disks.into_iter().filter(fails).count()
 }

@@ -1,24 +1,14 @@
 //! Rebuild: erased blocks are restored, or the loss is fatal, or the survivors belong to no sealed array.
 
 use crate::inputs::sealed_array;
-use crate::model::FATAL;
 use crate::outcome::Outcome;
-use crate::plan::judged;
 use crate::sheet::SHEET;
-use crate::size::{Grid, Size};
+use crate::size::Size;
 use crate::tally::{show, Tally};
 use crate::{arguments, losses, model, tidy, turns, whole, Run};
 
 /// A limit that leaves nothing for a second turn.
 pub const AT_ONCE: usize = usize::MAX;
-
-/// Rebuild shows plan's loop.
-fn with_plans_sheet(grid: Grid, map: &[u8], sheet: &[u8], found: Outcome) -> Result<Outcome, String> {
-    if found.answer == FATAL && found.written.last() != whole::plan(grid, map, sheet)?.written.last() {
-        return Err("the loop is not that of plan".to_string());
-    }
-    Ok(found)
-}
 
 /// Compares one turn. What the library has answered and left is handed back, none where it touched what is not lent.
 pub fn compare(tally: &mut Tally, size: Size, array: &[u8], map: &[u8], sheet: &[u8], limit: usize) -> Option<Outcome> {
@@ -28,10 +18,7 @@ pub fn compare(tally: &mut Tally, size: Size, array: &[u8], map: &[u8], sheet: &
     };
     let expected = model::rebuild(size, array, map, sheet, limit);
     let mut left = None;
-    tally.compare(input, &expected, || {
-        let found = left.insert(whole::rebuild(size, array, map, sheet, limit)?).clone();
-        judged(size.grid, map, &expected, with_plans_sheet(size.grid, map, sheet, found)?)
-    });
+    tally.compare(input, &expected, || Ok(left.insert(whole::rebuild(size, array, map, sheet, limit)?).clone()));
     left
 }
 

@@ -5,7 +5,7 @@
 use crate::inputs::sealed_array;
 use crate::losses::{choose, map_of, rectangles, sets_up_to};
 use crate::model::FATAL;
-use crate::sheet::{is_loop, REPAIRS, SHEET};
+use crate::sheet::{LOOP, REPAIRS, SHEET};
 use crate::size::{Grid, Size};
 use crate::{cores, exhaustive, ffi, Run};
 use std::sync::atomic::{AtomicU64, Ordering};
@@ -75,6 +75,19 @@ impl Places {
         }
         Some(sheet)
     }
+
+    /// The sheet of a rectangle, the only loop of four disks, which are given in rising order: along the upper row, down,
+    /// back along the lower row, and up.
+    fn rectangle(&self, disks: &[usize]) -> [u8; SHEET] {
+        let (stripe, mut sheet) =
+            (|turn: usize, disk: usize| [self.row(disk), 16 + self.column(disk)][turn % 2], [0; SHEET]);
+        sheet[0] = LOOP;
+        for (turn, disk) in [disks[0], disks[1], disks[3], disks[2]].into_iter().enumerate() {
+            let record = [turn + 1, disk, stripe(turn, disk)].map(|number| number as u8);
+            sheet[3 * turn + 1..=3 * turn + 3].copy_from_slice(&record);
+        }
+        sheet
+    }
 }
 
 /// What plan is lent, again and again: a map and a sheet between guards.
@@ -130,29 +143,28 @@ impl Planner {
     }
 
     /// Makes the call and judges all it answers and leaves.
-    fn judge(&mut self, disks: &[usize], expected: Option<&[u8; SHEET]>) -> Result<(), String> {
+    fn judge(&mut self, disks: &[usize], due: usize, expected: &[u8; SHEET]) -> Result<(), String> {
         let answer = self.plan(disks)?;
-        let due = if expected.is_some() { 0 } else { FATAL };
         if answer != (due, disks.len()) {
             return Err(format!("answer and count are {answer:?} instead of {:?}", (due, disks.len())));
         }
         let sheet = &self.sheet[GUARD..GUARD + SHEET];
-        match expected {
-            None => is_loop(self.grid, &map_of(self.grid, disks), sheet),
-            Some(expected) if sheet == expected => Ok(()),
-            Some(_) => Err(format!("another sheet than that of plan's order: {sheet:?}")),
+        if sheet == expected {
+            return Ok(());
         }
+        Err(format!("another sheet than that of plan's order or of the rectangle: {sheet:?}"))
     }
 }
 
 fn one(run: &mut Run, planner: &mut Planner, places: &Places, sealed: &[u8], disks: &[usize]) {
     let grid = planner.grid;
-    let expected = places.repairs(disks);
+    let repairs = places.repairs(disks);
     // Two ways to say what is fatal. A rule that contradicts itself would be nothing to compare with.
-    assert_eq!(expected.is_none(), places.is_rectangle(disks), "rule and repairs differ, {grid}, disks {disks:?}");
-    let due = if expected.is_some() { 0 } else { FATAL };
+    assert_eq!(repairs.is_none(), places.is_rectangle(disks), "rule and repairs differ, {grid}, disks {disks:?}");
+    let due = if repairs.is_some() { 0 } else { FATAL };
+    let expected = repairs.unwrap_or_else(|| places.rectangle(disks));
     let input = || format!("plan, {grid}, erased disks {disks:?}");
-    run.tally.judge(input, due, || planner.judge(disks, expected.as_ref()));
+    run.tally.judge(input, due, || planner.judge(disks, due, &expected));
     if due == FATAL || run.random.one_in(SAMPLED) {
         exhaustive::loss(run, Size { grid, block: 1 }, sealed, &map_of(grid, disks));
     }

@@ -1,5 +1,5 @@
 //! Sheets by paper 01: repairs in plan's order, the chain of a sheet from elsewhere and the rule for its steps, and the
-//! rule for a loop.
+//! rule for a loop and the list of its disks. Which loop is due, paper 02 says: see every_loop.rs and ways.rs.
 
 use crate::equations::{stripes_through, STRIPES};
 use crate::size::Grid;
@@ -9,10 +9,7 @@ pub const SHEET: usize = 98;
 pub const RECORDS: usize = 32;
 
 pub const REPAIRS: u8 = 1;
-const LOOP: u8 = 2;
-
-/// Stands for every sheet that holds a loop by the paper's rule: which loop is shown is free.
-pub const ANY_LOOP: [u8; SHEET] = [LOOP; SHEET];
+pub const LOOP: u8 = 2;
 
 /// A record of a sheet: a disk and a stripe.
 pub type Record = (usize, usize);
@@ -49,17 +46,33 @@ pub fn plans_order(grid: Grid, erased: &[usize]) -> (Vec<Record>, Vec<usize>) {
     }
 }
 
-/// A repair sheet: records 1, 2, 3 in chain order and zeros elsewhere.
-pub fn of_repairs(repairs: &[Record]) -> Vec<u8> {
+/// A sheet of this kind: records 1, 2, 3 in chain order and zeros elsewhere.
+fn of_records(kind: u8, records: &[Record]) -> Vec<u8> {
     let mut sheet = vec![0; SHEET];
-    sheet[0] = REPAIRS;
-    for (i, &(disk, stripe)) in repairs.iter().enumerate() {
+    sheet[0] = kind;
+    for (i, &(disk, stripe)) in records.iter().enumerate() {
         // The number of record 1 stands in byte 1, and that of each other in the record before it.
         sheet[1 + 3 * i] = i as u8 + 1;
         sheet[2 + 3 * i] = disk as u8;
         sheet[3 + 3 * i] = stripe as u8;
     }
     sheet
+}
+
+/// A repair sheet.
+pub fn of_repairs(repairs: &[Record]) -> Vec<u8> {
+    of_records(REPAIRS, repairs)
+}
+
+/// A sheet that shows a loop.
+pub fn of_loop(records: &[Record]) -> Vec<u8> {
+    of_records(LOOP, records)
+}
+
+/// The records of a loop whose disks are given in its order: each has the stripe that it shares with the next, a row first,
+/// rows and columns in turn.
+pub fn in_turn(grid: Grid, disks: &[usize]) -> Vec<Record> {
+    disks.iter().enumerate().map(|(i, &disk)| (disk, stripes_through(grid, disk)[i % 2])).collect()
 }
 
 /// Where a record begins, by its number.

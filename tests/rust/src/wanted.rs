@@ -1,6 +1,6 @@
-//! Plan for one disk: the shortest list of repairs that ends with it, or plan's loop where no list does. On small losses the
-//! library is compared with the papers' words, by a search over sets of disks, and on all others with the rule of branches.
-//! That the two agree is compared too.
+//! Plan for one disk: the shortest list of repairs that ends with it, or where no list does plan's loop, which the disk need
+//! not be on. On small losses the library is compared with the papers' words, by a search over sets of disks, and on all
+//! others with the rule of branches. That the two agree is compared too.
 
 use crate::inputs::{grids_up_to, random_grid, SIDE_MAX};
 use crate::losses::{self, map_of, map_of_bits};
@@ -9,8 +9,8 @@ use crate::outcome::Outcome;
 use crate::random::Random;
 use crate::sheet::{plans_order, SHEET};
 use crate::size::{Grid, Size};
-use crate::tally::{must, show, Tally};
-use crate::{arguments, branch, by_hand, cores, ffi, model, plan, planted, shortest, tidy, whole, Run};
+use crate::tally::{show, Tally};
+use crate::{arguments, branch, by_hand, cores, ffi, model, planted, shortest, tidy, Run};
 
 /// Maps of a small grid that make a part.
 const MAPS: usize = 64;
@@ -22,13 +22,12 @@ const SEARCHED: usize = 50;
 /// The most disks on either branch there.
 const MOST: usize = 6;
 
-/// What is lent but for the number of the disk, and what plan makes of it: by the model, and by the library.
+/// What is lent but for the number of the disk, and what plan makes of it by the model.
 pub struct Asked<'a> {
     pub grid: Grid,
     pub map: &'a [u8],
     pub sheet: &'a [u8],
     pub due: Outcome,
-    planned: Result<Outcome, String>,
     /// The disks that plan's order leaves erased.
     left: Vec<usize>,
 }
@@ -36,12 +35,8 @@ pub struct Asked<'a> {
 impl<'a> Asked<'a> {
     pub fn new(grid: Grid, map: &'a [u8], sheet: &'a [u8]) -> Asked<'a> {
         let due = model::plan(grid, map, sheet);
-        let planned = whole::plan(grid, map, sheet).and_then(|planned| {
-            must(plan::judged(grid, map, &due, planned.clone())? == due, "plan itself is wrong")?;
-            Ok(planned)
-        });
         let left = if due.answer == FATAL { plans_order(grid, &erased_disks(map)).1 } else { Vec::new() };
-        Asked { grid, map, sheet, due, planned, left }
+        Asked { grid, map, sheet, due, left }
     }
 
     fn words(&self, disk: usize) -> String {
@@ -55,24 +50,11 @@ impl<'a> Asked<'a> {
         expected
     }
 
-    /// Judges an answer by what is expected. With 6 it is that of plan, byte for byte.
-    pub fn judge(&self, expected: &Outcome, found: &Outcome) -> Result<(), String> {
-        let due = match expected.answer {
-            FATAL => self.planned.as_ref().map_err(String::clone)?,
-            _ => expected,
-        };
-        if found == due {
-            return Ok(());
-        }
-        Err(due.difference(found))
-    }
-
     /// Compares one call. A list that is due is tidy.
     pub fn compare(&self, tally: &mut Tally, rule: Rule, disk: usize) {
         let expected = self.expected(rule, disk);
         let input = || self.words(disk);
-        let call = || ffi::plan_disk(self.grid, self.map, self.sheet, disk);
-        tally.judge(input, expected.answer, || self.judge(&expected, &call()?));
+        tally.compare(input, &expected, || ffi::plan_disk(self.grid, self.map, self.sheet, disk));
         tidy::own_sheet(tally, &expected);
     }
 
@@ -196,6 +178,12 @@ pub fn more_maps(run: &mut Run) {
 pub fn any_disk(run: &mut Run, grid: Grid, map: &[u8], sheet: &[u8]) {
     let disk = arguments::wanted(&mut run.random, grid, map);
     Asked::new(grid, map, sheet).compare(&mut run.tally, branch::shortest, disk);
+}
+
+/// Every erased disk, by the rule of branches, and one that may be none.
+pub fn each_disk(run: &mut Run, grid: Grid, map: &[u8]) {
+    let sheet = run.random.bytes(SHEET);
+    Asked::new(grid, map, &sheet).compare_each(run, branch::shortest);
 }
 
 /// The call does not see the blocks, so that each size is one more occasion for its grid.

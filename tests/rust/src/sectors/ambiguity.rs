@@ -11,11 +11,11 @@ use crate::model::{erased_disks, CONTRADICTORY, FATAL, SUCCESS};
 use crate::outcome::{Outcome, Placed};
 use crate::random::Random;
 use crate::rebuild::AT_ONCE;
-use crate::sheet::{clears, is_loop, SHEET};
+use crate::sheet::{clears, of_loop, SHEET};
 use crate::size::{Cut, Grid};
 use crate::tally::must;
 use crate::turns::repairs_of;
-use crate::{cores, Run};
+use crate::{cores, ways, Run};
 
 /// Where all maps are tried with all sealed arrays, and how many of them make a part.
 const GRID: Grid = Grid::new(2, 2);
@@ -52,13 +52,14 @@ impl Array {
         counts.into_iter().find(|&(_, count)| count > 0)
     }
 
-    /// The sheets show a loop at this position and are zero elsewhere.
+    /// The sheets show the smallest loop of this position and are zero elsewhere.
     fn judge_loop(&self, sheets: &[u8], position: usize) -> Result<(), String> {
         let marks = part(&self.bytes(self.erased), 1, self.cut.sectors(), position);
         let (own, mut others) = (position * SHEET..(position + 1) * SHEET, sheets.to_vec());
         others[own.clone()].fill(0);
         must(others.iter().all(|&byte| byte == 0), "another sheet is not zero")?;
-        is_loop(self.cut.size.grid, &marks, &sheets[own])
+        let smallest = ways::smallest(self.cut.size.grid, &erased_disks(&marks)).ok_or("there is no loop")?;
+        must(sheets[own] == of_loop(&smallest), "another loop is shown than the smallest")
     }
 
     /// The sheets list allowed repairs, after which no sector is erased.

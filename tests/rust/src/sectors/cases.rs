@@ -55,12 +55,7 @@ fn sheets(begin: [&[u8]; 2]) -> Vec<u8> {
     begin.map(|bytes| [bytes, &vec![0; SHEET - bytes.len()]].concat()).concat()
 }
 
-/// The model leaves the loop open, so that of a fatal loss it has all but the sheets.
-fn stated(run: &mut Run, case: &str, expected: Placed, library: impl FnOnce() -> FoundAt, mut model: Placed) {
-    if expected.outcome.answer == FATAL {
-        let last = model.outcome.written.len() - 1;
-        model.outcome.written[last] = expected.outcome.written[last].clone();
-    }
+fn stated(run: &mut Run, case: &str, expected: Placed, library: impl FnOnce() -> FoundAt, model: Placed) {
     let (due, judge) = (expected.outcome.answer, |found: Placed| must(found == expected, &expected.difference(&found)));
     run.tally.judge(|| format!("sectors, case {case}, the library"), due, || judge(library()?));
     run.tally.judge(|| format!("sectors, case {case}, the model"), due, || judge(model));

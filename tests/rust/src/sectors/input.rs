@@ -1,14 +1,10 @@
 //! What the calls that take sectors are lent, and each of them compared with the model on it.
 
-use super::calls::Calls;
-use super::parts::part;
 use super::positions;
-use crate::model::FATAL;
 use crate::outcome::{Outcome, Placed};
 use crate::rebuild::AT_ONCE;
-use crate::sheet::{is_loop, ANY_LOOP, SHEET};
 use crate::size::{Cut, Grid};
-use crate::tally::{must, show};
+use crate::tally::show;
 use crate::Run;
 
 /// The arguments of all calls together.
@@ -24,21 +20,12 @@ pub struct Input {
     pub disk: usize,
 }
 
-/// Judges an answer of plan or rebuild by what is expected. With 6 the sheet of the position named has to show a loop of its
-/// erased disks, and then stands for any loop.
-pub fn judge(grid: Grid, map: &[u8], expected: &Placed, mut found: Placed) -> Result<(), String> {
-    let both = expected.outcome.answer == FATAL && found.outcome.answer == FATAL;
-    if let Some(position) = expected.position.filter(|_| both && found.position == expected.position) {
-        let sectors = map.len() / grid.disks();
-        let sheets = found.outcome.written.last_mut().expect("the sheets are written");
-        let sheet = &mut sheets[position * SHEET..(position + 1) * SHEET];
-        is_loop(grid, &part(map, 1, sectors, position), sheet)?;
-        sheet.copy_from_slice(&ANY_LOOP);
-    }
-    if found == *expected {
+/// Judges an answer of plan or rebuild by what is expected.
+pub fn judge(expected: &Placed, found: &Placed) -> Result<(), String> {
+    if found == expected {
         return Ok(());
     }
-    Err(expected.difference(&found))
+    Err(expected.difference(found))
 }
 
 impl Input {
@@ -60,36 +47,19 @@ impl Input {
         let input = || format!("plan, {}, {sectors} sectors, map {}, sheets {}", self.grid(), show(map), show(sheets));
         let expected = positions::plan(self.grid(), *sectors, map, sheets);
         let call = run.calls.plan;
-        run.tally.judge(input, expected.outcome.answer, || {
-            let found = call(self.grid(), *sectors, map, sheets)?;
-            judge(self.grid(), map, &expected, found)
-        });
-    }
-
-    /// With 6 rebuild says and shows what plan does.
-    fn as_plan(&self, calls: &Calls, found: &Placed) -> Result<(), String> {
-        if found.outcome.answer != FATAL {
-            return Ok(());
-        }
-        let planned = (calls.plan)(self.grid(), self.cut.sectors(), &self.map, &self.sheets)?;
-        let numbers = (planned.outcome.out, planned.position) == (found.outcome.out, found.position);
-        let sheets = planned.outcome.written.last() == found.outcome.written.last();
-        must(numbers && sheets, "with 6 the count, the position or the sheets are not those of plan")
+        run.tally
+            .judge(input, expected.outcome.answer, || judge(&expected, &call(self.grid(), *sectors, map, sheets)?));
     }
 
     /// Compares one turn. What was answered and left is handed back, none where something not lent was touched.
     pub fn rebuild(&self, run: &mut Run) -> Option<Placed> {
         let Input { cut, array, map, sheets, limit, .. } = self;
         let expected = positions::rebuild(*cut, array, map, sheets, *limit);
-        let (calls, mut left) = (run.calls, None);
+        let (call, mut left) = (run.calls.rebuild, None);
         run.tally.judge(
             || self.words(&format!("rebuild, limit {limit}")),
             expected.outcome.answer,
-            || {
-                let found = left.insert((calls.rebuild)(*cut, array, map, sheets, *limit)?);
-                judge(self.grid(), map, &expected, found.clone())?;
-                self.as_plan(&calls, found)
-            },
+            || judge(&expected, left.insert(call(*cut, array, map, sheets, *limit)?)),
         );
         left
     }

@@ -9,8 +9,8 @@ use crate::losses::{self, forget, shuffled};
 use crate::model::erased_disks;
 use crate::random::Random;
 use crate::sheet::SHEET;
-use crate::sheets;
 use crate::size::{Cut, Grid, Size};
+use crate::{loop_losses, sheets};
 
 #[derive(Clone, Copy, PartialEq, Eq)]
 pub enum Loss {
@@ -40,11 +40,13 @@ pub fn kinds_of(set: usize) -> Vec<Kind> {
     KINDS.into_iter().enumerate().filter(|&(bit, _)| set >> bit & 1 == 1).map(|(_, kind)| kind).collect()
 }
 
-/// The map of a loss for one position. Of the kinds of losses these are restorable and fatal for sure.
+/// The map of a loss for one position. Of the kinds of losses these are restorable and fatal for sure. Every other fatal loss
+/// is one whose smallest loop is hard to tell.
 fn marks(random: &mut Random, grid: Grid, loss: Loss) -> Vec<u8> {
     let kind = match loss {
         Loss::None => losses::NONE,
         Loss::Restorable => random.between(1, 4),
+        Loss::Fatal if random.one_in(2) => return loop_losses::fatal(random, grid),
         Loss::Fatal => random.pick(&[5, 6, 8, 9]),
     };
     losses::map(random, grid, kind)

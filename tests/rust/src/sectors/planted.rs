@@ -89,10 +89,21 @@ const POSITIONS: [(&str, Calls); 11] = [
 ];
 
 /// What is said of all positions taken for what is said of one, or the other way around.
-const TOGETHER: [(&str, Calls); 16] = [
+const TOGETHER: [(&str, Calls); 18] = [
     ("the other positions repaired although one is fatal", Calls { rebuild: wrong_turns::others_repaired, ..LIBRARY }),
     ("the other positions listed although one is fatal", Calls { plan: wrong::others_listed, ..LIBRARY }),
     ("the lost disks of all positions in the count of 6", Calls { plan: wrong::all_counted, ..LIBRARY }),
+    (
+        "the loop of the last position",
+        Calls {
+            plan: |grid, n, map, sheets| wrong::shown_for(grid, n, map, sheets, |maps| maps[maps.len() - 1].clone()),
+            ..LIBRARY
+        },
+    ),
+    (
+        "a loop of disks that are erased at any position",
+        Calls { plan: |grid, n, map, sheets| wrong::shown_for(grid, n, map, sheets, wrong::at_any), ..LIBRARY },
+    ),
     (
         "7 zeroes one position only, rebuild",
         Calls {

@@ -8,7 +8,7 @@ use crate::model::{
 };
 use crate::outcome::{Outcome, Placed};
 use crate::rebuild::AT_ONCE;
-use crate::sheet::{of_repairs, plans_order, Record, ANY_LOOP, SHEET};
+use crate::sheet::{of_repairs, plans_order, Record, SHEET};
 use crate::size::{Cut, Grid};
 
 /// The status of a sector length that does not divide the block, and for plan of a number of sectors out of range.
@@ -90,7 +90,8 @@ fn written(outcomes: &[Outcome], buffer: usize) -> Vec<Vec<u8>> {
     outcomes.iter().map(|outcome| outcome.written[buffer].clone()).collect()
 }
 
-/// A fatal position refuses the whole plan: the lowest is named, its sheet shows the loop and the other sheets are zero.
+/// A fatal position refuses the whole plan: the lowest is named, its sheet shows its smallest loop and the other sheets are
+/// zero.
 pub fn plan(grid: Grid, sectors: usize, map: &[u8], sheets: &[u8]) -> Placed {
     let refusal = plan_refusal(grid, sectors, map, sheets);
     if refusal != SUCCESS {
@@ -103,7 +104,7 @@ pub fn plan(grid: Grid, sectors: usize, map: &[u8], sheets: &[u8]) -> Placed {
         return Placed::nowhere(Outcome { answer: SUCCESS, out: summed(&planned), written });
     };
     let mut shown = vec![0; SHEET * sectors];
-    shown[position * SHEET..(position + 1) * SHEET].copy_from_slice(&ANY_LOOP);
+    shown[position * SHEET..(position + 1) * SHEET].copy_from_slice(&planned[position].written[0]);
     let outcome = Outcome { answer: FATAL, out: planned[position].out, written: vec![shown] };
     Placed { outcome, position: Some(position) }
 }

@@ -34,12 +34,12 @@ impl Due {
         Due { without, with, answer }
     }
 
-    /// Both agree, and the library with them, but for the choice of a loop.
+    /// Both agree, and the library with them.
     fn compare(&self, run: &mut Run, input: &Input, call: &str, library: impl FnOnce() -> FoundAt) {
         let words = || input.words(&format!("{call}, a single sector, limit {}, disk {}", input.limit, input.disk));
         run.tally.judge(words, self.answer, || {
             must(self.with == self.without, "the model with sectors says something else")?;
-            judge(input.grid(), &input.map, &self.without, library()?)
+            judge(&self.without, &library()?)
         });
     }
 }

@@ -221,6 +221,23 @@ pub fn others_listed(grid: Grid, sectors: usize, map: &[u8], sheets: &[u8]) -> F
     Ok(found)
 }
 
+/// With 6 another sheet of the position named: plan's for this map of one position, if it is fatal.
+pub fn shown_for(grid: Grid, sectors: usize, map: &[u8], sheets: &[u8], other: fn(&[Vec<u8>]) -> Vec<u8>) -> FoundAt {
+    let mut found = ffi::plan(grid, sectors, map, sheets)?;
+    if let Some(position) = found.position {
+        let one = ffi::plan(grid, 1, &other(&parts(map, 1, sectors)), &[0; SHEET])?.outcome;
+        if one.answer == FATAL {
+            found.outcome.written[0][position * SHEET..(position + 1) * SHEET].copy_from_slice(&one.written[0]);
+        }
+    }
+    Ok(found)
+}
+
+/// The disks that are erased at any position.
+pub fn at_any(maps: &[Vec<u8>]) -> Vec<u8> {
+    (0..maps[0].len()).map(|disk| u8::from(maps.iter().any(|marks| marks[disk] == 1))).collect()
+}
+
 /// With 6 the lost disks of all positions in the count.
 pub fn all_counted(grid: Grid, sectors: usize, map: &[u8], sheets: &[u8]) -> FoundAt {
     let mut found = ffi::plan(grid, sectors, map, sheets)?;
