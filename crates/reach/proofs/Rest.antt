@@ -11,7 +11,7 @@ use lib.Dec.{eqb}
 use lib.ListN.{length, getD, set, length-set}
 use lib.Seq.{getD-set-same, getD-set-other}
 use Rattle.stripes.proofs.Fold.{by-cases}
-use Rattle.reach.specs.Reached.{has, some, nextIn, wordStripes}
+use Rattle.reach.specs.Reached.{has, some, wordStripes}
 use Rattle.reach.proofs.Words.{Without, has-none, has-or}
 use Rattle.reach.proofs.Steps.{some-ext, some-none, some-at, some-or}
 use Rattle.reach.proofs.Search.{beside}
@@ -42,28 +42,29 @@ beside-out {w} {s} {left} out next t =
         (λ _ e. some-none wordStripes (λ x. elsewhere x e)) refl
 
 -- What the loop has gathered, and what is next to the stripes that are left, is all that is next to the set.
-pub record Gathered (near : List ℕ) (w all rest : ℕ) : Type 0 where
+pub record Gathered (next : ℕ → ℕ → Bool) (w all rest : ℕ) : Type 0 where
   pub fits : rest < 2 ^ 64
-  pub sum : (t : ℕ) → (has all t || beside (nextIn near) rest t) ≡ beside (nextIn near) w t
+  pub sum : (t : ℕ) → (has all t || beside next rest t) ≡ beside next w t
 
-pub gathered-none : (near : List ℕ) (w : ℕ) → w < 2 ^ 64 → Gathered near w 0 w
-gathered-none near w fits = record { fits = fits; sum = λ t. ap (λ (b : Bool). b || beside (nextIn near) w t) (has-none t) }
+pub gathered-none : (next : ℕ → ℕ → Bool) (w : ℕ) → w < 2 ^ 64 → Gathered next w 0 w
+gathered-none next w fits = record { fits = fits; sum = λ t. ap (λ (b : Bool). b || beside next w t) (has-none t) }
 
-module _ {near : List ℕ} {w all rest : ℕ} (gathered : Gathered near w all rest) where
-  pub gathered-next : {s left : ℕ} → Without rest s left → Gathered near w (bitOr all (getD near s 0)) left
-  unfolding nextIn
-  gathered-next {s} {left} out =
+module _ {next : ℕ → ℕ → Bool} {w all rest : ℕ} (gathered : Gathered next w all rest) where
+  -- A turn takes in a word that has what is next to its stripe.
+  pub gathered-next : {s left : ℕ} → Without rest s left → (word : ℕ) → ((t : ℕ) → has word t ≡ next s t)
+      → Gathered next w (bitOr all word) left
+  gathered-next {s} {left} out word is =
       record {
         fits = let less = out .less in let fits = gathered .fits in omega arith;
         sum = λ t.
-            ap (λ (b : Bool). b || beside (nextIn near) left t) (has-or all (getD near s 0) t)
-            ∙ or-assoc (has all t) (nextIn near s t) (beside (nextIn near) left t)
-            ∙ ap (λ (b : Bool). has all t || b) (sym (beside-out out (nextIn near) t)) ∙ gathered .sum t;
+            ap (λ (b : Bool). b || beside next left t) (has-or all word t ∙ ap (λ (b : Bool). has all t || b) (is t))
+            ∙ or-assoc (has all t) (next s t) (beside next left t)
+            ∙ ap (λ (b : Bool). has all t || b) (sym (beside-out out next t)) ∙ gathered .sum t;
       }
 
-  pub gathered-all : rest ≡ 0 → (t : ℕ) → has all t ≡ beside (nextIn near) w t
+  pub gathered-all : rest ≡ 0 → (t : ℕ) → has all t ≡ beside next w t
   gathered-all end t =
-      let none : beside (nextIn near) rest t ≡ false = some-none wordStripes (λ s. rw (end, has-none)) in
+      let none : beside next rest t ≡ false = some-none wordStripes (λ s. rw (end, has-none)) in
       sym (ap (λ (b : Bool). has all t || b) none ∙ or-false (has all t)) ∙ gathered .sum t
 
 -- ---- a table that gets a level at each stripe of a set

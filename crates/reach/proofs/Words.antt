@@ -2,15 +2,17 @@
 -- Assumes nothing.
 use mathlib.Core.Path.{_≡_, refl, sym, _∙_, ap, ap₂}
 use mathlib.Core.Bool.{Bool, true, false, cond, not, _&&_, _||_}
+use mathlib.Core.Logic.{⊎-elim}
 use Prim.Native.Nat.{ℕ, zero, suc, _+_, _*_, _-_, _/_, _%_, _^_, _<_}
-use native.Mathlib.Nat.{mod-lt, mod-self, mul-assoc, suc-mul, pow-suc, pow-succ', add-zero, zero-mul, zero-add}
+use native.Mathlib.Nat.{div-eq-of-lt, mod-lt, mod-self, mul-assoc, suc-mul, pow-suc, pow-succ', add-zero, zero-mul, zero-add}
 use native.Mathlib.Omega.{arith}
 use borrow.Author.Tests.{eqb-true, eqb-false, eq-eqb}
-use lib.Bits.{bitAnd, bitOr, bitXor, and-le-r, and-self, and-mask, and-block, xor-self, xor-block, xor-zero-r}
+use lib.Bits.{bitAnd, bitOr, bitXor, and-le-r, and-self, and-mask, and-block, and-shr, and-mod, xor-self, xor-block, xor-zero-r}
 use lib.Count.{trailingZeros, under}
 use lib.Dec.{eqb}
-use lib.Pow.{pow-pos, pow-lt, shl-shr}
+use lib.Pow.{pow-pos, pow-mono, pow-lt, shl-shr}
 use Rattle.stripes.specs.Fold.{_⊕_, bit}
+use Rattle.stripes.proofs.Fold.{lt-or-le}
 use Rattle.stripes.proofs.Digits.{digit, digit-none, digit-one, digit-or, digit-⊕}
 use Rattle.reach.specs.Reached.{has}
 
@@ -34,7 +36,7 @@ has-by : (set t : ℕ) (b : Bool) → digit set t ≡ bit b → has set t ≡ b
 unfolding has
 has-by set t b e = ap (λ (x : ℕ). eqb x 1) e ∙ bit-is b
 
--- ---- the empty set, a set of one stripe, and two sets together
+-- ---- the empty set, a set of one stripe, two sets together, and what two sets share
 pub has-none : (t : ℕ) → has 0 t ≡ false
 unfolding bit
 has-none t = has-by 0 t false (digit-none t)
@@ -47,6 +49,19 @@ unfolding bit
 has-or a b t = has-by (bitOr a b) t _ (digit-or a b t ∙ ap₂ bitOr (digit-has a t) (digit-has b t) ∙ both (has a t) (has b t))
   where
     both : (x y : Bool) → bitOr (bit x) (bit y) ≡ bit (x || y)
+    both true true = refl
+    both true false = refl
+    both false true = refl
+    both false false = refl
+
+pub has-and : (a b t : ℕ) → has (bitAnd a b) t ≡ (has a t && has b t)
+unfolding bit
+has-and a b t =
+    has-by (bitAnd a b) t _
+    (ap (λ (x : ℕ). x % 2) (and-shr a b t) ∙ and-mod (a / 2 ^ t) (b / 2 ^ t) 1 ∙ ap₂ bitAnd (digit-has a t) (digit-has b t)
+    ∙ both (has a t) (has b t))
+  where
+    both : (x y : Bool) → bitAnd (bit x) (bit y) ≡ bit (x && y)
     both true true = refl
     both true false = refl
     both false true = refl
@@ -70,6 +85,18 @@ has-without a b t = has-xor (bitOr a b) b t ∙ ap (λ (x : Bool). cond x (not (
     only true y = refl
     only false true = refl
     only false false = refl
+
+-- A word has room for no more stripes than it has digits.
+pub has-room : (set t : ℕ) → set < 2 ^ 64 → has set t ≡ true → t < 64
+unfolding has
+has-room set t fits h =
+    ⊎-elim (λ l. l)
+    (λ le.
+    let wide = pow-mono {i = 64} {j = t} le in
+    let none : set / 2 ^ t ≡ 0 = div-eq-of-lt (omega arith) in
+    let digit = eqb-true (set / 2 ^ t % 2) 1 h in
+    absurd (omega arith))
+    (lt-or-le t 64)
 
 -- ---- the lowest stripe of a set
 -- One of a number's w digits is its lowest that is 1: below it are zeros, and above it is whatever there is.

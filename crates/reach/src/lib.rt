@@ -4,7 +4,7 @@ ghost use mathlib.Core.Path.{_≡_};
 ghost use mathlib.Core.Bool.{_&&_, not, cond};
 ghost use Prim.Native.Nat.{ℕ, _+_, _^_, _≤_, _<_};
 ghost use lib.ListN.{length, getD};
-ghost use Rattle.reach.specs.Reached.{has as Reached·has, some, nextIn, stepsTo, wordStripes};
+ghost use Rattle.reach.specs.Reached.{has as Reached·has, some, reached, nextIn, stepsTo, wordStripes};
 
 // The stripes that a word, and a table of words, has room for.
 pub const STRIPES: usize = 64;
@@ -78,6 +78,27 @@ pub fn distance(near: &[u64], from: usize, to: usize, limit: usize) -> usize
         seen |= front;
     }
     limit + 1
+}
+
+// The set of the stripes that at most `steps` steps lead to. It is done as soon as a step finds nothing.
+pub fn ball(near: &[u64], from: usize, steps: usize) -> u64
+    requires { ⌜ wordStripes ≤ length (now near) ⌝ }
+    requires { ⌜ from < wordStripes ⌝ }
+    requires { ⌜ steps < wordStripes ⌝ }
+    ensures { λ r. ⌜ ((t : ℕ) → Reached·has r t ≡ reached (nextIn (now (near .entry))) wordStripes from steps t) ⌝ }
+{
+    let mut inside = one(from);
+    let mut front = inside;
+    let mut taken = 0;
+    while taken < steps {
+        front = fresh(near, front, inside);
+        if front == 0 {
+            return inside;
+        }
+        inside |= front;
+        taken += 1;
+    }
+    inside
 }
 
 // Every stripe has one level.

@@ -11,10 +11,12 @@ use borrow.Author.Tests.{ltb-true, lt-ltb, le-ltb, eq-eqb, eqb-true, eqb-false}
 use lib.Dec.{eqb, ltb}
 use Rattle.stripes.specs.Fold.{gate, count}
 use Rattle.stripes.specs.System.{Layout, TwoStripes}
-use Rattle.stripes.specs.Erased.{below}
+use Rattle.stripes.specs.Erased.{below, without}
 use Rattle.stripes.specs.Joined.{crosses}
 use Rattle.stripes.specs.Smallest.{price}
-use Rattle.stripes.proofs.Fold.{by-cases, and-left, and-right, and-both, same-test, fails-with, count-ext}
+use Rattle.stripes.proofs.Fold.{by-cases, and-left, and-right, and-both, same-test, fails-with, count-ext, count-mono}
+use Rattle.stripes.proofs.Erased.{count-less}
+use Rattle.stripes.proofs.Peel.{without-other}
 use Rattle.stripes.proofs.Sums.{sumOver-ext}
 use Rattle.stripes.proofs.Ends.{Ends, ends-wider}
 use Rattle.stripes.proofs.Price.{cost, digits-first, cheaper-first}
@@ -80,9 +82,27 @@ module _ (L : Layout) (two : TwoStripes L) (room : L .stripeBound ≤ wordStripe
   pub chosen-end : {c set : ℕ → Bool} {n : ℕ} → Chosen L e s t k (W .way .set) c set n → L .disks ≤ n → (i : ℕ) → i < L .disks → set i ≡ W .way .set i
   chosen-end {c} {set} {n} h le i l = h .chosen i l ∙ ap (λ (b : Bool). b && W .way .set i) (lt-ltb i n (omega arith))
 
+  -- It is as soon as k disks are chosen: these are disks of the way, which has no more.
+  pub chosen-full : {c set : ℕ → Bool} {n : ℕ} → Chosen L e s t k (W .way .set) c set n → k ≤ count (L .disks) set
+      → (i : ℕ) → i < L .disks → set i ≡ W .way .set i
+  chosen-full {c} {set} {n} h full i l =
+      same-test (set i) (W .way .set i) (on-way i l)
+      (λ q.
+      by-cases (λ (b : Bool). set i ≡ b → b ≡ true) (set i) (λ _ r. refl)
+      (λ _ r.
+      let fewer : count (L .disks) set ≤ count (L .disks) (without (W .way .set) i) =
+      count-mono (L .disks) (λ j w p. without-other (W .way .set) i j (λ same. true≢false (sym p ∙ ap set same ∙ r)) ∙ on-way j w p) in
+      let one = count-less (L .disks) (W .way .set) i l q in
+      let few = W .few in
+      absurd (omega arith))
+      refl)
+    where
+      on-way : (j : ℕ) → j < L .disks → set j ≡ true → W .way .set j ≡ true
+      on-way j w p = and-right (ltb j n) (W .way .set j) (sym (h .chosen j w) ∙ p)
+
   module _ {c set : ℕ → Bool} {d : ℕ} (h : Chosen L e s t k (W .way .set) c set d) where
     -- The disks that are left do not lead there by fewer either, and the cheapest way is over them.
-    left-far : Far L c s k t
+    pub left-far : Far L c s k t
     left-far j less = fails-with (leads L c s j t) (leads L e s j t) (leads-wider L two room c e (h .sub) s j t (W .last)) (W .far j less)
 
     left-way : (g : Ends L c s t) × ((i : ℕ) → i < L .disks → g .set i ≡ W .way .set i)

@@ -20,22 +20,22 @@ use Rattle.smallest.specs.Leads.{meets, leads, disksTo}
 -- ---- tests
 
 -- One of two tests holds.
-or-which : (a b : Bool) → (a || b) ≡ true → (a ≡ true) ⊎ (b ≡ true)
+pub or-which : (a b : Bool) → (a || b) ≡ true → (a ≡ true) ⊎ (b ≡ true)
 or-which true b h = inl refl
 or-which false b h = inr h
 
-or-first : (a b : Bool) → a ≡ true → (a || b) ≡ true
+pub or-first : (a b : Bool) → a ≡ true → (a || b) ≡ true
 or-first a b h = ap (λ (x : Bool). x || b) h
 
-or-second : (a b : Bool) → b ≡ true → (a || b) ≡ true
+pub or-second : (a b : Bool) → b ≡ true → (a || b) ≡ true
 or-second a b h = ap (λ (x : Bool). a || x) h ∙ or-true a
 
 -- A test that holds of some number.
-some-found : (n : ℕ) (t : ℕ → Bool) → some n t ≡ true → (i : ℕ) × (i < n) × (t i ≡ true)
+pub some-found : (n : ℕ) (t : ℕ → Bool) → some n t ≡ true → (i : ℕ) × (i < n) × (t i ≡ true)
 unfolding some
 some-found n t h = count-found n t (ltb-true 0 (count n t) h)
 
-some-of : (n : ℕ) (t : ℕ → Bool) (i : ℕ) → i < n → t i ≡ true → some n t ≡ true
+pub some-of : (n : ℕ) (t : ℕ → Bool) (i : ℕ) → i < n → t i ≡ true → some n t ≡ true
 unfolding some
 some-of n t i l h = lt-ltb 0 (count n t) (count-some n t i l h)
 

@@ -1,7 +1,7 @@
--- What the table of levels says of the disks: which are on a shortest way, and which are left where one of them is chosen.
+-- What the table of levels says of the disks: which are on a shortest way.
 -- Assumes nothing.
-use mathlib.Core.Path.{_≡_, refl, sym, _∙_, ap, ap₂, fun-ext}
-use mathlib.Core.Bool.{Bool, true, false, cond, not, _&&_, _||_, Bool·beq}
+use mathlib.Core.Path.{_≡_, refl, sym, _∙_, ap, ap₂}
+use mathlib.Core.Bool.{Bool, true, false, cond}
 use mathlib.Core.List.{List, _++_}
 use Prim.Native.Nat.{ℕ, _+_, _≤_, _<_}
 use native.Mathlib.Omega.{arith}
@@ -10,15 +10,12 @@ use lib.Dec.{eqb, leb}
 use lib.ListN.{length, getD, take, List·getD-append}
 use lib.Seq.{take-at, getD-append-add}
 use Rattle.stripes.specs.System.{Layout, TwoStripes, firstOf, otherThan, lower, higher}
-use Rattle.stripes.specs.Joined.{crosses}
 use Rattle.stripes.proofs.Fold.{bit-zero}
-use Rattle.stripes.proofs.Erased.{is-inside}
-use Rattle.stripes.proofs.Joined.{lower-bound, higher-bound}
 use Rattle.tally.proofs.Counted.{Crossed}
 use Rattle.reach.specs.Reached.{stepsTo, nextIn, wordStripes}
 use Rattle.smallest.specs.Leads.{Near, disksTo}
-use Rattle.smallest.specs.Ways.{Levelled, levelIn, acrossIn, keptIn, wayLevel, within, kept}
-use Rattle.smallest.proofs.Neighbours.{near-steps}
+use Rattle.smallest.specs.Ways.{Levelled, levelIn, wayLevel}
+use Rattle.smallest.proofs.Neighbours.{Apart, near-steps, near-own}
 
 -- ---- what is read for a disk on two stripes
 
@@ -26,32 +23,26 @@ use Rattle.smallest.proofs.Neighbours.{near-steps}
 abbrev pub wayBy : List ℕ → (x y : ℕ) → ℕ
 wayBy levels x y = getD levels x 0 + 1 + getD levels (wordStripes + y) 0
 
--- The level is that of the lower stripe where the way over it has no more than k disks, or else that of the higher one, or k.
-module _ (levels : List ℕ) (low high k : ℕ) where
-  pub level-first : wayBy levels low high ≤ k → getD levels low 0 ≡ levelIn levels low high k
+module _ (near levels : List ℕ) (low high k : ℕ) where
+  -- A disk that is not in the table of neighbours is on no way.
+  pub level-absent : nextIn near low high ≡ false → k ≡ levelIn near levels low high k
   unfolding levelIn
-  level-first h = rw (le-leb (wayBy levels low high) k h)
+  level-absent h = rw h
 
-  module _ (long : k < wayBy levels low high) where
-    pub level-second : wayBy levels high low ≤ k → getD levels high 0 ≡ levelIn levels low high k
+  -- The level is that of the lower stripe where the way over it has no more than k disks, or else that of the higher one, or k.
+  module _ (held : nextIn near low high ≡ true) where
+    pub level-first : wayBy levels low high ≤ k → getD levels low 0 ≡ levelIn near levels low high k
     unfolding levelIn
-    level-second h = rw (lt-leb (wayBy levels low high) k long, le-leb (wayBy levels high low) k h)
+    level-first h = rw (held, le-leb (wayBy levels low high) k h)
 
-    pub level-none : k < wayBy levels high low → k ≡ levelIn levels low high k
-    unfolding levelIn
-    level-none h = rw (lt-leb (wayBy levels low high) k long, lt-leb (wayBy levels high low) k h)
+    module _ (long : k < wayBy levels low high) where
+      pub level-second : wayBy levels high low ≤ k → getD levels high 0 ≡ levelIn near levels low high k
+      unfolding levelIn
+      level-second h = rw (held, lt-leb (wayBy levels low high) k long, le-leb (wayBy levels high low) k h)
 
--- Just one of two tests holds if they differ.
-pub across-is : (levels : List ℕ) (low high j : ℕ)
-    → not (Bool·beq (leb (getD levels low 0) j) (leb (getD levels high 0) j)) ≡ acrossIn levels low high j
-unfolding acrossIn
-across-is levels low high j = differ (leb (getD levels low 0) j) (leb (getD levels high 0) j)
-  where
-    differ : (a b : Bool) → not (Bool·beq a b) ≡ cond a (not b) b
-    differ true true = refl
-    differ true false = refl
-    differ false true = refl
-    differ false false = refl
+      pub level-none : k < wayBy levels high low → k ≡ levelIn near levels low high k
+      unfolding levelIn
+      level-none h = rw (held, lt-leb (wayBy levels low high) k long, lt-leb (wayBy levels high low) k h)
 
 -- The table is filled in two parts.
 pub levelled-both : {near : List ℕ} {s t k : ℕ} (a b old rest : List ℕ) → length a ≡ wordStripes
@@ -72,7 +63,7 @@ levelled-both a b old rest long here wide there room =
 
 -- ---- what that says of the disks
 
--- The stripes of a disk, as the layout lists them; and whether it leads out of those of a level.
+-- The stripes of a disk, as the layout lists them.
 module _ {L : Layout} {d low high : ℕ} (x : Crossed L d low high) where
   pub lower-low : lower L d ≡ low
   unfolding firstOf
@@ -84,21 +75,11 @@ module _ {L : Layout} {d low high : ℕ} (x : Crossed L d low high) where
       ap₂ otherThan lower-low (x .listed)
       ∙ ap₂ (λ (a b : Bool). cond a (cond b 0 high) low) (eq-eqb low low refl) (bit-zero (eqb high low) (x .apart))
 
-  pub across-in : (levels : List ℕ) (j : ℕ) → acrossIn levels low high j ≡ crosses L (λ y. leb (getD levels y 0) j) d
-  unfolding acrossIn crosses
-  across-in levels j =
-      sym (ap₂ (λ (a b : ℕ). cond (leb (getD levels a 0) j) (not (leb (getD levels b 0) j)) (leb (getD levels b 0) j)) lower-low higher-high)
-
 -- The level depends on four numbers only.
 levels-same : (k : ℕ) {a a₁ b b₁ e e₁ f f₁ : ℕ} → a ≡ a₁ → b ≡ b₁ → e ≡ e₁ → f ≡ f₁
     → cond (leb (a + 1 + b) k) a (cond (leb (e + 1 + f) k) e k) ≡ cond (leb (a₁ + 1 + b₁) k) a₁ (cond (leb (e₁ + 1 + f₁) k) e₁ k)
 levels-same k p q u v =
     cc (ap₂ (λ (a b : ℕ). leb (a + 1 + b) k) p q, ap₂ (λ (e f : ℕ). leb (e + 1 + f) k) u v)
-
--- Where the first of two tests fails, the second does not matter.
-and-same : (a : Bool) {b e : Bool} → (a ≡ true → b ≡ e) → (a && b) ≡ (a && e)
-and-same true h = h refl
-and-same false h = refl
 
 -- The levels are how many disks lead to a stripe.
 module _ (L : Layout) {c : ℕ → Bool} {near levels : List ℕ} {s t k : ℕ} (n : Near L c near) (v : Levelled near s t k levels)
@@ -109,22 +90,13 @@ module _ (L : Layout) {c : ℕ → Bool} {near levels : List ℕ} {s t k : ℕ} 
   level-there : (x : ℕ) → x < L .stripeBound → getD levels (wordStripes + x) 0 ≡ disksTo L c t k x
   level-there x l = v .there x (omega arith) ∙ near-steps L n t k x
 
-  -- So what is read for a disk is its place on a shortest way,
-  pub level-in : {d low high : ℕ} → Crossed L d low high → levelIn levels low high k ≡ wayLevel L c s t k d
+  -- So what is read for a disk is its place on a shortest way, where c has it.
+  pub level-in : TwoStripes L → Apart L → {d low high : ℕ} → Crossed L d low high
+      → levelIn near levels low high k ≡ cond (c d) (wayLevel L c s t k d) k
   unfolding levelIn wayLevel
-  level-in {d} {low} {high} x =
-      levels-same k (level-here low (x .lowBound) ∙ ap (disksTo L c s k) (sym (lower-low x)))
+  level-in two apart {d} {low} {high} x =
+      ap₂ (λ (b : Bool) (j : ℕ). cond b j k) (near-own L two apart room n x)
+      (levels-same k (level-here low (x .lowBound) ∙ ap (disksTo L c s k) (sym (lower-low x)))
       (level-there high (x .highBound) ∙ ap (disksTo L c t k) (sym (higher-high x)))
       (level-here high (x .highBound) ∙ ap (disksTo L c s k) (sym (higher-high x)))
-      (level-there low (x .lowBound) ∙ ap (disksTo L c t k) (sym (lower-low x)))
-
--- and the disks that are left are those that are kept where one is chosen.
-pub kept-in : (L : Layout) → TwoStripes L → {c : ℕ → Bool} {near levels : List ℕ} {s t k : ℕ} → Near L c near → Levelled near s t k levels
-    → L .stripeBound ≤ wordStripes → ((i : ℕ) → L .disks ≤ i → c i ≡ false) → (j d : ℕ) → keptIn L levels j d c ≡ kept L c s k j d
-unfolding keptIn kept crosses within
-kept-in L two {c} n v room none j d =
-    fun-ext (λ i.
-    and-same (c i) (λ h.
-    let inside = is-inside (L .disks) c none i h in
-    ap₂ (λ (a b : ℕ). eqb i d || not (cond (leb a j) (not (leb b j)) (leb b j)))
-    (level-here L n v room (lower L i) (lower-bound L two i inside)) (level-here L n v room (higher L i) (higher-bound L two i inside))))
+      (level-there low (x .lowBound) ∙ ap (disksTo L c t k) (sym (lower-low x))))

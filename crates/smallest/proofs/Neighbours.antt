@@ -26,7 +26,7 @@ use Rattle.tally.proofs.Counted.{Crossed}
 use Rattle.reach.specs.Reached.{has, some, reached, stepsTo, nextIn, wordStripes}
 use Rattle.reach.proofs.Steps.{some-none}
 use Rattle.reach.proofs.Words.{has-none, has-one, has-xor}
-use Rattle.smallest.specs.Leads.{meets, disksTo, Near, toggled}
+use Rattle.smallest.specs.Leads.{meets, leads, disksTo, Near, toggled}
 use Rattle.smallest.proofs.Leads.{Met, meets-is, meets-of}
 
 -- ---- disks that lie on the same two stripes
@@ -45,12 +45,12 @@ grid-apart {z} {base} n d i l w same =
     disk-is z d ∙ (cc) ∙ sym (disk-is z i)
 
 -- Disk d lies on stripe s, and on stripe t besides.
-abbrev over : Layout → (d s t : ℕ) → Bool
+abbrev pub over : Layout → (d s t : ℕ) → Bool
 over L d s t = on L d s && eqb (otherThan s (L .through d)) t
 
 module _ (L : Layout) (two : TwoStripes L) where
   -- So s and t are its two stripes, in one order or the other.
-  over-which : (d s t : ℕ) → d < L .disks → over L d s t ≡ true
+  pub over-which : (d s t : ℕ) → d < L .disks → over L d s t ≡ true
       → ((s ≡ two .low d) × (t ≡ two .high d)) ⊎ ((s ≡ two .high d) × (t ≡ two .low d))
   over-which d s t l h =
       let there : on L d s ≡ true = and-left (on L d s) (eqb (otherThan s (L .through d)) t) h in
@@ -207,6 +207,16 @@ near-toggle L two apart room {c} {e} {near} n {d} {low} {high} x new old is =
           ∙ ap (flip (over L d s t)) (n .next s t l) ∙ meets-toggled L two apart c e d (x .disk) new old s t;
     }
 
+-- Whether a disk is in the set is read at its own stripes.
+pub near-own : (L : Layout) → TwoStripes L → Apart L → L .stripeBound ≤ wordStripes → {c : ℕ → Bool} {near : List ℕ} → Near L c near
+    → {d low high : ℕ} → Crossed L d low high → nextIn near low high ≡ c d
+near-own L two apart room {c} n {d} {low} {high} x =
+    let low-room = x .lowBound in
+    n .next low high (omega arith)
+    ∙ meets-one L two apart c d low high (x .disk)
+    (over-is x low high
+    ∙ ap₂ (λ (a b : Bool). cond a b (eqb low high && eqb low high)) (eq-eqb low low refl) (eq-eqb high high refl))
+
 -- ---- the disks of a set, one after the other
 
 -- A table of zeros has none.
@@ -248,8 +258,12 @@ reached-same next new n same s (suc k) t =
     ap₂ (λ (a b : Bool). a || b) (reached-same next new n same s k t)
     (some-same n (λ x l. ap₂ (λ (a b : Bool). a && b) (reached-same next new n same s k x) (same x t l)))
 
--- So the table tells how many disks lead from stripe to stripe.
+-- So the table tells which stripes disks lead to, and how many it takes.
+pub near-reached : (L : Layout) {c : ℕ → Bool} {near : List ℕ} → Near L c near → (s k t : ℕ)
+    → reached (nextIn near) wordStripes s k t ≡ leads L c s k t
+near-reached L {c} {near} n s k t = reached-same (nextIn near) (meets L c) wordStripes (λ x y w. n .next x y w) s k t
+
 pub near-steps : (L : Layout) {c : ℕ → Bool} {near : List ℕ} → Near L c near → (s m t : ℕ)
     → stepsTo (nextIn near) wordStripes s m t ≡ disksTo L c s m t
 unfolding stepsTo
-near-steps L {c} {near} n s m t = lowest-ext (suc m) (λ k l. reached-same (nextIn near) (meets L c) wordStripes (λ x y w. n .next x y w) s k t)
+near-steps L n s m t = lowest-ext (suc m) (λ k l. near-reached L n s k t)

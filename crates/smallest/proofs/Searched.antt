@@ -83,7 +83,7 @@ module _ (e : ℕ → Bool) where
         ap (λ (b : Bool). b && e i)
         (⊎-elim (λ l. lt-ltb d i l ∙ sym (le-leb d i (omega arith))) (λ l. le-ltb d i l ∙ sym (lt-leb d i (omega arith))) (lt-or-le d i))
 
-    above-next : (i : ℕ) → above d e i ≡ from (d + 1) e i
+    pub above-next : (i : ℕ) → above d e i ≡ from (d + 1) e i
     unfolding above from
     above-next i = ap (λ (n : ℕ). leb n i && e i) (sym (add-one d))
 

@@ -8,13 +8,14 @@ ghost use Rattle.model.specs.Grid.{layoutOf};
 ghost use Rattle.layout.specs.Stripe.{Numbered};
 ghost use Rattle.tally.specs.Tally.{Table};
 ghost use Rattle.reach.specs.Reached.{wordStripes};
-ghost use Rattle.smallest.specs.Leads.{Nearest};
+ghost use Rattle.smallest.specs.Leads.{Near, from as Leads·from, Nearest};
 use model::Size;
 
-// The disk, and how many others are on the cycle.
+// The disk, how many others are on the cycle, and the number from which on the table of neighbours has the erased disks.
 pub struct Found {
     pub disk: usize,
     pub others: usize,
+    pub from: usize,
 }
 
 // The other disks of the shortest cycle that a grid can have.
@@ -27,7 +28,8 @@ pub fn search(size: Size, base: usize, work: &[u8], stripes: &[u8], near: &mut [
     requires { ⌜ Table (layoutOf size base) (now work) (now stripes) ⌝ }
     requires { ⌜ fatal (layoutOf size base) (erasures (now work)) ≡ true ⌝ }
     requires { ⌜ length (now near) ≡ wordStripes ⌝ }
-    ensures { λ r. ⌜ Nearest (layoutOf size base) (erasures (now (work .entry))) (r .disk) (r .others) ⌝ }
+    ensures nearest { λ r. ⌜ Nearest (layoutOf size base) (erasures (now (work .entry))) (r .disk) (r .others) ⌝ }
+    ensures table { λ r. ⌜ Near (layoutOf size base) (Leads·from (r .from) (erasures (now (work .entry)))) (now (near .exit)) ⌝ }
 {
     crate::near::load(size, base, work, stripes, near);
     let mut disk = work.len();
@@ -50,5 +52,6 @@ pub fn search(size: Size, base: usize, work: &[u8], stripes: &[u8], near: &mut [
     Found {
         disk: disk,
         others: others,
+        from: from,
     }
 }

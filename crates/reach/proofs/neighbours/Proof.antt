@@ -1,17 +1,19 @@
 -- `reach::neighbours` meets its contract: each turn takes the lowest stripe out of what is left of the set.
 -- Assumes nothing.
+use mathlib.Core.Path.{refl}
 use Prim.Native.Nat.{_-_}
 use native.Mathlib.Omega.{arith}
 use borrow.Author.Needs.{needs}
 use lib.Bits.{bitAnd}
 use lib.Count.{trailingZeros}
+use Rattle.reach.specs.Reached.{nextIn}
 use Rattle.reach.proofs.Words.{Without, lowest-out}
 use Rattle.reach.proofs.Rest.{Gathered, gathered-none, gathered-next, gathered-all}
 use Rattle.reach.proofs.neighbours.Statement.{statement}
 use Rattle.reach.proofs.neighbours.Tie as tie
 
 abbrev Inv-loop : tie.InvT-loop
-Inv-loop near set all₀ rest₀ all rest = Gathered near set all rest
+Inv-loop near set all₀ rest₀ all rest = Gathered (nextIn near) set all rest
 
 abbrev μ-loop : tie.MeasureT-loop
 μ-loop near set all₀ rest₀ all rest = rest
@@ -39,7 +41,8 @@ loop-less : tie.Need-loop-less Inv-loop μ-loop
 loop-less c = out (c .before) .less
 
 loop-again : tie.Need-loop-again Inv-loop μ-loop
-loop-again c = gathered-next (c .before .before .loop .inv) (out (c .before))
+unfolding nextIn
+loop-again c = gathered-next (c .before .before .loop .inv) (out (c .before)) _ (λ t. refl)
 
 returns : tie.Need-returns Inv-loop μ-loop
 returns c = gathered-all (c .before .loop .inv) (c .loop-test .left)

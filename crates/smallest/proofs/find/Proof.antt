@@ -1,6 +1,5 @@
 -- `smallest::find` meets its contract: what is searched for is what the others are chosen by.
 -- Assumes nothing.
-use mathlib.Core.Path.{refl}
 use borrow.Author.Needs.{needs}
 use Rattle.smallest.proofs.find.Statement.{statement}
 use Rattle.smallest.proofs.find.Tie as tie
@@ -17,7 +16,8 @@ slice-aggregate-choose c = search needs
 choose-requires : tie.Need-choose-requires
 choose-requires c κs =
     let p = c .before .before .before .before .before .before .before .before .before .before .pre in
-    (p .0, (p .1 .0, (c .before .before .before .before .search .ensures, (c .before .before .before .before .search .kept .1 .1 .1 .1 .0, p .1 .1 .1))))
+    let found = c .before .before .before .before .search .ensures in
+    (p .0, (p .1 .0, (found .0, (found .1, p .1 .1 .1))))
 
 same-length : tie.Need-same-length
 same-length c = search needs

@@ -115,15 +115,19 @@ same-length c = c .before .loop .inv .0 .table .room ∙ sym (start (c .before) 
 returns : tie.Need-returns Inv-loop μ-loop
 returns c =
     let s = start (c .before) .pre in
-    searched-end (s .0) _ (s .1 .1 .0) (s .1 .0 .inside) (c .before .loop .inv .0) (inl (c .loop-test .left))
+    let done = c .before .loop .inv .0 in
+    (searched-end (s .0) _ (s .1 .1 .0) (s .1 .0 .inside) done (inl (c .loop-test .left)), done .table)
 
 same-length-2 : tie.Need-same-length-2 Inv-loop μ-loop
 same-length-2 c = let l = c .before .before .before in l .loop .inv .0 .table .room ∙ sym (start l .pre .1 .1 .1)
 
 returns-2 : tie.Need-returns-2 Inv-loop μ-loop
 returns-2 c =
-    let s = start (c .before .before .before) .pre in
-    searched-end (s .0) _ (s .1 .1 .0) (s .1 .0 .inside) (over (c .before)) (inr (omega (arith, c .if1 .taken, s .1 .0 .disksFit)))
+    let l = c .before .before .before in
+    let s = start l .pre in (
+      searched-end (s .0) _ (s .1 .1 .0) (s .1 .0 .inside) (over (c .before)) (inr (omega (arith, c .if1 .taken, s .1 .0 .disksFit))),
+      l .loop .inv .0 .table,
+    )
 
 pub search-spec : {M : Type 1} → statement M
 search-spec =
