@@ -108,9 +108,10 @@ static int has_write(const struct peer *peer)
     return peer->write != NULL;
 }
 
+/* The peer by rows differs from the tuned one in fatal losses only: fatal.c has these. */
 static int has_plan(const struct peer *peer)
 {
-    return peer->plan != NULL;
+    return peer->plan != NULL && peer != &peers[ROWS];
 }
 
 static int has_rebuild(const struct peer *peer)

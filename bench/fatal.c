@@ -37,10 +37,16 @@ static void prepare(struct input *input, size_t variant)
         draw_random_map(rows, columns, next_random(&state) % (input->disks + 1), &state, input->map);
 }
 
-/* Plan with other sizes and variants. */
+static int has_plan(const struct peer *peer)
+{
+    return peer->plan != NULL;
+}
+
+/* Plan with other sizes and variants, and with the peer by rows. */
 static struct call fatal_plan(void)
 {
     struct call plan = calls[PLAN];
+    plan.has = has_plan;
     plan.sizes = sizes;
     plan.size_count = COUNT(sizes);
     plan.prepare = prepare;
@@ -89,8 +95,8 @@ int compare_fatal(struct input *input)
 {
     struct call plan = fatal_plan();
     int warnings = 0;
-    puts("Fatal: plans of fatal losses, which count the lost disks and show the smallest loop. The plain loops and");
-    puts("Rust search from the row of each disk to its column, the tuned loops from each row until two ways meet.");
+    puts("Fatal: plans of fatal losses, which count the lost disks and show the smallest loop. All search from the");
+    puts("row of each disk to its column, but the peer by rows from each row until two ways meet; it has no limit.");
     for (size_t s = 0; s < COUNT(sizes); s++) {
         double ratios[PEERS];
         measure(&plan, sizes[s], input, ratios);

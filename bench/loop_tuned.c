@@ -1,183 +1,140 @@
-/* The smallest loop by words. From the lowest row of a loop two ways lead over higher rows until they meet. So for each
-   row its columns are followed side by side, step by step, and no stripe is looked at twice. Where no loop is shorter,
-   only one way leads to each stripe before two meet: so the lowest column whose way meets another, and the lowest that
-   it meets, are on the loop that comes first, and only the stripe where they meet is left to choose. */
+/* The smallest loop by the library's method, with words. A loop is met at its lowest disk: so for each disk, rising, a
+   search goes from its row to its column over the disks above it. Of those with the shortest way the first is on the
+   loop. Then each disk above it, rising, that is still on a shortest way is taken, and the other disks of its level,
+   as many steps from the row, are dropped. */
 #include "loop.h"
 #include "sheet.h"
 #include "words.h"
 
-/* What is known of a loop: its lowest row, the two columns of its disks there, the lower first, and in how many steps
-   from the row both ways come to the stripe where they meet: half of the loop's disks. */
-struct half_way {
-    size_t row, first, second, steps;
+/* The other disks of the shortest loop that there can be. */
+enum { FEWEST = 3 };
+
+/* How many disks lead from one stripe to the others: `of` each stripe the number, where the length of the ways stands
+   for greater ones too, and `at` each smaller number the stripes, one place higher. Place 0 is empty. */
+struct levels {
+    uint8_t of[STRIPES];
+    uint32_t at[STRIPES];
 };
 
-/* The ways from the columns of a row: the column, and the stripes reached in the last step. */
+/* The ways from a row to a column: their length in disks, the words of the disks that they may have, and the levels
+   from both ends. */
 struct ways {
-    size_t count;
-    uint8_t column[STRIPE_MAX];
-    uint32_t front[STRIPE_MAX];
-    /* The stripes that no way comes to any more. */
-    uint32_t seen;
+    size_t row, column, length;
+    uint32_t others[STRIPES];
+    struct levels from_row, from_column;
 };
 
-/* The row and all lower ones. */
-static inline uint32_t up_to(size_t row)
+/* How many disks lead from a row to a column that share none, or most + 1 where it takes more than `most`. */
+static inline size_t distance(const uint32_t others[STRIPES], size_t row, size_t column, size_t most)
 {
-    return (2u << row) - 1;
-}
-
-/* The stripes that share a disk with one of a set. */
-static inline uint32_t beside(const uint32_t others[STRIPES], uint32_t set)
-{
-    uint32_t found = 0;
-    for (; set != 0; set &= set - 1)
-        found |= others[lowest(set)];
-    return found;
-}
-
-/* The first two steps: to the columns of a row, and to the higher rows with which they share a disk. Ways that end are
-   dropped. Whether two of the others meet. */
-static int start(struct ways *ways, const uint32_t others[STRIPES], size_t row)
-{
-    uint32_t once = 0, twice = 0;
-    ways->count = 0;
-    for (uint32_t columns = others[row]; columns != 0; columns &= columns - 1) {
-        size_t column = lowest(columns);
-        uint32_t front = others[column] & ~up_to(row);
-        ways->column[ways->count] = (uint8_t)column;
-        ways->front[ways->count] = front;
-        ways->count += front != 0;
-        twice |= once & front;
-        once |= front;
+    uint32_t front = others[row], seen = front | 1u << row, goal = 1u << column;
+    for (size_t k = 2; k <= most && front != 0; k++) {
+        front = beside(others, front) & ~seen;
+        if ((front & goal) != 0)
+            return k;
+        seen |= front;
     }
-    ways->seen = others[row] | up_to(row) | once;
-    return twice != 0;
+    return most + 1;
 }
 
-/* One step more on each way, likewise. */
-static int step(struct ways *ways, const uint32_t others[STRIPES])
+/* Finds the lowest disk of the loop: its row and column are the ends of the ways, over the disks above it. A search
+   ends one step short of the best so far. The words are used up. */
+static void search(uint32_t others[STRIPES], struct ways *best)
 {
-    uint32_t once = 0, twice = 0;
-    size_t count = 0;
-    for (size_t i = 0; i < ways->count; i++) {
-        uint32_t front = beside(others, ways->front[i]) & ~ways->seen;
-        ways->column[count] = ways->column[i];
-        ways->front[count] = front;
-        count += front != 0;
-        twice |= once & front;
-        once |= front;
+    best->length = STRIPES;
+    for (size_t row = 0; row < FIRST_COLUMN && best->length > FEWEST; row++) {
+        while (others[row] != 0 && best->length > FEWEST) {
+            size_t column = lowest(others[row]), length;
+            others[row] &= others[row] - 1;
+            others[column] ^= 1u << row;
+            length = distance(others, row, column, best->length - 1);
+            if (length < best->length) {
+                best->row = row;
+                best->column = column;
+                best->length = length;
+                memcpy(best->others, others, sizeof best->others);
+            }
+        }
     }
-    ways->count = count;
-    ways->seen |= once;
-    return twice != 0;
 }
 
-/* The lowest column whose way meets that of a higher one, and the lowest that it meets. */
-static void choose_columns(const struct ways *ways, struct half_way *best)
+static void measure(const struct ways *ways, size_t from, struct levels *levels)
 {
-    size_t first = 0, second;
-    uint32_t higher = 0;
-    for (size_t i = ways->count; i-- > 0; higher |= ways->front[i])
-        if ((ways->front[i] & higher) != 0)
-            first = i;
-    second = first + 1;
-    while ((ways->front[first] & ways->front[second]) == 0)
-        second++;
-    best->first = ways->column[first];
-    best->second = ways->column[second];
+    uint32_t front = 1u << from, seen = front;
+    memset(levels->of, (int)ways->length, sizeof levels->of);
+    levels->at[0] = 0;
+    for (size_t k = 0; k < ways->length; k++) {
+        uint32_t next = 0;
+        levels->at[k + 1] = front;
+        for (; front != 0; front &= front - 1) {
+            levels->of[lowest(front)] = (uint8_t)k;
+            next |= ways->others[lowest(front)];
+        }
+        front = next & ~seen;
+        seen |= front;
+    }
 }
 
-/* Looks for a loop with this lowest row that is shorter than the best so far, which has more than four disks. */
-static void search_row(const uint32_t others[STRIPES], size_t row, struct half_way *best)
+/* The columns of a row whose disks are on a shortest way: such a way comes to the row first, or to the column. */
+static inline uint32_t on_ways(const struct ways *ways, size_t row)
+{
+    uint32_t after = ways->from_column.at[ways->length - ways->from_row.of[row]];
+    uint32_t before = ways->from_row.at[ways->length - ways->from_column.of[row]];
+    return ways->others[row] & (after | before);
+}
+
+/* Drops the disks between near stripes and far ones, but not the one that is named. Whether there were any. */
+static int drop_others(uint32_t others[STRIPES], uint32_t nears, uint32_t fars, size_t near, size_t far)
+{
+    uint32_t dropped = 0;
+    others[near] ^= 1u << far;
+    for (uint32_t set = nears; set != 0; set &= set - 1) {
+        dropped |= others[lowest(set)] & fars;
+        others[lowest(set)] &= ~fars;
+    }
+    for (uint32_t set = dropped; set != 0; set &= set - 1)
+        others[lowest(set)] &= ~nears;
+    others[near] |= 1u << far;
+    others[far] |= 1u << near;
+    return dropped != 0;
+}
+
+/* Takes a disk, whose place in the loop is its level, and drops the others of this level. Where there were any, levels
+   can have changed: from the row beyond this one, and from the column before it. */
+static void take(struct ways *ways, size_t row, size_t column, size_t across, uint8_t *sheet)
+{
+    const struct levels *from_row = &ways->from_row, *from_column = &ways->from_column;
+    int row_first = from_row->of[row] + 1u + from_column->of[column] <= ways->length;
+    size_t near = row_first ? row : column, far = row_first ? column : row, level = from_row->of[near];
+    uint32_t nears = from_row->at[level + 1], fars = from_column->at[ways->length - level];
+    put_record(sheet, level + 1, crossing(across, row, column), far);
+    if (!drop_others(ways->others, nears, fars, near, far))
+        return;
+    if (level + 1 < ways->length)
+        measure(ways, ways->row, &ways->from_row);
+    if (level > 0)
+        measure(ways, ways->column, &ways->from_column);
+}
+
+static void choose(struct ways *ways, size_t across, uint8_t *sheet)
+{
+    size_t left = ways->length;
+    measure(ways, ways->row, &ways->from_row);
+    measure(ways, ways->column, &ways->from_column);
+    for (size_t row = ways->row; left > 0; row++) {
+        uint32_t columns = on_ways(ways, row);
+        for (; columns != 0; left--) {
+            take(ways, row, lowest(columns), across, sheet);
+            columns &= (columns - 1) & on_ways(ways, row);
+        }
+    }
+}
+
+void put_loop_tuned(size_t columns, uint32_t others[STRIPES], uint8_t *sheet, size_t sheet_len)
 {
     struct ways ways;
-    size_t steps = 2;
-    int meet = start(&ways, others, row);
-    while (!meet && ways.count >= 2 && steps + 1 < best->steps) {
-        meet = step(&ways, others);
-        steps++;
-    }
-    if (meet) {
-        best->row = row;
-        best->steps = steps;
-        choose_columns(&ways, best);
-    }
-}
-
-/* The stripes to which a way leads from one column of the row, by steps, up to where it meets the other. */
-static void follow(const uint32_t others[STRIPES], const struct half_way *best, size_t column, uint32_t *fronts)
-{
-    uint32_t seen = 1u << column | up_to(best->row);
-    fronts[1] = 1u << column;
-    for (size_t k = 2; k <= best->steps; k++) {
-        fronts[k] = beside(others, fronts[k - 1]) & ~seen;
-        seen |= fronts[k];
-    }
-}
-
-/* The loop in which the ways meet at this stripe: its stripes from the row on, along the second column. */
-static void trace(const uint32_t others[STRIPES], const struct half_way *best, const uint32_t *first,
-                  const uint32_t *second, size_t middle, uint8_t *loop)
-{
-    size_t half = best->steps;
-    loop[0] = (uint8_t)best->row;
-    loop[half] = (uint8_t)middle;
-    for (size_t k = half - 1; k > 0; k--) {
-        loop[k] = (uint8_t)lowest(others[loop[k + 1]] & second[k]);
-        loop[2 * half - k] = (uint8_t)lowest(others[loop[2 * half - k - 1]] & first[k]);
-    }
-}
-
-/* The disk in which two stripes cross. */
-static inline size_t crossing(size_t across, size_t stripe, size_t other)
-{
-    return stripe < other ? stripe * across + other - FIRST_COLUMN : other * across + stripe - FIRST_COLUMN;
-}
-
-/* For two loops of one length: whether the lowest of the disks that only one of them has is on the first. */
-static int comes_first(size_t across, const uint8_t *loop, const uint8_t *other, size_t length)
-{
-    size_t lowest_here = DISKS_MAX, lowest_there = DISKS_MAX;
-    for (size_t k = 1; k < length; k++) {
-        size_t here = crossing(across, loop[k - 1], loop[k]), there = crossing(across, other[k - 1], other[k]);
-        if (here == there)
-            continue;
-        lowest_here = here < lowest_here ? here : lowest_here;
-        lowest_there = there < lowest_there ? there : lowest_there;
-    }
-    return lowest_here < lowest_there;
-}
-
-/* Of the loops with these two disks of their lowest row the first. Where they have four disks, it has the lowest other
-   row. */
-static void choose_loop(size_t across, const uint32_t others[STRIPES], const struct half_way *best, uint8_t *loop)
-{
-    uint32_t first[STRIPE_MAX + 1], second[STRIPE_MAX + 1], meeting;
-    uint8_t other[STRIPES];
-    follow(others, best, best->first, first);
-    follow(others, best, best->second, second);
-    meeting = first[best->steps] & second[best->steps];
-    trace(others, best, first, second, lowest(meeting), loop);
-    for (meeting &= best->steps > 2 ? meeting - 1 : 0; meeting != 0; meeting &= meeting - 1) {
-        trace(others, best, first, second, lowest(meeting), other);
-        if (comes_first(across, other, loop, 2 * best->steps))
-            memcpy(loop, other, 2 * best->steps);
-    }
-}
-
-void put_loop_tuned(size_t columns, const uint32_t others[STRIPES], uint8_t *sheet, size_t sheet_len)
-{
-    struct half_way best = {.steps = STRIPE_MAX + 1};
-    uint8_t loop[STRIPES];
-    size_t before;
-    for (size_t row = 0; row < FIRST_COLUMN && best.steps > 2; row++)
-        search_row(others, row, &best);
-    choose_loop(columns + 1, others, &best, loop);
+    search(others, &ways);
     put_kind(sheet, sheet_len, LOOP);
-    before = loop[2 * best.steps - 1];
-    for (size_t k = 0; k < 2 * best.steps; k++) {
-        put_record(sheet, k, crossing(columns + 1, before, loop[k]), loop[k]);
-        before = loop[k];
-    }
+    put_record(sheet, 0, crossing(columns + 1, ways.row, ways.column), ways.row);
+    choose(&ways, columns + 1, sheet);
 }

@@ -43,7 +43,7 @@ struct peer {
     rebuild_call *rebuild;
 };
 
-enum { LIBRARY, PLAIN, TUNED, NATIVE, RUST, ISAL, ISAL_SSE, READ, COPY, PEERS };
+enum { LIBRARY, PLAIN, TUNED, ROWS, NATIVE, RUST, ISAL, ISAL_SSE, READ, COPY, PEERS };
 
 /* Where ISA-L is not installed, its peers have no call. */
 extern const struct peer peers[PEERS];

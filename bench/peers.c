@@ -5,7 +5,7 @@
 seal_call plain_seal, tuned_seal, native_seal, rust_seal, isal_seal, isal_sse_seal, read_seal, copy_seal;
 check_call plain_check, tuned_check, native_check, rust_check, isal_check, read_check, copy_check;
 write_call plain_write, tuned_write, native_write, rust_write, read_write, copy_write;
-plan_call plain_plan, rust_plan;
+plan_call plain_plan, rows_plan, rust_plan;
 rebuild_call plain_rebuild, tuned_rebuild, native_rebuild, rust_rebuild, isal_rebuild, read_rebuild, copy_rebuild;
 
 /* The library on blocks of one sector. With one position there is no choice of a fatal one. */
@@ -29,6 +29,7 @@ const struct peer peers[PEERS] = {
     [LIBRARY] = {"library", 1, 0, raid2d_seal, raid2d_check, raid2d_write, library_plan, library_rebuild},
     [PLAIN] = {"gcc -O3 plain loops", 1, 0, plain_seal, plain_check, plain_write, plain_plan, plain_rebuild},
     [TUNED] = {"gcc -O3 tuned", 1, 0, tuned_seal, tuned_check, tuned_write, tuned_plan, tuned_rebuild},
+    [ROWS] = {"gcc -O3 by rows", 1, 0, NULL, NULL, NULL, rows_plan, NULL},
     [NATIVE] = {"gcc -O3 -march=native tuned", 1, 0, native_seal, native_check, native_write, NULL, native_rebuild},
     [RUST] = {"Rust release", 1, 0, rust_seal, rust_check, rust_write, rust_plan, rust_rebuild},
 #ifdef ISAL_HEADER

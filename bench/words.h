@@ -37,4 +37,19 @@ static inline size_t lowest(uint32_t set)
     return (size_t)__builtin_ctz(set);
 }
 
+/* The stripes that share a disk with one of a set. */
+static inline uint32_t beside(const uint32_t others[STRIPES], uint32_t set)
+{
+    uint32_t found = 0;
+    for (; set != 0; set &= set - 1)
+        found |= others[lowest(set)];
+    return found;
+}
+
+/* The disk in which two stripes cross. */
+static inline size_t crossing(size_t across, size_t stripe, size_t other)
+{
+    return stripe < other ? stripe * across + other - FIRST_COLUMN : other * across + stripe - FIRST_COLUMN;
+}
+
 #endif

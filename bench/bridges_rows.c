@@ -28,7 +28,7 @@ static struct part visit(struct search *search, size_t stripe, uint32_t from)
     return part;
 }
 
-size_t count_lost(const uint32_t others[STRIPES], size_t disks)
+size_t count_lost_rows(const uint32_t others[STRIPES], size_t disks)
 {
     struct search search = {others, 0, 0};
     for (size_t stripe = 0; stripe < FIRST_COLUMN; stripe++)
