@@ -5,8 +5,7 @@ usage: tools/respell.py [--list] [FOLDER]
 
 FOLDER is a checkout on which the kit's own script for older repositories has just run; the default is this one. It is run once, right behind
 that script. Types and modules keep their upper camel case. Functions of src/, exported names, strings, inputs and outputs are not touched: in
-a source only a ghost name in camel case turns, which no name of Rattle's has. Where a ghost name would fall together with a function,
-a field or a parameter of a source that imports it, the source imports it under the name MODULE·name.
+a source only a ghost name in camel case turns, which no name of Rattle's has.
 """
 
 import collections
@@ -112,29 +111,15 @@ def turn_antt(text, turned, function):
 
 
 def turn_rt(text, turned):
-    """Ghost names in camel case, in clauses, imports and comments; a name that falls together with one of the source is qualified."""
+    """Ghost names in camel case, in clauses, imports and comments. A function of the source may have the same name."""
     camel = {n: t for n, t in turned.items() if re.search(r"[a-z0-9][A-Z]", n) and "-" not in n}
-    code = re.sub(r"//[^\n]*", "", text)
-    own = set(re.findall(r"\bfn (\w+)", code)) | set(re.findall(r"\b(\w+): ", code)) | set(re.findall(r"\blet (?:mut )?(\w+)", code))
-    qualified = {}
-    for match in IMPORTED.finditer(text):
-        module = match[1].split(".")[-1]
-        for name in (n.strip() for n in match[2].split(",")):
-            if name in camel and camel[name] in own:
-                qualified[name] = f"{module}·{camel[name]}"
-
     def one(match):
         word = match[0]
         if word not in camel:
             return word
-        before = text[: match.start()]
-        # A projection, or a place in a comment, has no import.
-        if word in qualified and not before.endswith(".") and "//" not in before.rsplit("\n", 1)[-1]:
-            inside = before.rsplit("\n", 1)[-1].startswith("ghost use")
-            return f"{camel[word]} as {qualified[word]}" if inside else qualified[word]
         return camel[word]
 
-    return TOKEN.sub(one, text), qualified
+    return TOKEN.sub(one, text)
 
 
 def main():
@@ -151,9 +136,7 @@ def main():
             new = turn_antt(text, turned, in_function_folder(path))
         elif path.endswith(".rt"):
             text = read(path)
-            new, qualified = turn_rt(text, turned)
-            for name, to in qualified.items():
-                print(f"{os.path.relpath(path, root)}: {name} is {to}")
+            new = turn_rt(text, turned)
         else:
             continue
         if new != text:

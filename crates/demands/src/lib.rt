@@ -10,14 +10,14 @@ ghost use Rattle.stripes.specs.Sectors.{sector_at, sectored, at_position, stretc
 ghost use Rattle.stripes.specs.Undetermined.{saved};
 ghost use Rattle.model.specs.Grid.{layout_of, column_base, disks, map_bytes, map_fits};
 ghost use Rattle.model.specs.Refusal.{refusal, array_tests, sector_tests};
-ghost use Rattle.model.specs.Array.{seal_status, seal_array as Array·seal_array, checked, check_status, write_status, write_array, can_look, look_offset, look_length};
+ghost use Rattle.model.specs.Array.{seal_status, seal_array, checked, check_status, write_status, write_array, can_look, look_offset, look_length};
 ghost use Rattle.model.specs.Sheet.{narrow, sheets_bytes, sheet_at, parts_in};
 ghost use Rattle.model.specs.Plan.{plan_tests, sheet_layout, plan_outcome, plan_sheets, outcome_status};
 ghost use Rattle.model.specs.PlanDisk.{plan_disk_tests, plan_disk_outcome, plan_disk_sheet, DiskDemand};
 ghost use Rattle.model.specs.Rebuild.{buffer_refusal, rebuild_refusal, rebuild_turn};
 ghost use Rattle.model.specs.Chain.{Leftover, chain_entries, chain_refusal, clean_refusal};
 ghost use Rattle.model.specs.Follow.{Usable, Reads, sheets_entries, list_outcome, list_array, follow_outcome, follow_array, loose_status};
-ghost use Rattle.model.specs.Tidy.{tidy_status, tidy_sheet, Tidy, TidyDemand, tidy_sheets as Tidy·tidy_sheets};
+ghost use Rattle.model.specs.Tidy.{tidy_status, tidy_sheet, Tidy, TidyDemand, tidy_sheets};
 ghost use Rattle.model.specs.Save.{save_layout, map_tests, save_answer, save_array, saving_status, AsTurn, SaveDemand};
 ghost use Rattle.model.specs.Edition.{superparity};
 ghost use Rattle.model.specs.Demand2.{SameAt, SealDemand, CheckDemand, WriteDemand};
@@ -32,7 +32,7 @@ use series::Turns;
 // Seals an array. Where it is not refused, the array has exactly the parities of the public description.
 pub fn seal_array(size: Size, block: usize, array: &mut [u8]) -> u32
     ensures status { result ≡ seal_status size block array.old }
-    ensures array { array.new ≡ Array·seal_array size block array.old }
+    ensures array { array.new ≡ seal_array size block array.old }
     ensures demand2 { result ≡ 0 → SealDemand size block array.old array.new }
 {
     seal::seal(size, block, array)
@@ -290,7 +290,7 @@ pub fn tidy_sheets(one: &mut [u8], other: &mut [u8]) -> Tidied
 
 // Tidies each of some sheets that stand one after another; those that are refused stay.
 fn tidy_each(sheets: &mut [u8])
-    ensures { sheets.new ≡ Tidy·tidy_sheets narrow sheets.old }
+    ensures { sheets.new ≡ tidy_sheets narrow sheets.old }
 {
     let number = sheets.len() / sheet::BYTES;
     let mut p = 0;
@@ -310,7 +310,7 @@ pub fn tidy_and_follow(
     map: &[u8],
     sheets: &mut [u8],
 ) -> Outcome
-    ensures sheets { sheets.new ≡ Tidy·tidy_sheets narrow sheets.old }
+    ensures sheets { sheets.new ≡ tidy_sheets narrow sheets.old }
     ensures outcome { result ≡ list_outcome (loose_status size block sector array.old map.now sheets.old)
         (sheets_entries narrow (block / sector) sheets.old) }
     ensures array { array.new

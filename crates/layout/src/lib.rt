@@ -1,7 +1,7 @@
 // Numbers only: the sizes of an array and its disks; `stripe` has which stripes a disk lies on and where the disks of a stripe
 // stand. Of the code, this crate alone opens a size.
 ghost use Rattle.std.specs.Prelude.{◌≡◌, true, ◌≤◌};
-ghost use Rattle.model.specs.Grid.{rows, columns, across, down, disks, disk_at as Grid·disk_at, array_bytes as Grid·array_bytes, is_data as Grid·is_data, size_fits, block_fits};
+ghost use Rattle.model.specs.Grid.{rows, columns, across, down, disks, disk_at, array_bytes, is_data, size_fits, block_fits};
 
 use model::Size;
 
@@ -49,7 +49,7 @@ pub fn disks(size: Size) -> usize
 pub fn array_bytes(size: Size, block: usize) -> usize
     requires size_value { size_fits size ≡ true }
     requires block_value { block_fits block ≡ true }
-    ensures { result ≡ Grid·array_bytes size block }
+    ensures { result ≡ array_bytes size block }
 {
     disks(size) * block
 }
@@ -59,7 +59,7 @@ pub fn disk_at(size: Size, row: usize, column: usize) -> usize
     requires size_value { size_fits size ≡ true }
     requires row_bound { row ≤ rows size }
     requires column_bound { column ≤ columns size }
-    ensures { result ≡ Grid·disk_at size row column }
+    ensures { result ≡ disk_at size row column }
 {
     row * across(size) + column
 }
@@ -67,7 +67,7 @@ pub fn disk_at(size: Size, row: usize, column: usize) -> usize
 // The disk is one that holds data.
 pub fn is_data(size: Size, disk: usize) -> bool
     requires { size_fits size ≡ true }
-    ensures { result ≡ Grid·is_data size disk }
+    ensures { result ≡ is_data size disk }
 {
     let across = across(size);
     if disk / across < size.rows {

@@ -2,7 +2,7 @@
 ghost use Rattle.std.specs.Prelude.{◌≡◌, true, [], ◌∷◌, ◌<◌};
 ghost use Rattle.stripes.specs.System.{other_than};
 ghost use Rattle.model.specs.Grid.{layout_of, disks};
-ghost use Rattle.layout.specs.Stripe.{Numbered, has_disks as Stripe·has_disks, run_disk, disks_on as Stripe·disks_on, place_on as Stripe·place_on};
+ghost use Rattle.layout.specs.Stripe.{Numbered, has_disks, run_disk, disks_on, place_on};
 
 use model::Size;
 
@@ -40,7 +40,7 @@ pub fn bound(size: Size, base: usize) -> usize
 // no stripe.
 pub fn has_disks(size: Size, base: usize, stripe: usize) -> bool
     requires { Numbered size base }
-    ensures { result ≡ Stripe·has_disks size base stripe }
+    ensures { result ≡ has_disks size base stripe }
 {
     let across = crate::across(size);
     let down = crate::down(size);
@@ -61,7 +61,7 @@ pub struct Run {
 // The disks of a stripe.
 pub fn disks_on(size: Size, base: usize, stripe: usize) -> Run
     requires { Numbered size base }
-    ensures { result ≡ Stripe·disks_on size base stripe }
+    ensures { result ≡ disks_on size base stripe }
 {
     let across = crate::across(size);
     let down = crate::down(size);
@@ -82,7 +82,7 @@ pub fn disks_on(size: Size, base: usize, stripe: usize) -> Run
 // Which of the disks of its stripe a disk is.
 pub fn place_on(size: Size, base: usize, disk: usize, stripe: usize) -> usize
     requires { Numbered size base }
-    ensures { result ≡ Stripe·place_on size base disk stripe }
+    ensures { result ≡ place_on size base disk stripe }
 {
     let across = crate::across(size);
     if stripe < base {
@@ -94,9 +94,9 @@ pub fn place_on(size: Size, base: usize, disk: usize, stripe: usize) -> usize
 // The other stripe of disk number k of a stripe.
 pub fn other_at(size: Size, base: usize, stripe: usize, k: usize) -> usize
     requires numbered { Numbered size base }
-    requires stripe_value { Stripe·has_disks size base stripe ≡ true }
-    requires k_bound { k < (Stripe·disks_on size base stripe).count }
-    ensures { result ≡ other_than stripe ((layout_of size base).through (run_disk (Stripe·disks_on size base stripe) k)) }
+    requires stripe_value { has_disks size base stripe ≡ true }
+    requires k_bound { k < (disks_on size base stripe).count }
+    ensures { result ≡ other_than stripe ((layout_of size base).through (run_disk (disks_on size base stripe) k)) }
 {
     if stripe < base {
         return base + k;

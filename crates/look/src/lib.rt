@@ -1,13 +1,13 @@
 // Look: the block of a disk that is present.
 ghost use Rattle.std.specs.Prelude.{◌≡◌, ◌+◌, ◌*◌, ◌≤◌, length, take, drop};
-ghost use Rattle.model.specs.Array.{all_present as Array·all_present, look_offset, look_length};
+ghost use Rattle.model.specs.Array.{all_present, look_offset, look_length};
 
 use model::Size;
 
 // All sectors of a disk are present.
 fn all_present(map: &[u8], sectors: usize, disk: usize) -> bool
     requires { disk * sectors + sectors ≤ length map.now }
-    ensures { result ≡ Array·all_present sectors map.now disk }
+    ensures { result ≡ all_present sectors map.now disk }
 {
     let first = disk * sectors;
     let mut p = 0;

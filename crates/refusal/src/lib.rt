@@ -1,6 +1,6 @@
 // What the calls refuse: the tests of their arguments, each with its number, in the order's sequence.
 ghost use Rattle.std.specs.Prelude.{◌≡◌, true};
-ghost use Rattle.model.specs.Grid.{side_fits as Grid·side_fits, size_fits as Grid·size_fits, block_fits as Grid·block_fits, sector_fits as Grid·sector_fits, sectors_fit as Grid·sectors_fit, map_bytes, map_fits as Grid·map_fits};
+ghost use Rattle.model.specs.Grid.{side_fits, size_fits, block_fits, sector_fits, sectors_fit, map_bytes, map_fits};
 ghost use Rattle.model.specs.Refusal.{refusal, array_tests, sector_tests};
 ghost use Rattle.model.specs.Plan.{sheet_tests};
 
@@ -26,7 +26,7 @@ const SHEET_BYTES: usize = 98;
 
 // The number is one of data rows, or of data columns, that the library takes.
 fn side_fits(side: usize) -> bool
-    ensures { result ≡ Grid·side_fits side }
+    ensures { result ≡ side_fits side }
 {
     if side < SIDE_MIN {
         return false;
@@ -36,7 +36,7 @@ fn side_fits(side: usize) -> bool
 
 // The size is one that the library takes.
 pub fn size_fits(size: Size) -> bool
-    ensures { result ≡ Grid·size_fits size }
+    ensures { result ≡ size_fits size }
 {
     let rows = layout::rows(size);
     let columns = layout::columns(size);
@@ -48,7 +48,7 @@ pub fn size_fits(size: Size) -> bool
 
 // The block's length is one that the library takes.
 pub fn block_fits(block: usize) -> bool
-    ensures { result ≡ Grid·block_fits block }
+    ensures { result ≡ block_fits block }
 {
     if block < BLOCK_MIN {
         return false;
@@ -58,7 +58,7 @@ pub fn block_fits(block: usize) -> bool
 
 // A sector has bytes, and their number divides that of a block.
 pub fn sector_fits(block: usize, sector: usize) -> bool
-    ensures { result ≡ Grid·sector_fits block sector }
+    ensures { result ≡ sector_fits block sector }
 {
     if sector < SECTORS_MIN {
         return false;
@@ -68,7 +68,7 @@ pub fn sector_fits(block: usize, sector: usize) -> bool
 
 // A block has a number of sectors that the library takes.
 pub fn sectors_fit(sectors: usize) -> bool
-    ensures { result ≡ Grid·sectors_fit sectors }
+    ensures { result ≡ sectors_fit sectors }
 {
     if sectors < SECTORS_MIN {
         return false;
@@ -78,7 +78,7 @@ pub fn sectors_fit(sectors: usize) -> bool
 
 // The map has so many bytes, and each is 0 or 1, which holds exactly if their inclusive or is.
 fn bytes_fit(len: usize, map: &[u8]) -> bool
-    ensures { result ≡ Grid·map_fits len map.now }
+    ensures { result ≡ map_fits len map.now }
 {
     if map.len() != len {
         return false;
@@ -94,9 +94,9 @@ fn bytes_fit(len: usize, map: &[u8]) -> bool
 
 // The map has a byte for each disk and sector.
 pub fn map_fits(size: Size, sectors: usize, map: &[u8]) -> bool
-    requires size_value { Grid·size_fits size ≡ true }
-    requires sectors_value { Grid·sectors_fit sectors ≡ true }
-    ensures { result ≡ Grid·map_fits (map_bytes size sectors) map.now }
+    requires size_value { size_fits size ≡ true }
+    requires sectors_value { sectors_fit sectors ≡ true }
+    ensures { result ≡ map_fits (map_bytes size sectors) map.now }
 {
     bytes_fit(layout::disks(size) * sectors, map)
 }
@@ -134,8 +134,8 @@ pub fn sector_refusal(size: Size, block: usize, len: usize, sector: usize) -> u3
 
 // The tests of the map and of the length of the sheets, which follow the others in every call that takes both: the refusal, or 0.
 pub fn sheet_refusal(size: Size, sectors: usize, map: &[u8], len: usize) -> u32
-    requires size_value { Grid·size_fits size ≡ true }
-    requires sectors_value { Grid·sectors_fit sectors ≡ true }
+    requires size_value { size_fits size ≡ true }
+    requires sectors_value { sectors_fit sectors ≡ true }
     ensures { result ≡ refusal (sheet_tests size sectors map.now len) }
 {
     if !map_fits(size, sectors, map) {

@@ -2,7 +2,7 @@
 ghost use Rattle.std.specs.Prelude.{◌≡◌, true, ◌*◌, ◌≤◌, length};
 ghost use Rattle.stripes.specs.Erased.{erasures};
 ghost use Rattle.stripes.specs.Sectors.{at_position};
-ghost use Rattle.stripes.specs.Repair.{allowed as Repair·allowed, all_allowed as Repair·all_allowed, clears as Repair·clears};
+ghost use Rattle.stripes.specs.Repair.{allowed as Repair·allowed, all_allowed, clears as Repair·clears};
 ghost use Rattle.model.specs.Grid.{layout_of};
 ghost use Rattle.layout.specs.Stripe.{Numbered, stripe_limit};
 ghost use Rattle.entries.specs.Listed.{listed};
@@ -56,7 +56,7 @@ fn all_allowed(
     requires numbered { Numbered size base }
     requires tallied { Tallied (layout_of size base) work.old stripes.now counts.old }
     requires count_in_bounds { count ≤ length list.now }
-    ensures { result ≡ Repair·all_allowed (layout_of size base) (erasures work.old) (listed list.now count) }
+    ensures { result ≡ all_allowed (layout_of size base) (erasures work.old) (listed list.now count) }
 {
     let mut k = 0;
     while k < count {

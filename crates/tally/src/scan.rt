@@ -1,6 +1,6 @@
 // The erased disks of a map, one after the other.
 ghost use Rattle.std.specs.Prelude.{◌≡◌, ◌≤◌, length};
-ghost use Rattle.tally.specs.Tally.{next_erased as Tally·next_erased, Passed};
+ghost use Rattle.tally.specs.Tally.{next_erased, Passed};
 
 // Bytes that are passed over at once.
 const CHUNK: usize = 16;
@@ -23,7 +23,7 @@ fn pass_zeros(map: &[u8], from: usize) -> usize
 // The lowest erased disk from `from` on, or the length where there is none. Where many disks are erased it is often the first
 // one looked at.
 pub fn next_erased(map: &[u8], from: usize) -> usize
-    ensures { result ≡ Tally·next_erased map.now from }
+    ensures { result ≡ next_erased map.now from }
 {
     if map.len() <= from {
         return map.len();

@@ -1,7 +1,7 @@
 // The plan for one wanted disk: the shortest list of repairs that reaches it, or what plan tells of a loss that leaves it.
 ghost use Rattle.std.specs.Prelude.{◌≡◌, true};
 ghost use Rattle.model.specs.Grid.{map_fits, disks};
-ghost use Rattle.model.specs.PlanDisk.{can_be_wanted as PlanDisk·can_be_wanted, plan_disk_outcome, plan_disk_sheet};
+ghost use Rattle.model.specs.PlanDisk.{can_be_wanted, plan_disk_outcome, plan_disk_sheet};
 
 mod reach;
 mod side;
@@ -11,7 +11,7 @@ use model::{Outcome, Size};
 // The disk is one of the array, and erased. The size says only of what the contract speaks.
 fn can_be_wanted(size: Size, map: &[u8], disk: usize) -> bool
     requires { map_fits (disks size) map.now ≡ true }
-    ensures { result ≡ PlanDisk·can_be_wanted size map.now disk }
+    ensures { result ≡ can_be_wanted size map.now disk }
 {
     if map.len() <= disk {
         return false;
