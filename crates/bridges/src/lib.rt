@@ -2,6 +2,7 @@
 // a part, and then all that erased disks lead to. A stripe that is reached over a disk is a link, and the way of a stripe is the set of the links
 // from the beginning of its part to it. Every other disk closes a cycle with the links that only one of its two stripes has on its way. The disk
 // of a link on no such cycle, a bridge, is determined, and all other disks are not.
+#![tactic(auto)]
 ghost use Rattle.std.specs.Prelude.{◌≡◌, true, false, ◌||◌, ℕ, ◌<◌, eqb, length};
 ghost use Rattle.stripes.specs.Fold.{count};
 ghost use Rattle.stripes.specs.Erased.{erasures};
@@ -15,7 +16,7 @@ ghost use Rattle.bridges.specs.Forest.{Grown, Growing, Beside, on_one};
 use model::Size;
 
 // The stripes that are reached, those of them that are links, and the links that are closed: on a cycle.
-#[derive(Drop)]
+#[derive(Clone, Copy)]
 struct Reached {
     seen: u64,
     links: u64,

@@ -1,4 +1,5 @@
 // The chain of a sheet from elsewhere, which may visit its records in any order, and what stands off it.
+#![tactic(auto)]
 ghost use Rattle.std.specs.Prelude.{◌≡◌, false, ℕ, ◌+◌, ◌≤◌, ◌<◌, length};
 ghost use Rattle.stripes.specs.Fold.{every};
 ghost use Rattle.stripes.specs.System.{among};
@@ -10,7 +11,7 @@ ghost use Rattle.chain.specs.Read.{marked, in_order, chain_read};
 use reader::Found;
 
 // What a sheet lists.
-#[derive(Drop)]
+#[derive(Clone, Copy)]
 pub enum Chain {
     // The number of repairs.
     Records(usize),

@@ -1,6 +1,7 @@
 // What is proved of the definitions, said of the calls: demand 2 of seal, check and write, of look when it hands a block back, demand 3 of
 // plan and rebuild's turns on one input, of the plan for one disk what it lists, of follow that it does as rebuild, of tidy what it makes of sheets, and of save
 // what it gives back.
+#![tactic(auto)]
 ghost use Rattle.std.specs.Prelude.{◌≡◌, true, false, ◌↔◌, List, ℕ, ◌+◌, ◌*◌, ◌/◌, ◌≤◌, ◌<◌, length, get_or, take, drop};
 ghost use Rattle.stripes.specs.Fold.{count};
 ghost use Rattle.stripes.specs.System.{whole};
@@ -83,7 +84,7 @@ pub fn look_block<'a>(
 }
 
 // What plan answers, and what rebuild's turns come to.
-#[derive(Drop)]
+#[derive(Clone, Copy)]
 pub struct Answers {
     pub planned: Outcome,
     pub rebuilt: Turns,
@@ -188,7 +189,7 @@ pub fn rebuild_once(
 }
 
 // What plan answers for a loss, and what the plan for one disk of it does.
-#[derive(Drop)]
+#[derive(Clone, Copy)]
 pub struct Plans {
     pub planned: Outcome,
     pub wanted: Outcome,
@@ -264,7 +265,7 @@ pub fn follow_sheets(
 }
 
 // What tidy answers for two sheets.
-#[derive(Drop)]
+#[derive(Clone, Copy)]
 pub struct Tidied {
     pub one: u32,
     pub other: u32,

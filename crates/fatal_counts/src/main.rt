@@ -1,10 +1,11 @@
 // Case 12: the fatal losses of three and of four disks, counted for 2 to 4 data rows and columns.
+#![tactic(auto)]
 ghost use Rattle.std.specs.Prelude.{◌≤◌};
 
 use model::{Outcome, Size};
 
 // Four disks.
-#[derive(Drop)]
+#[derive(Clone, Copy)]
 struct Four {
     a: usize,
     b: usize,

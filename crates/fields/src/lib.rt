@@ -1,4 +1,5 @@
 // What a sheet holds, one number at a time. An array of bytes that is lent is a plain pointer in C, without a length.
+#![tactic(auto)]
 ghost use Rattle.std.specs.Prelude.{◌≡◌, ◌<◌, get_or};
 ghost use Rattle.model.specs.Sheet.{narrow};
 ghost use Rattle.model.specs.Chain.{kind_of, first_number, entry_at, next_number, if_record};
@@ -6,7 +7,7 @@ ghost use Rattle.model.specs.Chain.{kind_of, first_number, entry_at, next_number
 use reader::Found;
 
 // A record: its disk, its stripe, the number of the next record.
-#[derive(Drop)]
+#[derive(Clone, Copy)]
 struct Fields {
     disk: usize,
     stripe: usize,

@@ -10,7 +10,7 @@ use model::Size;
 pub const COLUMN_BASE: usize = 16;
 
 // The two stripes of a disk.
-#[derive(Drop)]
+#[derive(Clone, Copy)]
 pub struct Pair {
     pub low: usize,
     pub high: usize,
@@ -51,7 +51,7 @@ pub fn has_disks(size: Size, base: usize, stripe: usize) -> bool
 }
 
 // `count` disks that stand `step` apart from disk `first` on.
-#[derive(Drop)]
+#[derive(Clone, Copy)]
 pub struct Run {
     pub first: usize,
     pub step: usize,

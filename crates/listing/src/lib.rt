@@ -1,4 +1,5 @@
 // What the listing program prints: the repairs of a loss, the cycle of a fatal one, or a refusal.
+#![tactic(auto)]
 ghost use Rattle.std.specs.Prelude.{◌≡◌, ◌-◌, ◌≤◌, length, take, drop, get_or, replicate};
 ghost use Rattle.model.specs.Grid.{rectangle};
 ghost use Rattle.model.specs.Listing.{listing};
@@ -6,7 +7,7 @@ ghost use Rattle.model.specs.Listing.{listing};
 use model::Size;
 
 // The text stands in the first `len` bytes, with zeros behind it.
-#[derive(Drop)]
+#[derive(Clone, Copy)]
 pub struct Text {
     pub bytes: [u8; 320],
     pub len: usize,

@@ -1,4 +1,5 @@
 // Look: the block of a disk that is present.
+#![tactic(auto)]
 ghost use Rattle.std.specs.Prelude.{◌≡◌, ◌+◌, ◌*◌, ◌≤◌, length, take, drop};
 ghost use Rattle.model.specs.Array.{all_present, look_offset, look_length};
 

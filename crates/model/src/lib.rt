@@ -1,15 +1,16 @@
 // What is right. This crate has no code: specs/ says what the array, its parities and each call are, and proofs/ says what
 // follows from that. The types below are those that the definitions and the calls share.
+#![tactic(auto)]
 
 // The size of an array, which every call takes: data rows and data columns (paper 02: a and b).
-#[derive(Drop)]
+#[derive(Clone, Copy)]
 pub struct Size {
     pub rows: usize,
     pub columns: usize,
 }
 
 // What a check answers.
-#[derive(Drop)]
+#[derive(Clone, Copy)]
 pub enum Checked {
     // Every stripe's sum is zero at every place.
     Sealed,
@@ -20,7 +21,7 @@ pub enum Checked {
 }
 
 // What plan, the plan for one disk, rebuild and follow answer.
-#[derive(Drop)]
+#[derive(Clone, Copy)]
 pub enum Outcome {
     // The number of repairs.
     Repairs(usize),
@@ -32,7 +33,7 @@ pub enum Outcome {
 }
 
 // What save answers. It never calls a loss fatal.
-#[derive(Drop)]
+#[derive(Clone, Copy)]
 pub enum Saving {
     // The number of sectors that were saved; without sectors, of disks.
     Saved(usize),

@@ -1,4 +1,5 @@
 // Plan's order: repairs one after another, until none is allowed. One disk can be held back.
+#![tactic(auto)]
 ghost use Rattle.std.specs.Prelude.{◌≡◌, ◌≤◌, length};
 ghost use Rattle.stripes.specs.Fold.{count};
 ghost use Rattle.stripes.specs.Erased.{erasures, without};
@@ -12,7 +13,7 @@ ghost use Rattle.order.specs.Pick.{picked, held_repairs};
 use model::Size;
 
 // The repair that comes next: a disk and a stripe.
-#[derive(Drop)]
+#[derive(Clone, Copy)]
 pub enum Next {
     Repair(usize, usize),
     Nothing,

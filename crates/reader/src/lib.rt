@@ -1,16 +1,17 @@
 // The reader of a lent sheet: the sheet and the number of the next record. No function over such a struct is covered by the
 // checker's own walk, so `new` and `next` do no work of their own: `record_at` does it, and everyone else calls `read`.
+#![tactic(auto)]
 ghost use Rattle.std.specs.Prelude.{◌≡◌};
 ghost use Rattle.reader.specs.Found.{found_at};
 
-#[derive(Drop)]
+#[derive(Clone, Copy)]
 pub struct Reader<'a> {
     pub sheet: &'a [u8],
     pub number: usize,
 }
 
 // What stands under a number.
-#[derive(Drop)]
+#[derive(Clone, Copy)]
 pub enum Found {
     // A record: its disk, its stripe, the number of the next record.
     Record(usize, usize, usize),

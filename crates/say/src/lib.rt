@@ -1,4 +1,5 @@
 // The lines that the programs print, and the numbers of the papers for what the calls answer.
+#![tactic(auto)]
 use libc::STDOUT_FILENO;
 use model::{Checked, Outcome};
 

@@ -1,4 +1,5 @@
 // A series of turns: rebuild called again and again on one input, with sheets for each turn.
+#![tactic(auto)]
 ghost use Rattle.std.specs.Prelude.{◌≡◌, ◌+◌, ◌*◌, ◌/◌, ◌≤◌, ◌<◌, ltb, length};
 ghost use Rattle.stripes.specs.Fold.{count};
 ghost use Rattle.stripes.specs.Erased.{erasures};
@@ -12,7 +13,7 @@ use model::{Outcome, Size};
 
 // What turns come to: the last answer, how many they are, how many repairs they made, and for how many others sheets are left; none
 // if no other is to come.
-#[derive(Drop)]
+#[derive(Clone, Copy)]
 pub struct Turns {
     pub last: Outcome,
     pub turns: usize,

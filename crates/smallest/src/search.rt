@@ -11,7 +11,7 @@ ghost use Rattle.smallest.specs.Leads.{Near, from as Leads·from, Nearest};
 use model::Size;
 
 // The disk, how many others are on the cycle, and the number from which on the table of neighbours has the erased disks.
-#[derive(Drop)]
+#[derive(Clone, Copy)]
 pub struct Found {
     pub disk: usize,
     pub others: usize,

@@ -1,4 +1,5 @@
 // The repairs of a loss in plan's order, or for a fatal loss the cycle that shows it, as a list.
+#![tactic(auto)]
 ghost use Rattle.std.specs.Prelude.{◌≡◌, true, ◌≤◌, length};
 ghost use Rattle.stripes.specs.Erased.{erasures};
 ghost use Rattle.model.specs.Grid.{layout_of, disks, map_fits};
@@ -12,7 +13,7 @@ mod peeled;
 
 use model::Size;
 
-#[derive(Drop)]
+#[derive(Clone, Copy)]
 pub enum Solved {
     // The number of repairs.
     Repairs(usize),

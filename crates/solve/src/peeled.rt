@@ -8,7 +8,7 @@ ghost use Rattle.solve.specs.Memory.{Room, Peeled as Memory-as-Peeled};
 use model::Size;
 
 // The number of repairs, and of disks that they leave erased.
-#[derive(Drop)]
+#[derive(Clone, Copy)]
 pub struct Peeled {
     pub made: usize,
     pub left: usize,

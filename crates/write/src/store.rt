@@ -8,7 +8,7 @@ ghost use Rattle.write.specs.Store.{places_of, Room, parts};
 use model::Size;
 
 // Where the four blocks start.
-#[derive(Drop)]
+#[derive(Clone, Copy)]
 struct Places {
     own: usize,
     row: usize,

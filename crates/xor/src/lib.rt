@@ -1,4 +1,5 @@
 // Leaf loops over bytes: the exclusive or of stretches that stand evenly spaced in a slice, or, in `picked`, at the numbers that a
+#![tactic(auto)]
 // list gives. Nothing here knows what a disk is.
 //
 // A loop goes by parts of w bytes: 128 at a time, then 32, then 16. Where the length is no multiple of 16, a last part of 16

@@ -1,0 +1,61 @@
+-- `bridges::reach_all` meets its contract: each turn of the loop reaches one stripe, with its part if it is not reached yet.
+-- Assumes nothing.
+use mathlib.Core.Path.{sym, ◌∙◌}
+use mathlib.Core.Bool.{true}
+use mathlib.Core.Logic.{⊎_elim}
+use Prim.Native.Nat.{◌+◌, ◌-◌, ◌≤◌}
+use native.Mathlib.Nat.{not-suc-le-zero}
+use native.Mathlib.Omega.{arith}
+use borrow.Author.Count.{below_more}
+use borrow.Author.Tests.{not-true, not-false}
+use Rattle.model.specs.Grid.{layout_of}
+use Rattle.layout.proofs.Runs.{stripes_few}
+use Rattle.reach.specs.Reached.{has}
+use Rattle.bridges.proofs.Reaching.{none_grown}
+use Rattle.bridges.proofs.reach_all.Goals as goal
+
+pub loop-s-init : goal.loop-s-init
+loop-s-init c = (none_grown _ _ _ c.requires.1.1, λ i l. absurd (not-suc-le-zero l), omega arith)
+
+pub bound-requires : goal.bound-requires
+bound-requires c = c.requires.0
+
+pub has-requires : goal.has-requires
+has-requires c =
+    let few = stripes_few c.requires.0 in
+    omega (arith, c.loop-s-test.true, c.bound.ensures)
+
+pub reach_part-more-requires : goal.reach_part-more-requires
+reach_part-more-requires c =
+    let p = c.requires in
+    let few = stripes_few p.0 in
+    (p.0, (p.1.0, (c.loop-s.invariant.0, (omega (arith, c.loop-s-test.true, c.bound.ensures), sym c.has.ensures ∙ not-true _ c.if-not-has.true))))
+
+pub overflow_add-s : goal.overflow_add-s
+overflow_add-s c =
+    let few = stripes_few c.requires.0 in
+    omega (arith, c.loop-s-test.true, c.bound.ensures)
+
+pub loop-s-smaller : goal.loop-s-smaller
+loop-s-smaller c = omega (arith, c.loop-s-test.true, c.bound.ensures)
+
+pub loop-s-preserved : goal.loop-s-preserved
+loop-s-preserved c =
+    let h = c.loop-s.invariant in
+    let most : c.loop-s.s + 1 ≤ (layout_of c.args.size c.args.base).stripe_bound =
+    omega (arith, c.loop-s-test.true, c.bound.ensures) in
+    ⊎_elim
+    (λ (_, _, part, _, _, ways, done).
+    rw (ways, done) (part.ensures.0, below_more _ _ (λ i l. part.ensures.1.1 i (h.1 i l)) part.ensures.1.0, most))
+    (λ (if2, ways, done). rw (ways, done) (h.0, below_more _ _ h.1 (sym c.has.ensures ∙ not-false _ if2.left), most))
+    c.if-not-has.branch
+
+pub returns-clause-grown : goal.returns-clause-grown
+returns-clause-grown c =
+    let (grown, all, _) = c.loop-s.invariant in
+    grown
+
+pub returns-clause-all : goal.returns-clause-all
+returns-clause-all c =
+    let (grown, all, _) = c.loop-s.invariant in
+    λ s l. all s (omega (arith, c.loop-s-test.false, c.bound.ensures))

@@ -1,0 +1,70 @@
+-- `bridges::reach_part` meets its contract: each turn of the loop reaches one of the stripes ahead.
+-- Assumes nothing.
+use Prim.Native.Nat.{◌-◌}
+use native.Mathlib.Omega.{arith}
+use lib.Bits.{bit_and, or_lt, xor_lt}
+use lib.Count.{count_trailing_zeros}
+use lib.Pow.{pow-lt}
+use Rattle.layout.proofs.Runs.{numbered_two}
+use Rattle.reach.proofs.Words.{Without, lowest_out}
+use Rattle.neighbours.proofs.Neighbours.{grid-apart}
+use Rattle.bridges.proofs.Forest.{with_u, with_old}
+use Rattle.bridges.proofs.Reaching.{with_one, spread_begin, spread_next, spread_end, fewer_unseen}
+use Rattle.bridges.proofs.reach_part.Goals as goal
+
+pub loop-ahead-init : goal.loop-ahead-init
+loop-ahead-init c =
+    let p = c.requires in
+    let one = c.one.ensures in
+    let power = pow-lt {i = c.args.stripe} {j = 64} p.1.1.1.0 in
+    rw one
+    (spread_begin _ (numbered_two p.0) (grid-apart p.0) p.1.0 p.1.1.0 c.args.stripe p.1.1.1.0 p.1.1.1.1
+    (or_lt 64 _ _ c.struct_known-1.given.0.fits power) (c.shared_slice_known-3-1.given c.args.stripe).fits)
+
+-- Where the code began.
+abbrev start : goal.At-loop-ahead → goal.Start
+start l = l.before.before.before.before.before.before.before
+
+-- The stripe of a turn, which is ahead.
+out : (c : goal.In-loop-ahead) → let w = c.loop-ahead.ahead in Without w (count_trailing_zeros 64 w) (bit_and w (w - 1))
+out c = lowest_out _ c.loop-ahead-test.true c.loop-ahead.invariant.ahead_fits
+
+pub overflow_cast-next : goal.overflow_cast-next
+overflow_cast-next c = omega (arith, (out (goal.at.overflow_cast-next c).In-loop-ahead).small)
+
+pub reach_one-more-requires : goal.reach_one-more-requires
+reach_one-more-requires c =
+    let p = (start c.before.before).pre in
+    let h = c.loop-ahead.invariant in
+    (p.0, (p.1.0, (h.growing, ((out (goal.at.reach_one-more-requires c).In-loop-ahead).small, h.offered _ (out (goal.at.reach_one-more-requires c).In-loop-ahead).member))))
+
+pub offset_bounds-near-next : goal.offset_bounds-near-next
+offset_bounds-near-next c = omega (arith, (out (goal.at.offset_bounds-near-next c).In-loop-ahead).small)
+
+pub bounds-near-next : goal.bounds-near-next
+bounds-near-next c = omega (arith, (out (goal.at.bounds-near-next c).In-loop-ahead).small, c.requires.1.0.room)
+
+pub loop-ahead-smaller : goal.loop-ahead-smaller
+loop-ahead-smaller c =
+    fewer_unseen _ _ _ (out (goal.at.loop-ahead-smaller c).In-loop-ahead).small (c.loop-ahead.invariant.offered _ (out (goal.at.loop-ahead-smaller c).In-loop-ahead).member).unseen c.reach_one-more.ensures.1
+
+pub loop-ahead-preserved : goal.loop-ahead-preserved
+loop-ahead-preserved c =
+    let p = (start c.before.before.before.before.before.before.before.before).pre in
+    let more = c.reach_one-more in
+    let fits = c.struct_known-in-loop-ahead-1.given.0.fits in
+    spread_next _ (numbered_two p.0) (grid-apart p.0) p.1.0 c.loop-ahead.invariant _ (out (goal.at.loop-ahead-preserved c).In-loop-ahead).small more.ensures.0 fits more.ensures.1
+    (xor_lt 64 _ _ (or_lt 64 _ _ (or_lt 64 _ _ c.loop-ahead.invariant.ahead_fits (c.shared_slice_known-in-loop-ahead-1.given _).fits) fits) fits)
+
+pub returns : goal.returns
+returns c =
+    let s = start c.before in
+    let h = c.loop-ahead.invariant in
+    let p = s.pre in
+    let first = rw c.one.ensures at h.kept in (
+      spread_end _ (numbered_two p.0) (grid-apart p.0) p.1.0 h c.loop-ahead-test.false,
+      (
+        first s.args.stripe (with_u (with_one s.args.before.seen s.args.stripe)),
+        λ t k. first t (with_old (with_one s.args.before.seen s.args.stripe) t k),
+      ),
+    )

@@ -1,0 +1,44 @@
+-- `chain::group_in_order` meets its contract: the bytes so far are in order.
+-- Assumes nothing.
+use mathlib.Core.Path.{sym, ◌∙◌, ap, refl}
+use mathlib.Core.Bool.{true}
+use mathlib.Core.Logic.{⊎_elim}
+use Prim.Native.Nat.{ℕ, ◌+◌, ◌-◌}
+use native.Mathlib.Numerals.{add-one}
+use native.Mathlib.Omega.{arith}
+use borrow.Author.Rules.{rules}
+use Rattle.stripes.specs.Fold.{every}
+use Rattle.stripes.proofs.Fold.{and_both, every-not}
+use Rattle.chain.specs.Read.{in_order}
+use Rattle.chain.proofs.Groups.{off_and_not_zero, zero-byte, on_record}
+use Rattle.chain.proofs.group_in_order.Goals as goal
+
+pub loop-j-init : goal.loop-j-init
+unfolding every
+loop-j-init c = (search rules, refl)
+
+pub returns-then-marks-at-ne1 : goal.returns-then-marks-at-ne1
+returns-then-marks-at-ne1 c =
+    let j = c.loop-j.j in
+    let a = c.args in
+    sym
+    (every-not 16 _ j (search rules)
+    (off_and_not_zero a.marks.now a.sheet.now (a.at + j) (search rules) c.if-sheet-at-ne0.true c.if-marks-at-ne1.true))
+
+pub loop-j-preserved : goal.loop-j-preserved
+unfolding every
+loop-j-preserved c =
+    let a = c.args in
+    let l = c.loop-j in (
+      search rules,
+      rw add-one
+          (and_both l.invariant.1
+          (⊎_elim (λ w. on_record a.marks.now a.sheet.now (a.at + l.j) w.2.left)
+          (λ w. zero-byte a.marks.now a.sheet.now (a.at + l.j) w.left) c.if-sheet-at-ne0.branch)),
+    )
+
+pub returns : goal.returns
+returns c =
+    let l = c.loop-j in
+    let a = c.args in
+    sym l.invariant.1 ∙ ap (λ (n : ℕ). every n (λ i. in_order a.marks.now a.sheet.now (a.at + i))) (omega arith)

@@ -1,0 +1,26 @@
+-- `chain::list` meets its contract: a chain of repairs is not refused, and so the records are read.
+-- Assumes nothing.
+use mathlib.Core.Path.{◌∙◌, ap}
+use native.Mathlib.Omega.{arith}
+use borrow.Author.Rules.{rules}
+use Rattle.entries.specs.Listed.{listed}
+use Rattle.chain.proofs.Clean.{none-marked, by_number, by_records}
+use Rattle.chain.proofs.list.Goals as goal
+
+pub read-chain-requires : goal.read-chain-requires
+read-chain-requires c = (search rules, (search rules, (omega arith, none-marked 33)))
+
+pub returns-in_default : goal.returns-in_default
+returns-in_default c =
+    let refusal = by_number _ _ _ c.read-chain.ensures.0 _ c.enum_told-1.given.1 in
+    absurd (refusal.1 c.requires.1.1)
+
+pub returns-clause-number : goal.returns-clause-number
+returns-clause-number c =
+    let (fits, count) = by_records _ _ _ c.read-chain.ensures.0 _ c.chain-1.given.1 in
+    count
+
+pub returns-clause-list : goal.returns-clause-list
+returns-clause-list c =
+    let (fits, count) = by_records _ _ _ c.read-chain.ensures.0 _ c.chain-1.given.1 in
+    ap (listed c.read-chain.new.marks.0) count ∙ c.read-chain.ensures.1.0 fits

@@ -1,0 +1,14 @@
+-- `cycle::trace` meets its contract: the steps so far are listed.
+-- Assumes nothing.
+use mathlib.Core.Path.{◌≡◌}
+use Prim.Native.Nat.{◌-◌}
+use lib.ListN.{length}
+use Rattle.model.specs.Grid.{layout_of}
+use Rattle.cycle.proofs.Turn.{Turn}
+use Rattle.cycle.proofs.trace.Given as goal
+
+abbrev pub invariant-loop-k : goal.invariant-loop-k
+invariant-loop-k l =    (length l.list ≡ length l.initial.list) × Turn (layout_of l.size l.base) l.set l.list (record { l.disk = l.disk; l.stripe = l.stripe }) l.k
+
+abbrev pub decreases-loop-k : goal.decreases-loop-k
+decreases-loop-k l = (layout_of l.size l.base).stripe_bound - l.k

@@ -1,0 +1,18 @@
+-- `demands::seal_array` meets its contract: what seal promises is what demand 2 is proved of.
+-- Assumes nothing.
+use mathlib.Core.Path.{◌∙◌, sym, subst}
+use Rattle.model.specs.Demand2.{SealDemand}
+use Rattle.model.proofs.Demand2.{seal_demand}
+use Rattle.demands.proofs.seal_array.Goals as goal
+
+pub returns : goal.returns
+returns c =
+    let a = c.args in
+    let (status, array) = c.seal.ensures in (
+      status,
+      (
+        array,
+        λ ok. subst (SealDemand a.size a.block a.array.now) (sym array)
+            (seal_demand a.size a.block a.array.now (sym status ∙ ok)),
+      ),
+    )

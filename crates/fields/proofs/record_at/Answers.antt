@@ -1,0 +1,45 @@
+-- `fields::record_at` meets its contract: what the reader finds under the number, by cases.
+-- Assumes nothing.
+use mathlib.Core.Path.{◌≡◌, ◌∙◌, sym, ap}
+use Prim.Native.Nat.{ℕ, ◌≤◌, ◌<◌}
+use native.Mathlib.Omega.{arith}
+use borrow.Author.Tests.{le-leb, lt-leb}
+use Rattle.stripes.specs.Repair.{Entry}
+use Rattle.model.specs.Sheet.{narrow}
+use Rattle.model.specs.Chain.{if_record}
+use Rattle.reader.specs.declared.Found.TheVariants.{End, Outside}
+use Rattle.reader.proofs.Says.{found_says}
+use Rattle.fields.proofs.record_at.Goals as goal
+
+-- A field is itself under a number that a record has, and 0 under another.
+field : (k v : ℕ) → 0 < k → k ≤ 32 → v ≡ if_record narrow k v
+unfolding if_record
+field k v low high = rw (le-leb 1 k (omega arith), le-leb k 32 high)
+
+none : (k v : ℕ) → k ≡ 0 → 0 ≡ if_record narrow k v
+unfolding if_record
+none k v e = rw e
+
+beyond : (k v : ℕ) → 32 < k → 0 ≡ if_record narrow k v
+unfolding if_record
+beyond k v high = rw (lt-leb k 32 high, le-leb 1 k (omega arith))
+
+pub returns-in-Record : goal.returns-in-Record
+returns-in-Record c =
+    let a = c.args in
+    let is = found_says a.sheet.now a.number _ c.record_at-arg-1.given.0 (sym c.found-1.given.1 ∙ c.record_at-found.ensures) in
+    let same = sym is.2 in
+    let of : (v : ℕ) → v ≡ if_record narrow a.number v = λ v. field a.number v is.0 is.1 in
+    (ap (λ (e : Entry). e.disk) same ∙ of _, (ap (λ (e : Entry). e.stripe) same ∙ of _, sym is.3 ∙ of _))
+
+pub returns-in-End : goal.returns-in-End
+returns-in-End c =
+    let a = c.args in
+    let is = found_says a.sheet.now a.number End c.record_at-arg-1.given.0 (sym c.enum_told-1.given.1 ∙ c.record_at-found.ensures) in
+    (none _ _ is, (none _ _ is, none _ _ is))
+
+pub returns-in-Outside : goal.returns-in-Outside
+returns-in-Outside c =
+    let a = c.args in
+    let is = found_says a.sheet.now a.number Outside c.record_at-arg-1.given.0 (sym c.enum_told-in-Outside-1.given.1 ∙ c.record_at-found.ensures) in
+    (beyond _ _ is, (beyond _ _ is, beyond _ _ is))

@@ -1,0 +1,15 @@
+-- `listing::byte_at` meets its contract: past the end of the input stands 0.
+-- Assumes nothing.
+use mathlib.Core.Path.{refl, sym}
+use native.Mathlib.Omega.{arith}
+use lib.ListN.{get_or-eq_default}
+use Rattle.listing.proofs.byte_at.Goals as goal
+
+pub overflow_cast-result : goal.overflow_cast-result
+overflow_cast-result c = omega (arith, c.shared_slice_known-1.given c.args.place)
+
+pub returns-then-place-input : goal.returns-then-place-input
+returns-then-place-input c = refl
+
+pub returns : goal.returns
+returns c = sym (get_or-eq_default c.args.input.now 0 c.if-place-input.false)

@@ -1,0 +1,80 @@
+-- `look::look` meets its contract: each early return is at a test that fails, and the last hands back the block.
+-- Assumes nothing.
+use mathlib.Core.Path.{sym, ◌∙◌}
+use mathlib.Core.Bool.{true≢false}
+use Prim.Native.Nat.{◌/◌, ◌<◌}
+use native.Mathlib.Omega.{arith}
+use borrow.Author.Rules.{rules}
+use borrow.Author.Tests.{not-true, not-false}
+use Rattle.model.specs.Grid.{disks, map_bytes}
+use Rattle.model.proofs.Refusal.{sector_fits_lem}
+use Rattle.model.proofs.Grid.{sector-some, sectors-some, map-length}
+use Rattle.stripes.proofs.Bytes.{block-before}
+use Rattle.look.proofs.Part.{Passed, look_nothing, look_block}
+use Rattle.look.proofs.look.Goals as goal
+
+-- The tests are passed where the last one is.
+passed : (c : goal.Else-not-all_present) → let a = c.args in
+    Passed a.size a.block a.sector a.array.now a.map.now a.disk
+passed c =
+    (
+      sym c.sector_refusal.ensures ∙ c.if-sector_refusal-ne0.false,
+      sym c.map_fits.ensures ∙ not-false _ c.if-not-map_fits.false,
+      (let e = c.disks.ensures in let h = c.if-disks-disk.false in omega arith),
+      sym c.all_present.ensures ∙ not-false _ c.if-not-all_present.false,
+    )
+
+pub returns-then-sector_refusal-ne0 : goal.returns-then-sector_refusal-ne0
+returns-then-sector_refusal-ne0 c = look_nothing _ _ _ _ _ _ (λ (ok, mapped, inside, present). c.if-sector_refusal-ne0.true (c.sector_refusal.ensures ∙ ok)) _
+
+pub nonzero_div-sectors : goal.nonzero_div-sectors
+nonzero_div-sectors c =
+    let (array, sector) = sector_fits_lem _ _ _ _ (sym c.sector_refusal.ensures ∙ c.if-sector_refusal-ne0.false) in
+    let some = sector-some _ _ sector in
+    search rules
+
+pub map_fits-requires-clause-size_value : goal.map_fits-requires-clause-size_value
+map_fits-requires-clause-size_value c =
+    let (array, sector) = sector_fits_lem _ _ _ _ (sym c.sector_refusal.ensures ∙ c.if-sector_refusal-ne0.false) in
+    array.size
+
+pub map_fits-requires-clause-sectors_value : goal.map_fits-requires-clause-sectors_value
+map_fits-requires-clause-sectors_value c =
+    let (array, sector) = sector_fits_lem _ _ _ _ (sym c.sector_refusal.ensures ∙ c.if-sector_refusal-ne0.false) in
+    sectors-some _ _ array.block sector
+
+pub returns-then-not-map_fits : goal.returns-then-not-map_fits
+returns-then-not-map_fits c =
+    look_nothing _ _ _ _ _ _ (λ (ok, mapped, inside, present). true≢false (sym mapped ∙ sym c.map_fits.ensures ∙ not-true _ c.if-not-map_fits.true)) _
+
+pub disks-requires : goal.disks-requires
+disks-requires c =
+    let (array, sector) = sector_fits_lem _ _ _ _ (sym c.sector_refusal.ensures ∙ c.if-sector_refusal-ne0.false) in
+    array.size
+
+pub returns-then-disks-disk : goal.returns-then-disks-disk
+returns-then-disks-disk c = look_nothing _ _ _ _ _ _ (λ (ok, mapped, inside, present). let e = c.disks.ensures in omega arith) _
+
+pub all_present-requires : goal.all_present-requires
+unfolding map_bytes
+all_present-requires c =
+    let e = c.disks.ensures in
+    let h = c.if-disks-disk.false in
+    let a = c.args in
+    let long = map-length _ _ (sym c.map_fits.ensures ∙ not-false _ c.if-not-map_fits.false) in
+    let inside : a.disk < disks a.size = omega arith in
+    let end = block-before (a.block / a.sector) inside in
+    omega arith
+
+pub returns-then-not-all_present : goal.returns-then-not-all_present
+returns-then-not-all_present c =
+    look_nothing _ _ _ _ _ _ (λ (ok, mapped, inside, present). true≢false (sym present ∙ sym c.all_present.ensures ∙ not-true _ c.if-not-all_present.true)) _
+
+pub overflow_mul-at : goal.overflow_mul-at
+overflow_mul-at c = omega (arith, part-result-end c)
+
+pub overflow_add-result : goal.overflow_add-result
+overflow_add-result c = omega (arith, part-result-end c)
+
+pub returns : goal.returns
+returns c = look_block _ _ _ _ _ _ (passed (goal.at.returns c).Else-not-all_present) _

@@ -1,0 +1,103 @@
+-- `order::peel` meets its contract: each turn makes the next repair.
+-- Assumes nothing.
+use mathlib.Core.Path.{◌≡◌, sym, ◌∙◌, ap}
+use Prim.Native.Nat.{◌-◌, ◌<◌, ℕ}
+use native.Mathlib.Omega.{arith}
+use borrow.Author.Rules.{rules}
+use lib.ListN.{length}
+use Rattle.stripes.specs.Erased.{erasures, without}
+use Rattle.stripes.specs.Repair.{any_disk}
+use Rattle.stripes.proofs.Peel.{Allowed, peel_peels}
+use Rattle.stripes.specs.System.{Layout}
+use Rattle.stripes.proofs.Degree.{on-bound}
+use Rattle.stripes.specs.Fold.{count}
+use Rattle.model.specs.Grid.{layout_of}
+use Rattle.model.proofs.Grid.{disks-bound, size_fits_lem, layout-disks}
+use Rattle.model.proofs.Limits.{grid-repairs-bound}
+use Rattle.order.specs.declared.Next.TheVariants.{Repair}
+use Rattle.order.specs.Pick.{picked, held_repairs}
+use Rattle.order.proofs.Turns.{turn_none, turn_next, turn_stuck, turn_done, turn_ends, picked-allowed}
+use Rattle.layout.proofs.Runs.{stripes_few, numbered_two}
+use Rattle.order.proofs.peel.Goals as goal
+
+pub loop-k-init : goal.loop-k-init
+loop-k-init c = (turn_none _ c.requires.1.1.0, search rules, search rules, search rules)
+
+-- Where the code began, and its layout.
+abbrev start : goal.At-loop-k → goal.Start
+start l = l.before.before.before.before.before
+
+abbrev layout : goal.At-loop-k → Layout
+layout l = layout_of (start l).args.size (start l).args.base
+
+-- There are fewer repairs than the list has room for.
+room : (l : goal.At-loop-k) → (l.loop.k < 32) × (l.loop.k < length l.loop.list)
+room l =
+    let s = start l in
+    let e = erasures s.args.work.now in
+    let w = held_repairs (layout l) s.args.held e in
+    let few = grid-repairs-bound s.args.size s.args.base s.pre.0.above s.pre.0.fits e w (peel_peels (layout l) _ _ e) in
+    let made = l.loop.invariant.0.within in
+    (omega arith, omega (arith, l.loop.invariant.3, s.pre.1.1.1))
+
+pub pick-answer-requires : goal.pick-answer-requires
+pick-answer-requires c = ((start c.before.before.before).requires.0, c.loop-k.invariant.0.tallied)
+
+pub enum_known-answer : goal.enum_known-answer
+enum_known-answer c = c.in_default.keys1
+
+pub enum_told-1 : goal.enum_told-1
+enum_told-1 c = c.in_default.keys2
+
+-- The answer is the next repair, so it is allowed, and both its numbers are small.
+answered : (c : goal.In-Repair-2) →
+    let v = c.answer-1.given.0 in
+    Repair v.0 v.1.0 ≡ picked (layout c.before.before.before.before.before.before) (without any_disk (start c.before.before.before.before.before.before).args.held) (erasures c.loop-k.work)
+answered c = sym c.answer-1.given.1 ∙ c.pick-answer.ensures
+
+may : (c : goal.In-Repair-2) →
+    let v = c.answer-1.given.0 in
+    Allowed (layout c.before.before.before.before.before.before) (erasures c.loop-k.work) v.0 v.1.0
+may c = picked-allowed _ _ _ _ _ (answered c)
+
+small : (c : goal.In-Repair-2) → let v = c.answer-1.given.0 in (v.0 < 65536) × (v.1.0 < 65536)
+small c =
+    let s = start c.before.before.before.before.before.before in
+    let a = may c in
+    let most = disks-bound s.args.size (size_fits_lem s.args.size s.pre.0.fits) in
+    let same = layout-disks s.args.size s.args.base in
+    let few = stripes_few s.pre.0 in
+    (omega (arith, a.disk), omega (arith, on-bound (layout c.before.before.before.before.before.before) (numbered_two s.pre.0) _ a.disk _ a.here))
+
+pub take-requires : goal.take-requires
+take-requires c =
+    ((start c.before.before.before.before.before.before.before.before.before).requires.0, (c.loop-k.invariant.0.tallied, (may (goal.at.take-requires c).In-Repair-2).erased))
+
+pub put-requires : goal.put-requires
+put-requires c = ((room (goal.at.put-requires c).At-loop-k).1, small (goal.at.put-requires c).In-Repair-2)
+
+pub overflow_add-k : goal.overflow_add-k
+overflow_add-k c = omega (arith, (room (goal.at.overflow_add-k c).At-loop-k).0)
+
+pub loop-k-smaller : goal.loop-k-smaller
+loop-k-smaller c = omega (arith, c.loop-k-test.true)
+
+pub loop-k-preserved : goal.loop-k-preserved
+loop-k-preserved c =
+    let take = c.take in
+    let n = small (goal.at.loop-k-preserved c).In-Repair-2 in (
+      turn_next c.loop-k.invariant.0 _ _ (answered (goal.at.loop-k-preserved c).In-Repair-2) (room (goal.at.loop-k-preserved c).At-loop-k).1 n.0 n.1 take.ensures.1 take.ensures.0 c.put.ensures,
+      search rules,
+      search rules,
+      search rules,
+    )
+
+pub returns-after-loop-k : goal.returns-after-loop-k
+returns-after-loop-k c =
+    let s = start c.before in
+    let same = ap (λ (n : ℕ). count n (erasures s.args.work.now)) (layout-disks s.args.size s.args.base) in
+    turn_ends c.loop-k.invariant.0 (turn_done c.loop-k.invariant.0 _ (s.pre.1.0 ∙ sym same) (search rules))
+
+pub returns-in_default : goal.returns-in_default
+returns-in_default c =
+    turn_ends c.loop-k.invariant.0 (turn_stuck c.loop-k.invariant.0 (sym c.enum_told-1.given.1 ∙ c.pick-answer.ensures))

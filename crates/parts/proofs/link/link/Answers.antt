@@ -1,0 +1,105 @@
+-- `parts::link::link` meets its contract: the disk's two stripes have their places in the tables, and the name that a link ends is a
+-- number that a set of links has room for.
+-- Assumes nothing.
+use native.Mathlib.Omega.{arith}
+use lib.ListN.{get_or}
+use Prim.Native.Nat.{◌<◌}
+use Rattle.stripes.specs.Fold.{◌⊕◌}
+use Rattle.model.specs.Grid.{layout_of}
+use Rattle.layout.proofs.Runs.{numbered_two, stripes_few}
+use Rattle.tally.proofs.Counted.{Crossed, erased_crossed}
+use Rattle.parts.proofs.Parted.{crossed_places, parted-closed, walked-closed, answer-closed, parted-next, walked_next, answer_link, name_small}
+use Rattle.parts.proofs.link.link.Goals as goal
+
+-- Where the code began.
+abbrev start : goal.After-stripes_of-pair → goal.Start
+start c = c.before.before.before.before.before
+
+-- The disk with its stripes.
+pair : (c : goal.After-stripes_of-pair) →
+    let a = (start c).args in
+    Crossed (layout_of a.size a.base) a.disk c.stripes_of-pair.result.low c.stripes_of-pair.result.high
+pair c =
+    let s = start c in
+    erased_crossed s.pre.1.0 _ s.pre.1.1.0 (numbered_two s.pre.0) c.stripes_of-pair.ensures
+
+pub offset_bounds-ways-low : goal.offset_bounds-ways-low
+offset_bounds-ways-low c = omega (arith, stripes_few (start c).requires.0, (pair (goal.at.offset_bounds-ways-low c).After-stripes_of-pair).low_bound)
+
+pub bounds-ways-low : goal.bounds-ways-low
+bounds-ways-low c = (crossed_places (pair (goal.at.bounds-ways-low c).After-stripes_of-pair) (start c.before).requires.1.1.1.1.stripes_fit).0
+
+pub offset_bounds-ways-high : goal.offset_bounds-ways-high
+offset_bounds-ways-high c = omega (arith, stripes_few (start c.before).requires.0, (pair (goal.at.offset_bounds-ways-high c).After-stripes_of-pair).high_bound)
+
+pub bounds-ways-high : goal.bounds-ways-high
+bounds-ways-high c = (crossed_places (pair (goal.at.bounds-ways-high c).After-stripes_of-pair) (start c.before.before).requires.1.1.1.1.stripes_fit).1
+
+pub bounds-parts-high : goal.bounds-parts-high
+bounds-parts-high c = (crossed_places (pair (goal.at.bounds-parts-high c).After-stripes_of-pair) (start c.before.before.before).requires.1.1.1.0.stripes_fit).1
+
+pub bounds-parts-low : goal.bounds-parts-low
+bounds-parts-low c = (crossed_places (pair (goal.at.bounds-parts-low c).After-stripes_of-pair) (start c.before.before.before.before).requires.1.1.1.0.stripes_fit).0
+
+pub returns-then-parts-low : goal.returns-then-parts-low
+unfolding ◌⊕◌
+returns-then-parts-low c =
+    let e = (start c.before.before.before.before.before).requires in
+    let parted = e.1.1.1.0 in
+    let walked = e.1.1.1.1 in (
+      parted-closed e.1.1.0 (pair (goal.at.returns-then-parts-low c).After-stripes_of-pair) parted walked c.if-parts-low.true,
+      (walked-closed e.1.1.0 (pair (goal.at.returns-then-parts-low c).After-stripes_of-pair) parted walked c.if-parts-low.true, answer-closed e.1.1.0 (pair (goal.at.returns-then-parts-low c).After-stripes_of-pair) parted walked c.if-parts-low.true),
+    )
+
+-- The name that the disk ends.
+old-small : (p : goal.After-stripes_of-pair) → get_or (start p).args.parts.now p.stripes-of.result.high 0 < 64
+old-small p =
+    let e = (start p).requires in
+    let few = stripes_few e.0 in
+    let small = name_small e.1.1.1.0 (numbered_two e.0) (omega (arith, (pair p).disk)) _ (pair p).high_bound in
+    omega arith
+
+pub alone-own-requires : goal.alone-own-requires
+alone-own-requires c = old-small (goal.at.alone-own-requires c).After-stripes_of-pair
+
+pub bound-bound-requires : goal.bound-bound-requires
+bound-bound-requires c = (start c.before.before.before.before.before.before).requires.0
+
+pub extend-requires-clause-bound_in_bounds : goal.extend-requires-clause-bound_in_bounds
+extend-requires-clause-bound_in_bounds c =
+    let e = (start c.before.before.before.before.before.before.before.before.before).requires in
+    let is = c.bound-bound.ensures in
+    let parts = e.1.1.1.0.stripes_fit in
+    let ways = e.1.1.1.1.stripes_fit in
+    omega arith
+
+pub extend-requires-clause-bound_in_bounds_2 : goal.extend-requires-clause-bound_in_bounds_2
+extend-requires-clause-bound_in_bounds_2 c =
+    let e = (start c.before.before.before.before.before.before.before.before.before).requires in
+    let is = c.bound-bound.ensures in
+    let parts = e.1.1.1.0.stripes_fit in
+    let ways = e.1.1.1.1.stripes_fit in
+    omega arith
+
+pub unite-requires : goal.unite-requires
+unite-requires c =
+    let is = c.bound-bound.ensures in
+    let fits = (start c.before.before.before.before.before.before.before.before.before.before.before.before.before).requires.1.1.1.0.stripes_fit in
+    (omega arith, (omega (arith, (pair (goal.at.unite-requires c).After-stripes_of-pair).low_bound), omega (arith, (pair (goal.at.unite-requires c).After-stripes_of-pair).high_bound)))
+
+pub returns : goal.returns
+unfolding ◌⊕◌
+returns c =
+    let e = (start c.before.before.before.before.before.before.before.before.before.before.before.before.before.before.before.before).requires in
+    let parted = e.1.1.1.0 in
+    let walked = e.1.1.1.1 in
+    let apart = c.if-parts-low.false in
+    let unite = c.unite in
+    let extend = c.extend in
+    let bound = c.bound-bound.ensures in (
+      parted-next e.1.1.0 (pair (goal.at.returns c).After-stripes_of-pair) parted unite.auto.0 bound unite.ensures,
+      (
+        walked_next e.1.1.0 (pair (goal.at.returns c).After-stripes_of-pair) parted walked apart extend.auto.1.0 bound c.alone-own.ensures extend.ensures,
+        answer_link e.1.1.0 (pair (goal.at.returns c).After-stripes_of-pair) parted walked apart,
+      ),
+    )

@@ -1,0 +1,34 @@
+-- `parts::lost::is_undetermined` meets its contract: the two stripes of the disk have their places in the table.
+-- Assumes nothing.
+use mathlib.Core.Path.{◌∙◌}
+use native.Mathlib.Omega.{arith}
+use Rattle.stripes.specs.Fold.{◌⊕◌}
+use Rattle.model.specs.Grid.{layout_of}
+use Rattle.layout.proofs.Runs.{numbered_two, stripes_few}
+use Rattle.tally.proofs.Counted.{Crossed, erased_crossed}
+use Rattle.parts.proofs.Read.{read_undetermined}
+use Rattle.parts.proofs.lost.is_undetermined.Goals as goal
+
+-- Where the code began.
+abbrev start : goal.After-stripes_of-pair → goal.Start
+start c = c.before.before.before.before
+
+-- The disk with its stripes.
+pair : (c : goal.After-stripes_of-pair) →
+    let a = (start c).args in
+    Crossed (layout_of a.size a.base) a.disk c.stripes_of-pair.result.low c.stripes_of-pair.result.high
+pair c =
+    let s = start c in
+    erased_crossed s.pre.1.0 _ s.pre.1.1.0 (numbered_two s.pre.0) c.stripes_of-pair.ensures
+
+pub offset_bounds-ways-low : goal.offset_bounds-ways-low
+offset_bounds-ways-low c = omega (arith, stripes_few (start c).requires.0, (pair (goal.at.offset_bounds-ways-low c).After-stripes_of-pair).low_bound)
+
+pub offset_bounds-ways-high : goal.offset_bounds-ways-high
+offset_bounds-ways-high c = omega (arith, stripes_few (start c.before).requires.0, (pair (goal.at.offset_bounds-ways-high c).After-stripes_of-pair).high_bound)
+
+pub returns : goal.returns
+unfolding ◌⊕◌
+returns c =
+    let s = start c.before.before.before in
+    c.holds.ensures ∙ read_undetermined s.pre.1.1.0 (pair (goal.at.returns c).After-stripes_of-pair) s.pre.1.1.1.0 s.pre.1.1.1.1

@@ -1,0 +1,73 @@
+-- `parts::lost::undetermined_count` meets its contract: each turn of the loop judges one erased disk.
+-- Assumes nothing.
+use mathlib.Core.Path.{◌≡◌}
+use mathlib.Core.Bool.{true}
+use mathlib.Core.Logic.{⊎_elim, inl, inr}
+use Prim.Native.Nat.{◌-◌}
+use native.Mathlib.Omega.{arith}
+use borrow.Author.Rules.{rules}
+use Rattle.stripes.specs.Erased.{erasures}
+use Rattle.model.specs.Grid.{layout_of}
+use Rattle.model.proofs.Grid.{layout-disks, disks-bound, size_fits_lem}
+use Rattle.layout.proofs.Runs.{stripes_few}
+use Rattle.tally.specs.Tally.{Passed}
+use Rattle.tally.proofs.Scanned.{next_passed, next_erased_lem}
+use Rattle.tally.proofs.Counted.{erased-inside}
+use Rattle.parts.proofs.Judged.{Judged, judged_none, judged_over, judged_few, judged_all, judged_next}
+use Rattle.parts.proofs.lost.undetermined_count.Goals as goal
+
+pub link_all-closed-requires : goal.link_all-closed-requires
+link_all-closed-requires c =
+    let few = stripes_few c.requires.0 in
+    (c.requires.0, (c.requires.1, (omega arith, omega arith)))
+
+pub loop-size-init : goal.loop-size-init
+loop-size-init c = (judged_none _ _, omega arith)
+
+-- Where the code began.
+abbrev start : goal.At-loop-size → goal.Start
+start l = l.before.before.before.before.before.before.before.before
+
+-- The disks that a turn passes over.
+passed : (c : goal.After-next_erased-d) → Passed (start c.before).args.work.now c.loop-size.from c.next_erased-d.result
+passed c = next_passed _ _ c.next_erased-d.ensures c.loop-size.invariant.1
+
+over : (c : goal.After-next_erased-d) →
+    let a = (start c.before).args in
+    Judged (layout_of a.size a.base) a.work.now c.next_erased-d.result c.loop-size.count
+over c = judged_over c.loop-size.invariant.0 (passed c)
+
+pub returns-then-work-d : goal.returns-then-work-d
+returns-then-work-d c = judged_all (over (goal.at.returns-then-work-d c).After-next_erased-d) (start c.before.before).pre.1 c.if-work-d.true
+
+-- The disk of a turn is erased.
+erased : (c : goal.Else-work-d) → erasures (start c.before.before).args.work.now c.next_erased-d.result ≡ true
+erased c = next_erased_lem _ _ c.next_erased-d.ensures (search rules)
+
+pub is_undetermined-requires : goal.is_undetermined-requires
+is_undetermined-requires c =
+    let s = start c.before.before.before in
+    let all = c.link_all-closed.ensures in
+    (s.pre.0, (s.pre.1, (erased (goal.at.is_undetermined-requires c).Else-work-d, (all.1.0, all.1.1))))
+
+pub overflow_add-count : goal.overflow_add-count
+overflow_add-count c =
+    let s = start c.before.before.before.before.before in
+    let inside = erased-inside s.pre.1 _ (erased (goal.at.overflow_add-count c).Else-work-d) in
+    let same = layout-disks s.args.size s.args.base in
+    let most = disks-bound s.args.size (size_fits_lem s.args.size s.pre.0.fits) in
+    omega (arith, judged_few (over (goal.at.overflow_add-count c).After-next_erased-d))
+
+pub overflow_add-from : goal.overflow_add-from
+overflow_add-from c = omega (arith, c.if-work-d.false)
+
+pub loop-size-smaller : goal.loop-size-smaller
+loop-size-smaller c = omega (arith, c.if-work-d.false, (passed (goal.at.loop-size-smaller c).After-next_erased-d).after)
+
+pub loop-size-preserved : goal.loop-size-preserved
+loop-size-preserved c =
+    (
+      judged_next (over (goal.at.loop-size-preserved c).After-next_erased-d) c.is_undetermined.ensures
+          (⊎_elim (λ w. inl (w.0.taken, w.1)) (λ w. inr (w.0.left, w.1)) c.if-is_undetermined.branch),
+      omega (arith, c.if-work-d.false),
+    )

@@ -1,0 +1,40 @@
+-- `plan::draft` meets its contract: with one sector a block the map is its only position; else every position is noted first.
+-- Assumes nothing.
+use mathlib.Core.Path.{sym, ◌∙◌, ap}
+use Prim.Native.Nat.{ℕ}
+use native.Mathlib.Omega.{arith}
+use Rattle.stripes.specs.Erased.{erasures}
+use Rattle.model.specs.Sheet.{narrow}
+use Rattle.model.specs.Plan.{sheet_layout, loss_outcome}
+use Rattle.tally.proofs.Column.{one-fits}
+use Rattle.plan.specs.Drafted.{draft_sheets}
+use Rattle.plan.proofs.Answers.{one-outcome, one-draft}
+use Rattle.plan.proofs.draft.Goals as goal
+
+pub draft_column-requires : goal.draft_column-requires
+draft_column-requires c =
+    let p = c.requires in
+    let one = c.if-sectors-eq1.true in
+    let long = p.1.1.1 in (
+      p.0,
+      (one-fits {p = 0} (record { size = p.0; sectors = p.1.0; place = omega arith; map = p.1.1.0 }) one, omega arith),
+    )
+
+pub returns-then-sectors-eq1-clause-outcome : goal.returns-then-sectors-eq1-clause-outcome
+returns-then-sectors-eq1-clause-outcome c =
+    let one = c.if-sectors-eq1.true in
+    let a = c.args in
+    c.draft_column.ensures.0 ∙ one-outcome (sheet_layout a.size) (erasures a.map.now)
+          ∙ ap (λ (n : ℕ). loss_outcome n (sheet_layout a.size) (erasures a.map.now)) (sym one)
+
+pub returns-then-sectors-eq1-clause-sheets : goal.returns-then-sectors-eq1-clause-sheets
+returns-then-sectors-eq1-clause-sheets c =
+    let one = c.if-sectors-eq1.true in
+    let a = c.args in
+    c.draft_column.ensures.1 ∙ one-draft (sheet_layout a.size) (erasures a.map.now) a.limit
+          ∙ ap (λ (n : ℕ). draft_sheets n (sheet_layout a.size) narrow (erasures a.map.now) a.limit) (sym one)
+
+pub draft_all-requires : goal.draft_all-requires
+draft_all-requires c =
+    let p = c.requires in
+    (p.0, (p.1.0, (p.1.1.0, (c.note_all.auto.1.1.1.0 ∙ p.1.1.1, c.note_all.ensures))))

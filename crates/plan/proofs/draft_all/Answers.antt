@@ -1,0 +1,96 @@
+-- `plan::draft_all` meets its contract: each position gets what those before it leave of the limit, up to the first where the loss is
+-- fatal. The sheets of later ones still hold their notes.
+-- Assumes nothing.
+use mathlib.Core.Path.{◌≡◌, sym, ◌∙◌, ap}
+use Prim.Native.Nat.{◌*◌, ◌-◌}
+use native.Mathlib.Nat.{le_refl}
+use native.Mathlib.Omega.{arith}
+use lib.ListN.{length}
+use Rattle.stripes.specs.Erased.{erasures}
+use Rattle.stripes.specs.Sectors.{at_position}
+use Rattle.model.specs.Sheet.{narrow}
+use Rattle.model.proofs.Grid.{sectors-bound}
+use Rattle.model.proofs.SheetRow.{length-sheet_at}
+use Rattle.sheet.proofs.Part.{part_sheet}
+use Rattle.sheet.proofs.Put.{put_sheet}
+use Rattle.plan.proofs.Begun.{begins, ends, goes, stops, repairs_told, after-length, after-other, own_few, before-few}
+use Rattle.plan.proofs.draft_all.Goals as goal
+
+-- The loop that a position is drafted in, and the start.
+abbrev turn : goal.After-draft_noted-answer → goal.At-loop-p
+turn d = d.before.before.before
+
+abbrev start : goal.After-draft_noted-answer → goal.Start
+start d = (turn d).before.before.before
+
+-- The sheets after it keep their length.
+kept : (d : goal.After-draft_noted-answer) → let l = (turn d).loop in
+    length (put_sheet l.p d.draft-noted.new.1.1.1.1.0 l.sheets) ≡ 98 * (start d).args.sectors
+kept d =
+    after-length _ _ _ _ (turn d).loop.invariant.0 d.before.before.loop-test.true d.draft-noted.ensures.0 d.draft-noted.ensures.1
+
+pub loop-p-init : goal.loop-p-init
+loop-p-init c = let notes = c.requires.1.1.1 in (begins _ _ _ _ _ notes.0, λ q low high. notes.1 q high)
+
+pub overflow_mul-at : goal.overflow_mul-at
+overflow_mul-at c =
+    let few = (sectors-bound _ c.requires.1.0).1 in
+    omega arith
+
+pub overflow_add-own : goal.overflow_add-own
+overflow_add-own c =
+    let few = (sectors-bound _ c.requires.1.0).1 in
+    omega arith
+
+pub draft_noted-answer-requires : goal.draft_noted-answer-requires
+draft_noted-answer-requires c =
+    let place = c.loop-p-test.true in (
+      record { size = c.requires.0; sectors = c.requires.1.0; place = place; map = c.requires.1.1.0 },
+      (
+        ap length (part_sheet narrow c.loop-p.p c.loop-p.sheets)
+            ∙ length-sheet_at narrow c.args.sectors c.loop-p.sheets c.loop-p.invariant.0.long c.loop-p.p place,
+        rw (part_sheet narrow c.loop-p.p c.loop-p.sheets) (c.loop-p.invariant.1 c.loop-p.p (le_refl _) place),
+      ),
+    )
+
+pub zero_others-requires : goal.zero_others-requires
+zero_others-requires c =
+    (c.loop-p-test.true, ((sectors-bound _ (start c.before.before.before.before).requires.1.0).1, kept (goal.at.zero_others-requires c).After-draft_noted-answer))
+
+pub returns-in_default : goal.returns-in_default
+returns-in_default c =
+    stops _ _ _ _ (turn c.before.before.before.before.before.before.before).loop.invariant.0 c.loop-p-test.true c.draft_noted-answer.ensures.0 c.draft_noted-answer.ensures.1
+    c.in_default.keys2 c.zero_others.ensures
+
+pub overflow_add-count : goal.overflow_add-count
+overflow_add-count c =
+    let s = start c.before.before.before.before.before in
+    let l = (turn c.before.before.before.before.before).loop in
+    let number = (repairs_told _ _ _ (sym c.draft_noted-answer.ensures.0 ∙ c.answer-1.given.1)).1 in
+    let here = own_few s.args.size s.pre.0 (at_position s.args.sectors l.p (erasures s.args.map.now)) in
+    let so_far = before-few s.args.size s.pre.0 s.args.sectors (erasures s.args.map.now) l.p in
+    let counted = l.inv.0.counted in
+    let few = (sectors-bound _ s.pre.1.0).1 in
+    let place = c.loop-p-test.true in
+    omega arith
+
+pub overflow_sub-left : goal.overflow_sub-left
+overflow_sub-left c = let least = c.at_most-left.ensures in omega arith
+
+pub overflow_add-p : goal.overflow_add-p
+overflow_add-p c = omega (arith, c.loop-p-test.true)
+
+pub loop-p-smaller : goal.loop-p-smaller
+loop-p-smaller c = omega (arith, c.loop-p-test.true)
+
+pub loop-p-preserved : goal.loop-p-preserved
+loop-p-preserved c =
+    let l = (turn c.before.before.before.before.before.before).loop in
+    let place = c.loop-p-test.true in
+    let (says, is) = c.draft_noted-answer.ensures in (
+      goes _ _ _ _ l.inv.0 place says is c.answer-1.given.1 c.at_most-left.ensures,
+      λ q low high. rw (after-other _ _ _ _ l.inv.0 place says is q (λ same. omega arith)) (l.inv.1 q (omega arith) high),
+    )
+
+pub returns : goal.returns
+returns c = let over = c.loop-p-test.false in ends _ _ _ _ c.loop-p.invariant.0 (omega arith)

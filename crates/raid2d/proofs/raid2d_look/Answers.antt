@@ -1,0 +1,44 @@
+-- `raid2d::raid2d_look` meets its contract: a part that is not empty is the block.
+-- Assumes nothing.
+use mathlib.Core.Path.{◌≡◌, ◌∙◌, sym, ap}
+use native.Mathlib.Omega.{arith}
+use lib.ListN.{length}
+use Rattle.model.specs.Grid.{rectangle}
+use Rattle.model.specs.Array.{look_length}
+use Rattle.raid2d.proofs.Looked.{Found, part_length, look_none, look_some}
+use Rattle.raid2d.proofs.raid2d_look.Goals as goal
+
+-- The part's length, which the code tests.
+part_is : (c : goal.After-look-part) → let a = c.args in length c.look-part.result.now ≡ look_length (rectangle a.rows a.columns) a.block a.sector a.array.now a.map.now a.disk
+unfolding rectangle
+part_is c = let a = c.args in ap length c.look-part.ensures.0 ∙ part_length (rectangle a.rows a.columns) a.block a.sector a.array.now a.map.now a.disk
+
+found : (c : goal.Else-len-eq0) → let a = c.args in Found (rectangle a.rows a.columns) a.block a.sector a.array.now a.map.now a.disk
+unfolding rectangle
+found c = let a = c.args in look_some (rectangle a.rows a.columns) a.block a.sector a.array.now a.map.now a.disk (λ e. c.if-len-eq0.false (part_is c.before ∙ sym e))
+
+pub returns-then-len-eq0-clause-length : goal.returns-then-len-eq0-clause-length
+unfolding rectangle
+returns-then-len-eq0-clause-length c =
+    let a = c.args in
+    let e = sym c.if-len-eq0.true ∙ part_is (goal.at.returns-then-len-eq0-clause-length c).After-look-part in
+    e
+
+pub returns-then-len-eq0-clause-offset : goal.returns-then-len-eq0-clause-offset
+unfolding rectangle
+returns-then-len-eq0-clause-offset c =
+    let a = c.args in
+    let e = sym c.if-len-eq0.true ∙ part_is (goal.at.returns-then-len-eq0-clause-offset c).After-look-part in
+    look_none (rectangle a.rows a.columns) a.block a.sector a.array.now a.map.now a.disk e a.offset.now
+
+pub overflow_mul-offset : goal.overflow_mul-offset
+unfolding rectangle
+overflow_mul-offset c = let h = (found (goal.at.overflow_mul-offset c).Else-len-eq0).within in omega arith
+
+pub returns-clause-length : goal.returns-clause-length
+unfolding rectangle
+returns-clause-length c = part_is (goal.at.returns-clause-length c).After-look-part
+
+pub returns-clause-offset : goal.returns-clause-offset
+unfolding rectangle
+returns-clause-offset c = sym ((found (goal.at.returns-clause-offset c).Else-len-eq0).offset-is c.args.offset.now)

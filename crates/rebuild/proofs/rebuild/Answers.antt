@@ -1,0 +1,122 @@
+-- `rebuild::rebuild` meets its contract, at each of its six ends.
+-- Assumes nothing.
+use mathlib.Core.Path.{◌≡◌, ◌∙◌, sym}
+use mathlib.Core.Bool.{true}
+use Prim.Native.Nat.{◌/◌}
+use native.Mathlib.Omega.{arith}
+use borrow.Author.Tests.{not-true, not-false}
+use lib.ListN.{length}
+use Rattle.model.specs.Grid.{sectors_fit}
+use Rattle.model.specs.Refusal.{refusal, sector_tests}
+use Rattle.model.proofs.Grid.{sector-some, sectors-some, sectors-bound}
+use Rattle.model.proofs.Refusal.{sector_fits_lem}
+use Rattle.layout.proofs.Numbers.{numbered}
+use Rattle.rebuild.proofs.Answers.{array-refused, sheet-refused, no-repairs, Passed, fitting, held, as-plan, Planned, planned, sheets-long, chains-fit, peels, made-is, made-few, count-is, in_map, contradicted, made-them}
+use Rattle.rebuild.proofs.rebuild.Goals as goal
+
+-- The array and the sectors have passed their tests, and then everything has.
+array_ok : (c : goal.Else-of_array-ne0) → let a = c.args in
+    refusal (sector_tests a.size a.block (length a.array.now) a.sector) ≡ 0
+array_ok c = sym c.sector_refusal-of_array.ensures ∙ c.if-of_array-ne0.false
+
+some-sectors : (c : goal.Else-of_array-ne0) → let a = c.args in sectors_fit (a.block / a.sector) ≡ true
+some-sectors c =
+    let a = c.args in
+    let (array, sector) = sector_fits_lem a.size a.block (length a.array.now) a.sector (array_ok c) in
+    sectors-some a.block a.sector array.block sector
+
+abbrev start : goal.Else-limit-eq0 → goal.Start
+start c = c.before.before.before.before.before.before.before.before.before
+
+passed : (c : goal.Else-limit-eq0) → let a = (start c).args in
+    Passed a.size a.block a.sector a.array.now a.map.now a.sheets.now a.limit
+passed c =
+    let other = c.if-limit-eq0.false in
+    record {
+      array = array_ok c.before.before.before;
+      sheetsFit = sym c.sheet_refusal-of_sheets.ensures ∙ c.if-of_sheets-ne0.false;
+      some = omega arith;
+    }
+
+-- Plan has answered with repairs.
+abbrev tests : goal.After-draft-answer → goal.Else-limit-eq0
+tests d = d.before.before.before
+
+abbrev draft : goal.After-at_most-made → goal.After-draft-answer
+draft c = c.before.before.before.before.before.before
+
+drafted : (c : goal.After-at_most-made) → let d = draft c in let a = (start (tests d)).args in
+    Planned a.size a.block a.sector a.array.now a.map.now a.sheets.now a.limit
+    d.draft.last.1.1.1.0 c.answer-1.given.0.0 c.at_most-made.result
+drafted c =
+    let d = draft c in
+    planned (passed (tests d)) _ _ d.draft.ensures.0 d.draft.ensures.1 _ c.answer-1.given.1 _ c.at_most-made.ensures
+
+pub returns-then-of_array-ne0 : goal.returns-then-of_array-ne0
+returns-then-of_array-ne0 c =
+    let a = c.args in
+    array-refused a.size a.block a.sector a.array.now a.map.now a.sheets.now a.limit _ c.sector_refusal-of_array.ensures
+    c.if-of_array-ne0.true
+
+pub nonzero_div-sectors : goal.nonzero_div-sectors
+nonzero_div-sectors c =
+    let a = c.args in
+    sector-some a.block a.sector (sector_fits_lem a.size a.block (length a.array.now) a.sector (array_ok (goal.at.nonzero_div-sectors c).Else-of_array-ne0)).1
+
+pub sheet_refusal-of_sheets-requires : goal.sheet_refusal-of_sheets-requires
+sheet_refusal-of_sheets-requires c =
+    let a = c.args in
+    ((sector_fits_lem a.size a.block (length a.array.now) a.sector (array_ok (goal.at.sheet_refusal-of_sheets-requires c).Else-of_array-ne0)).0.size, some-sectors (goal.at.sheet_refusal-of_sheets-requires c).Else-of_array-ne0)
+
+pub returns-then-of_sheets-ne0 : goal.returns-then-of_sheets-ne0
+returns-then-of_sheets-ne0 c =
+    let a = c.args in
+    sheet-refused a.size a.block a.sector a.array.now a.map.now a.sheets.now a.limit (array_ok (goal.at.returns-then-of_sheets-ne0 c).Else-of_array-ne0) _
+    c.sheet_refusal-of_sheets.ensures c.if-of_sheets-ne0.true
+
+pub returns-then-limit-eq0 : goal.returns-then-limit-eq0
+returns-then-limit-eq0 c =
+    let a = c.args in
+    no-repairs a.size a.block a.sector a.array.now a.map.now a.sheets.now a.limit
+    (array_ok (goal.at.returns-then-limit-eq0 c).Else-of_array-ne0) (sym c.sheet_refusal-of_sheets.ensures ∙ c.if-of_sheets-ne0.false) c.if-limit-eq0.true
+
+pub draft-answer-requires : goal.draft-answer-requires
+draft-answer-requires c =
+    let f = fitting (passed (goal.at.draft-answer-requires c).Else-limit-eq0) in
+    (f.array.size, (some-sectors (goal.at.draft-answer-requires c).Else-of_array-ne0, (f.map, f.long)))
+
+pub returns-in_default : goal.returns-in_default
+returns-in_default c =
+    as-plan (passed (tests c.before.before.before)) _ _ c.draft-answer.ensures.0 c.draft-answer.ensures.1 c.in_default.keys2
+
+pub make-requires : goal.make-requires
+make-requires c =
+    let a = (start (tests (draft c.before.before.before))).args in
+    let p = drafted (goal.at.make-requires c).After-at_most-made in
+    let f = fitting p.tests in (
+      numbered a.size f.array.size,
+      (
+        held p.tests,
+        (f.map, (sheets-long p, (chains-fit p, (peels p, (made-is p, (made-few p, count-is p)))))),
+      ),
+    )
+
+pub zero_all-requires : goal.zero_all-requires
+zero_all-requires c = sheets-long (drafted (goal.at.zero_all-requires c).After-at_most-made)
+
+pub returns-then-not-make : goal.returns-then-not-make
+returns-then-not-make c =
+    contradicted (drafted (goal.at.returns-then-not-make c).After-at_most-made) _ c.make.ensures.0 (not-true _ c.if-not-make.true)
+    _ _ c.make.ensures.1 c.zero_all.ensures
+
+pub mark_present-requires : goal.mark_present-requires
+mark_present-requires c =
+    let p = drafted (goal.at.mark_present-requires c).After-at_most-made in
+    let t = tests (draft c.before.before.before.before.before.before.before.before.before) in
+    let a = (start t).args in
+    ((sectors-bound (a.block / a.sector) (some-sectors t.before.before.before.before)).1, (sheets-long p, (chains-fit p, in_map p)))
+
+pub returns : goal.returns
+returns c =
+    made-them (drafted (goal.at.returns c).After-at_most-made) _ c.make.ensures.0
+    (not-false _ c.if-not-make.false) _ _ c.make.ensures.1 c.mark_present.ensures

@@ -1,0 +1,49 @@
+-- `rebuild::turn::make` meets its contract, at each of its two ends.
+-- Assumes nothing.
+use mathlib.Core.Path.{◌∙◌, sym, ap}
+use mathlib.Core.Bool.{not}
+use native.Mathlib.Omega.{arith}
+use Rattle.stripes.specs.System.{whole}
+use Rattle.stripes.specs.Erased.{erasures}
+use Rattle.rebuild.proofs.Made.{nothing_tested, all_tested, made_array}
+use Rattle.rebuild.proofs.turn.make.Goals as goal
+
+pub repair_positions-requires : goal.repair_positions-requires
+repair_positions-requires c =
+    let p = c.requires in
+    (p.0, (p.1.0, (p.1.1.1.0, (p.1.1.1.1.0, p.1.1.1.1.1.0))))
+
+pub returns-then-made-count-clause-answer : goal.returns-then-made-count-clause-answer
+returns-then-made-count-clause-answer c =
+    let a = c.args in
+    let (long, (most, all)) = c.requires.1.1.1.1.1.1 in
+    let less = c.if-made-count.true in
+    sym (ap not (nothing_tested _ a.map.now _ c.requires.1.1.1.1.1.0 (whole a.sector) a.array.now (omega arith)))
+
+pub returns-then-made-count-clause-array : goal.returns-then-made-count-clause-array
+returns-then-made-count-clause-array c =
+    let a = c.args in
+    let (long, (most, all)) = c.requires.1.1.1.1.1.1 in
+    let less = c.if-made-count.true in
+    c.repair_positions.ensures
+
+pub restore-requires : goal.restore-requires
+restore-requires c =
+    let p = c.requires in
+    (p.0, (p.1.0, (p.1.1.0, (p.1.1.1.0, (p.1.1.1.1.0, p.1.1.1.1.1.0)))))
+
+pub returns-clause-answer : goal.returns-clause-answer
+returns-clause-answer c =
+    let a = c.args in
+    let (answer, array) = c.restore.ensures in
+    let (long, (most, all)) = c.requires.1.1.1.1.1.1 in
+    let none = c.if-made-count.false in
+    answer ∙ sym (all_tested _ a.map.now _ c.requires.1.1.1.1.1.0 (whole a.sector) a.array.now (omega arith))
+
+pub returns-clause-array : goal.returns-clause-array
+returns-clause-array c =
+    let a = c.args in
+    let (answer, array) = c.restore.ensures in
+    let (long, (most, all)) = c.requires.1.1.1.1.1.1 in
+    let none = c.if-made-count.false in
+    made_array _ (whole a.sector) a.array.now (erasures a.map.now) _ _ _ answer array

@@ -1,0 +1,56 @@
+-- `replay::all_allowed` meets its contract: each turn judges one entry.
+-- Assumes nothing.
+use mathlib.Core.Path.{◌≡◌, sym, ◌∙◌, ap}
+use mathlib.Core.Bool.{true}
+use Prim.Native.Nat.{ℕ, ◌-◌}
+use native.Mathlib.Omega.{arith}
+use borrow.Author.Rules.{rules}
+use borrow.Author.Tests.{not-true, not-false}
+use Rattle.stripes.specs.Erased.{erasures}
+use Rattle.stripes.specs.Repair.{allowed, all_allowed}
+use Rattle.stripes.proofs.Peel.{allowed_is}
+use Rattle.model.specs.Grid.{layout_of}
+use Rattle.entries.specs.Listed.{listed}
+use Rattle.replay.proofs.Replayed.{replayed_none, replayed_next, replayed_refused}
+use Rattle.replay.proofs.all_allowed.Goals as goal
+
+pub loop-k-init : goal.loop-k-init
+loop-k-init c = (search rules, search rules, search rules, replayed_none _ c.requires.1.0)
+
+-- Where the code began.
+abbrev start : goal.At-loop-k → goal.Start
+start l = l.before.before.before.before.before
+
+pub allowed-requires-clause-numbered : goal.allowed-requires-clause-numbered
+allowed-requires-clause-numbered c = (start c.before.before.before.before.before).requires.0
+
+pub allowed-requires-clause-tallied : goal.allowed-requires-clause-tallied
+allowed-requires-clause-tallied c = c.loop-k.invariant.3.tallied
+
+pub returns-then-not-allowed : goal.returns-then-not-allowed
+returns-then-not-allowed c =
+    replayed_refused c.loop-k.invariant.3 _ _ c.disk_of-disk.ensures c.stripe_of-stripe.ensures
+    (sym c.allowed.ensures ∙ not-true _ c.if-not-allowed.true) _ c.loop-k-test.true
+
+-- The entry is a repair that is allowed.
+may : (c : goal.Else-not-allowed) →
+    allowed (layout_of (start c.before.before.before.before.before.before.before).args.size (start c.before.before.before.before.before.before.before).args.base) (erasures c.loop-k.work) c.disk_of-disk.result c.stripe_of-stripe.result ≡ true
+may c = sym c.allowed.ensures ∙ not-false _ c.if-not-allowed.false
+
+pub take-requires : goal.take-requires
+take-requires c =
+    ((start c.before.before.before.before.before.before.before.before.before).requires.0, (c.loop-k.invariant.3.tallied, (allowed_is _ _ _ _ (may (goal.at.take-requires c).Else-not-allowed)).erased))
+
+pub loop-k-preserved : goal.loop-k-preserved
+loop-k-preserved c =
+    let take = c.take in (
+      search rules,
+      search rules,
+      search rules,
+      replayed_next c.loop-k.invariant.3 _ _ c.disk_of-disk.ensures c.stripe_of-stripe.ensures (may (goal.at.loop-k-preserved c).Else-not-allowed) take.ensures.1 take.ensures.0,
+    )
+
+pub returns : goal.returns
+returns c =
+    let s = (start c.before).args in
+    sym (ap (λ (n : ℕ). all_allowed (layout_of s.size s.base) (erasures s.work.now) (listed s.list.now n)) (omega arith) ∙ c.loop-k.invariant.3.fair)

@@ -1,0 +1,52 @@
+-- `replay::clears_in` meets its contract: the position is loaded, its list judged, and the repairs are counted.
+-- Assumes nothing.
+use mathlib.Core.Path.{◌≡◌, sym, ◌∙◌, ap, ap₂}
+use mathlib.Core.Bool.{Bool}
+use Prim.Native.Nat.{ℕ}
+use native.Mathlib.Omega.{arith}
+use borrow.Author.Tests.{not-true, not-false}
+use Rattle.stripes.specs.Fold.{count}
+use Rattle.stripes.specs.Erased.{erasures}
+use Rattle.stripes.specs.Repair.{all_allowed}
+use Rattle.stripes.specs.Sectors.{at_position}
+use Rattle.model.specs.Grid.{layout_of}
+use Rattle.model.proofs.Grid.{layout-disks}
+use Rattle.entries.specs.Listed.{listed}
+use Rattle.tally.proofs.Column.{position_inside}
+use Rattle.replay.proofs.Replayed.{clears_all, clears-not}
+use Rattle.replay.proofs.clears_in.Goals as goal
+
+-- Where the code began, from the loading on.
+abbrev start : goal.After-load_position → goal.Start
+start c = c.before.before.before.before.before.before.before
+
+pub tally-erased-requires : goal.tally-erased-requires
+tally-erased-requires c =
+    let p = (start c.before.before.before.before.before).requires in
+    let room = p.1.0.room in
+    let same = c.load_position.auto.1.1.1.1.0 in
+    let past = position_inside p.1.0.positioned in
+    (p.0, (omega arith, (λ d l. ap (λ (e : ℕ → Bool). e d) c.load_position.ensures ∙ past d l, (omega arith, omega arith))))
+
+-- Where the position was loaded, from the judgement on; and what is found is so of the position.
+abbrev loaded : goal.After-all_allowed → goal.After-load_position
+loaded c = c.before.before.before.before.before.before.before.before.before.before.before.before.before.before
+
+judged : (c : goal.After-all_allowed) →
+    let a = (start (loaded c)).args in
+    let e = at_position a.sectors a.position (erasures a.map.now) in
+    c.all_allowed.result ≡ all_allowed (layout_of a.size a.base) e (listed a.list.now a.count)
+judged c =
+    let a = (start (loaded c)).args in
+    c.all_allowed.ensures
+    ∙ ap (λ (e : ℕ → Bool). all_allowed (layout_of a.size a.base) e (listed a.list.now a.count)) (loaded c).load-position.ensures
+
+pub returns-then-not-all_allowed : goal.returns-then-not-all_allowed
+returns-then-not-all_allowed c =
+    clears-not _ _ _ _ (sym (judged (goal.at.returns-then-not-all_allowed c).After-all_allowed) ∙ not-true _ c.if-not-all_allowed.true)
+
+pub returns : goal.returns
+returns c =
+    let a = (start (loaded c.before.before.before.before.before)).args in
+    clears_all _ _ _ _ (sym (judged (goal.at.returns c).After-all_allowed) ∙ not-false _ c.if-not-all_allowed.false) _
+    (c.tally-erased.ensures.0 ∙ ap₂ count (sym (layout-disks a.size a.base)) (loaded c.before.before.before.before.before).load-position.ensures)

@@ -1,0 +1,139 @@
+-- `restore::positions::repair_positions` meets its contract: after p turns the repairs of the first p sheets are made.
+-- Assumes nothing.
+use mathlib.Core.Path.{◌≡◌, sym, ◌∙◌, ap}
+use mathlib.Core.List.{List}
+use Prim.Native.Nat.{ℕ, ◌+◌, ◌*◌, ◌-◌, ◌/◌, ◌≤◌}
+use native.Mathlib.Omega.{arith}
+use borrow.Author.Rules.{rules}
+use lib.ListN.{length}
+use Rattle.stripes.specs.System.{whole}
+use Rattle.stripes.specs.Erased.{erasures}
+use Rattle.stripes.specs.Repair.{Peels, rebuilt}
+use Rattle.stripes.specs.Sectors.{sectored, at_position, stretch_at, rising}
+use Rattle.stripes.proofs.Restore.{length-rebuilt}
+use Rattle.stripes.proofs.SectorBytes.{stretch_inside}
+use Rattle.model.specs.Grid.{layout_of}
+use Rattle.model.specs.Sheet.{narrow, sheet_at}
+use Rattle.model.specs.Chain.{chain_refusal, chain_entries}
+use Rattle.model.specs.Follow.{sheets_entries}
+use Rattle.model.proofs.Grid.{layout-disks, sector-cut, sector-some}
+use Rattle.model.proofs.Chain.{chain_few}
+use Rattle.model.proofs.SheetRow.{length-sheet_at}
+use Rattle.entries.specs.Listed.{listed}
+use Rattle.sheet.proofs.Part.{part_sheet}
+use Rattle.restore.proofs.Judged.{on-disks, on_stripes}
+use Rattle.restore.proofs.ByPosition.{peels_at, positions-none, positions-next}
+use Rattle.restore.proofs.positions.repair_positions.Goals as goal
+
+-- The block is cut into sectors, and the array holds a block for each disk.
+cut : (s : goal.Start) → s.args.block ≡ s.args.block / s.args.sector * s.args.sector
+cut s = sector-cut s.args.block s.args.sector s.requires.1.0.sector
+
+sized : (s : goal.Start)
+    → length s.args.array.now ≡ (layout_of s.args.size s.args.base).disks * s.args.block
+sized s = s.requires.1.0.sized ∙ ap (λ (n : ℕ). n * s.args.block) (sym (layout-disks s.args.size s.args.base))
+
+-- The array keeps its length.
+kept : (c : goal.At-loop-p) → length c.loop-p.array ≡ length c.args.array.now
+kept c = ap length c.loop-p.invariant.2 ∙ length-rebuilt _ _ _ _
+
+-- The stretch of the position lies within the block.
+inside : (c : goal.In-loop-p) → let a = c.args in
+    c.loop-p.p * a.sector + a.sector ≤ a.block
+inside c =
+    stretch_inside (c.args.block / c.args.sector) c.args.sector c.args.block (cut c.before.before.before.before.before) c.loop-p-test.true
+
+pub nonzero_div-sectors : goal.nonzero_div-sectors
+nonzero_div-sectors c = sector-some c.args.block c.args.sector c.requires.1.0.sector
+
+pub loop-p-init : goal.loop-p-init
+loop-p-init c =
+    let a = c.args in (
+      search rules,
+      search rules,
+      positions-none (a.block / a.sector) a.sector a.block (cut (goal.at.loop-p-init c).Start) (layout_of a.size a.base) a.array.now (sized (goal.at.loop-p-init c).Start) _,
+    )
+
+pub list-count-requires : goal.list-count-requires
+list-count-requires c =
+    let place = c.loop-p-test.true in
+    let is = part_sheet narrow c.loop-p.p c.args.sheets.now in (
+      ap length is ∙ length-sheet_at narrow (c.args.block / c.args.sector) c.args.sheets.now c.requires.1.1.0 c.loop-p.p place,
+      (search rules, ap (chain_refusal narrow) is ∙ c.requires.1.1.1.0 c.loop-p.p place),
+    )
+
+pub overflow_mul-stretch : goal.overflow_mul-stretch
+overflow_mul-stretch c = let h = inside (goal.at.overflow_mul-stretch c).In-loop-p in omega arith
+
+-- The list has the entries of the sheet, and they are allowed at the position.
+lists : (c : goal.After-list-in-loop-p-1) →
+    let a = c.args in
+    let r = c.list-count in
+    listed r.new.1.0 r.result ≡ chain_entries narrow (sheet_at narrow c.loop-p.p a.sheets.now)
+lists c =
+    let a = c.args in
+    c.list-count.ensures.1 ∙ ap (chain_entries narrow) (part_sheet narrow c.loop-p.p a.sheets.now)
+
+allowed-there : (c : goal.After-list-in-loop-p-1) →
+    let a = c.args in
+    let r = c.list-count in
+    Peels (layout_of a.size a.base) (at_position (a.block / a.sector) c.loop-p.p (erasures a.map.now))
+    (listed r.new.1.0 r.result)
+unfolding sheets_entries
+allowed-there c =
+    let a = c.args in
+    rw (lists c)
+    (peels_at (a.block / a.sector) (layout_of a.size a.base) (erasures a.map.now) _ c.requires.1.1.1.1 c.loop-p.p
+    c.loop-p-test.true)
+
+few : (c : goal.After-list-in-loop-p-1) → c.list-count.result ≤ 32
+few c =
+    let is = part_sheet narrow c.loop-p.p c.args.sheets.now in
+    let most = chain_few narrow _ (c.requires.1.1.1.0 c.loop-p.p c.loop-p-test.true) in
+    let all = c.list-count.ensures.0 ∙ ap (λ (t : List ℕ). length (chain_entries narrow t)) is in
+    omega arith
+
+pub repair_all-requires : goal.repair_all-requires
+repair_all-requires c =
+    let a = c.args in
+    let r = c.list-count in
+    let e = at_position (a.block / a.sector) c.loop-p.p (erasures a.map.now) in
+    let most = few (goal.at.repair_all-requires c).After-list-in-loop-p-1 in (
+      c.requires.0,
+      (
+        record {
+          inside = inside (goal.at.repair_all-requires c).In-loop-p;
+          block = c.requires.1.0.block;
+          sized = kept (goal.at.repair_all-requires c).At-loop-p ∙ c.requires.1.0.sized;
+        },
+        (
+          search rules,
+          (
+            on-disks a.size a.base e r.new.1.0 r.result (allowed-there (goal.at.repair_all-requires c).After-list-in-loop-p-1),
+            on_stripes a.size a.base e r.new.1.0 r.result (allowed-there (goal.at.repair_all-requires c).After-list-in-loop-p-1),
+          ),
+        ),
+      ),
+    )
+
+pub loop-p-preserved : goal.loop-p-preserved
+loop-p-preserved c =
+    let a = c.args in
+    let L = layout_of a.size a.base in (
+      search rules,
+      search rules,
+      c.repair_all.ensures ∙ ap (rebuilt L (stretch_at a.block a.sector c.loop-p.p) c.loop-p.array) (lists (goal.at.loop-p-preserved c).After-list-in-loop-p-1)
+          ∙ positions-next (a.block / a.sector) a.sector a.block (cut (goal.at.loop-p-preserved c).Start) L a.array.now (sized (goal.at.loop-p-preserved c).Start) _ c.loop-p.p
+          c.loop-p-test.true c.loop-p.array c.loop-p.invariant.2,
+    )
+
+pub returns : goal.returns
+unfolding sheets_entries
+returns c =
+    let a = c.args in
+    let n = a.block / a.sector in
+    let all : c.loop-p.p ≡ n = omega arith in
+    c.loop-p.invariant.2
+    ∙ ap (λ (k : ℕ).
+    rebuilt (sectored n (layout_of a.size a.base)) (whole a.sector) a.array.now
+    (rising n (λ q. chain_entries narrow (sheet_at narrow q a.sheets.now)) k)) all

@@ -1,0 +1,89 @@
+-- `save::rest::sum_rest` meets its contract: each turn of the loop judges one erased disk, and sums it if it is determined.
+-- Assumes nothing.
+use mathlib.Core.Path.{◌≡◌, refl, ◌∙◌}
+use mathlib.Core.Bool.{true}
+use mathlib.Core.Logic.{⊎_elim, inl, inr}
+use Prim.Native.Nat.{◌-◌, ◌<◌}
+use native.Mathlib.Omega.{arith}
+use borrow.Author.Rules.{rules}
+use Rattle.stripes.specs.Erased.{erasures}
+use Rattle.model.specs.Grid.{layout_of}
+use Rattle.model.proofs.Grid.{layout-disks, disks-bound, size_fits_lem}
+use Rattle.layout.proofs.Runs.{stripes_few}
+use Rattle.tally.specs.Tally.{Passed}
+use Rattle.tally.proofs.Scanned.{next_passed, next_erased_lem}
+use Rattle.tally.proofs.Counted.{erased-inside}
+use Rattle.sums.specs.Held.{Held}
+use Rattle.save.proofs.Summed.{Rest, sized_as, rest-none, rest_over, rest-few, rest_all, rest-next}
+use Rattle.save.proofs.rest.sum_rest.Goals as goal
+
+pub link_all-closed-requires : goal.link_all-closed-requires
+link_all-closed-requires c =
+    let few = stripes_few c.requires.0 in
+    (c.requires.0, (c.requires.1.1, (omega arith, omega arith)))
+
+pub loop-size-init : goal.loop-size-init
+loop-size-init c =
+    (rest-none c.requires.1.0.inside (sized_as c.args.size c.args.base c.requires.1.0), omega arith, refl)
+
+-- Where the code began.
+abbrev start : goal.At-loop-size → goal.Start
+start l = l.before.before.before.before.before.before.before.before.before
+
+-- The disks that a turn passes over.
+passed : (c : goal.After-next_erased-d) → Passed (start c.before).args.work.now c.loop-size.from c.next_erased-d.result
+passed c = next_passed _ _ c.next_erased-d.ensures c.loop-size.invariant.1
+
+over : (c : goal.After-next_erased-d) →
+    let a = (start c.before).args in
+    Rest (layout_of a.size a.base) a.stretch a.work.now a.array.now c.next_erased-d.result c.loop-size.array c.loop-size.number
+over c =
+    let s = start c.before in
+    rest_over s.pre.1.0.inside (sized_as s.args.size s.args.base s.pre.1.0) c.loop-size.invariant.0 s.pre.1.1 (passed c)
+
+pub returns-then-work-d : goal.returns-then-work-d
+returns-then-work-d c =
+    let s = start c.before.before in
+    rest_all s.pre.1.0.inside (sized_as s.args.size s.args.base s.pre.1.0) (over (goal.at.returns-then-work-d c).After-next_erased-d) s.pre.1.1 c.if-work-d.true
+
+-- The disk of a turn is erased.
+erased : (c : goal.Else-work-d) → erasures (start c.before.before).args.work.now c.next_erased-d.result ≡ true
+erased c = next_erased_lem _ _ c.next_erased-d.ensures (search rules)
+
+pub sum_disk-requires : goal.sum_disk-requires
+sum_disk-requires c =
+    let s = start c.before.before.before.before.before in
+    let held : Held s.args.size s.args.stretch c.loop-size.array =
+    record { inside = s.pre.1.0.inside; block = s.pre.1.0.block; sized = c.loop-size.invariant.2 ∙ s.pre.1.0.sized } in
+    let all = c.link_all-closed.ensures in
+    (s.pre.0, (held, (s.pre.1.1, (erased (goal.at.sum_disk-requires c).Else-work-d, (all.0, (all.1.0, all.1.1))))))
+
+-- Its number is small.
+small : (c : goal.Else-work-d) → c.next_erased-d.result < 256
+small c =
+    let s = start c.before.before in
+    let inside = erased-inside s.pre.1.1 _ (erased c) in
+    let same = layout-disks s.args.size s.args.base in
+    let most = disks-bound s.args.size (size_fits_lem s.args.size s.pre.0.fits) in
+    omega arith
+
+pub overflow_add-number : goal.overflow_add-number
+overflow_add-number c =
+    let s = start c.before.before.before.before.before.before.before.before.before in
+    omega (arith, rest-few s.pre.1.0.inside (sized_as s.args.size s.args.base s.pre.1.0) (over (goal.at.overflow_add-number c).After-next_erased-d), small (goal.at.overflow_add-number c).Else-work-d)
+
+pub overflow_add-from : goal.overflow_add-from
+overflow_add-from c = omega (arith, small (goal.at.overflow_add-from c).Else-work-d)
+
+pub loop-size-smaller : goal.loop-size-smaller
+loop-size-smaller c = omega (arith, c.if-work-d.false, (passed (goal.at.loop-size-smaller c).After-next_erased-d).after)
+
+pub loop-size-preserved : goal.loop-size-preserved
+loop-size-preserved c =
+    let summed = c.sum_disk in
+    let s = start c.before.before.before.before.before.before.before.before.before in (
+      rest-next s.pre.1.0.inside (sized_as s.args.size s.args.base s.pre.1.0) (over (goal.at.loop-size-preserved c).After-next_erased-d) summed.ensures.0 summed.ensures.1
+          (⊎_elim (λ w. inl (w.0.taken, w.1)) (λ w. inr (w.0.left, w.1)) c.if-sum_disk.branch),
+      omega (arith, c.if-work-d.false),
+      search rules,
+    )

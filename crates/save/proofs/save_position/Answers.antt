@@ -1,0 +1,32 @@
+-- `save::save_position` meets its contract: the memory that it makes is large enough.
+-- Assumes nothing.
+use mathlib.Core.Path.{refl, sym, ◌∙◌}
+use native.Mathlib.Omega.{arith}
+use borrow.Author.Rules.{rules}
+use lib.Seq.{length-take-le}
+use Rattle.tally.proofs.Column.{disks-few}
+use Rattle.save.proofs.ByPosition.{position_room}
+use Rattle.save.proofs.save_position.Goals as goal
+
+pub slice_bounds-work-end : goal.slice_bounds-work-end
+slice_bounds-work-end c =
+    let few = disks-few c.requires.1.1.0 in
+    let all = c.disks-disks.ensures in
+    omega arith
+
+pub slice_bounds-save_in-end : goal.slice_bounds-save_in-end
+slice_bounds-save_in-end c = sym (length-take-le _ _ (array-borrow-prefix-work c.before))
+
+pub save_in-requires : goal.save_in-requires
+save_in-requires c =
+    let (numbered, (held, (positioned, fit))) = c.requires in
+    let long = sym (slice-aggregate-save-in c.before.before.before) ∙ c.disks-disks.ensures in (
+      numbered,
+      (
+        held,
+        (
+          record { positioned = positioned; room = long },
+          (position_room positioned c.args.base long refl refl (search rules), fit),
+        ),
+      ),
+    )

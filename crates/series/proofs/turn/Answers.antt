@@ -1,0 +1,65 @@
+-- `series::turn` meets its contract, at each of its three ends.
+-- Assumes nothing.
+use mathlib.Core.Path.{◌≡◌, ◌∙◌, sym}
+use mathlib.Core.Bool.{true, false}
+use Prim.Native.Nat.{◌+◌, ◌<◌}
+use native.Mathlib.Omega.{arith}
+use Rattle.model.specs.Rebuild.{rebuild_turn}
+use Rattle.model.specs.declared.Outcome.TheVariants.{Repairs}
+use Rattle.series.proofs.Ends.{positions-bound, sum_small, number_small, refused_last, few-made, repairs-counted}
+use Rattle.model.specs.Series.{turn_bytes}
+use Rattle.series.proofs.turn.Goals as goal
+
+pub overflow_add-turns : goal.overflow_add-turns
+overflow_add-turns c =
+    let a = c.args in
+    let some = (positions-bound a.block a.sector).0 in
+    let small = number_small (turn_bytes a.block a.sector) a.done.turns 9223372036854775808 (omega arith) c.requires.1.1 in
+    omega arith
+
+pub returns-in_default : goal.returns-in_default
+returns-in_default c =
+    let a = c.args in
+    let (answer, (array, (map, sheets))) = c.rebuild-last.ensures in (
+      refused_last a.size a.block a.sector a.array.now a.map.now a.sheets.now a.limit a.done _ answer c.in_default.keys2,
+      (array, (map, sheets)),
+    )
+
+-- The answer is a number of repairs, and few.
+repaired : (c : goal.In-Repairs-2)
+    → let a = c.args in
+    Repairs c.last-1.given.0.0
+    ≡ (rebuild_turn a.size a.block a.sector a.array.now a.map.now a.sheets.now a.limit).answer
+repaired c = sym c.last-1.given.1 ∙ c.rebuild-last.ensures.0
+
+sum_fits : (c : goal.In-Repairs-2)
+    → let a = c.args in
+    a.done.made + c.last-1.given.0.0 < 9223372036854775808
+sum_fits c =
+    let a = c.args in
+    sum_small (turn_bytes a.block a.sector) a.done.turns a.done.made c.last-1.given.0.0 9223372036854775808 c.requires.1.0
+    (few-made a.size a.block a.sector a.array.now a.map.now a.sheets.now a.limit _ (repaired c)) c.requires.1.1
+
+pub overflow_add-result : goal.overflow_add-result
+overflow_add-result c = let sum = sum_fits (goal.at.overflow_add-result c).In-Repairs-2 in omega arith
+
+pub returns-then-any_erased : goal.returns-then-any_erased
+returns-then-any_erased c =
+    let a = c.args in
+    let (answer, (array, (map, sheets))) = c.rebuild-last.ensures in (
+      repairs-counted a.size a.block a.sector a.array.now a.map.now a.sheets.now a.limit _ (repaired (goal.at.returns-then-any_erased c).In-Repairs-2) a.done _ map true
+          (sym c.if-any_erased.true ∙ c.any_erased.ensures),
+      (array, (map, sheets)),
+    )
+
+pub overflow_add-result-2 : goal.overflow_add-result-2
+overflow_add-result-2 c = let sum = sum_fits (goal.at.overflow_add-result-2 c).In-Repairs-2 in omega arith
+
+pub returns : goal.returns
+returns c =
+    let a = c.args in
+    let (answer, (array, (map, sheets))) = c.rebuild-last.ensures in (
+      repairs-counted a.size a.block a.sector a.array.now a.map.now a.sheets.now a.limit _ (repaired (goal.at.returns c).In-Repairs-2) a.done _ map false
+          (sym c.if-any_erased.false ∙ c.any_erased.ensures),
+      (array, (map, sheets)),
+    )

@@ -1,0 +1,57 @@
+-- `smallest::choose::begin` meets its contract: the bytes up to the lowest disk are wiped, and what is left is loaded, where the table has not got
+-- it already, and measured.
+-- Assumes nothing.
+use mathlib.Core.Path.{◌≡◌}
+use mathlib.Core.Logic.{⊎_elim}
+use native.Mathlib.Omega.{arith}
+use Rattle.stripes.specs.Erased.{erasures, above}
+use Rattle.model.specs.Grid.{layout_of}
+use Rattle.layout.proofs.Runs.{numbered_two, stripes_few}
+use Rattle.tally.specs.Tally.{Table}
+use Rattle.tally.proofs.Counted.{crossed}
+use Rattle.smallest.specs.Leads.{Near}
+use Rattle.smallest.proofs.Choosing.{wiped_table, wiped_near}
+use Rattle.smallest.proofs.choose.begin.Goals as goal
+
+-- Where the code began.
+abbrev start : goal.After-wipe → goal.Start
+start w = w.before.before.before.before.before.before.before.before.before
+
+-- The disks above the lowest one are left, and the table has their stripes.
+left : (w : goal.After-wipe) →
+    let a = (start w).args in
+    (erasures w.wipe.new.0 ≡ above a.found.disk (erasures a.work.now))
+    × Table (layout_of a.size a.base) w.wipe.new.0 a.stripes.now
+left w = wiped_table (start w).requires.1.0 (start w).args.found.disk w.wipe.ensures
+
+pub load-requires : goal.load-requires
+load-requires c =
+    ((start c.before.before.before.before.before.before.before).requires.0, ((left (goal.at.load-requires c).After-wipe).1, (start c.before.before.before.before.before.before.before).requires.1.1.1.0.room))
+
+-- The table of neighbours is that of these disks, either way.
+neighbours : (j : goal.Joined-found) →
+    let w = j.before.before.before.before.before in
+    let a = (start w).args in
+    Near (layout_of a.size a.base) (erasures w.wipe.new.0) j.if1.near
+neighbours j =
+    let w = j.before.before.before.before.before in
+    let s = start w in
+    ⊎_elim (λ (_, _, _, load, _, _, near). rw near load.ensures)
+    (λ (if1, near).
+    rw near
+    (wiped_near (erasures s.args.work.now) s.args.found.disk s.args.found.from if1.left s.pre.1.1.1.0 (left w).0))
+    j.if1.branch
+
+pub measure-requires : goal.measure-requires
+measure-requires c =
+    let s = start c.before.before.before.before.before.before.before in
+    let x = crossed (numbered_two s.pre.0) s.pre.1.1.0.disk c.stripes_of-ends.ensures in
+    let few = stripes_few s.pre.0 in
+    ((neighbours (goal.at.measure-requires c).Joined-found).room, (omega (arith, x.low_bound), (omega (arith, x.high_bound), (s.pre.1.1.0.few, s.pre.1.1.1.1))))
+
+pub returns : goal.returns
+returns c =
+    (
+      c.stripes_of-ends.ensures,
+      ((left (goal.at.returns c).After-wipe).0, record { table = (left (goal.at.returns c).After-wipe).1; neighbours = neighbours (goal.at.returns c).Joined-found; levelled = c.measure.ensures }),
+    )

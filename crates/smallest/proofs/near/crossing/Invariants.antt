@@ -1,0 +1,14 @@
+-- `smallest::near::crossing` meets its contract: each turn takes the lowest stripe out of what is left of the set.
+-- Assumes nothing.
+use Prim.Native.Nat.{◌-◌}
+use lib.ListN.{get_or}
+use Rattle.reach.specs.Reached.{has}
+use Rattle.reach.proofs.Rest.{Gathered}
+use Rattle.smallest.specs.Leads.{leaving_of}
+use Rattle.smallest.proofs.near.crossing.Given as goal
+
+abbrev pub invariant-loop-rest : goal.invariant-loop-rest
+invariant-loop-rest l = Gathered (λ x t. has (leaving_of (get_or l.near x 0) l.inside x) t) l.inside l.found l.rest
+
+abbrev pub decreases-loop-rest : goal.decreases-loop-rest
+decreases-loop-rest l = l.rest

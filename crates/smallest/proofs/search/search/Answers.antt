@@ -1,0 +1,105 @@
+-- `smallest::search::search` meets its contract: each turn of the loop takes one disk out of the table and keeps the better of it and what was found.
+-- Assumes nothing.
+use mathlib.Core.Path.{◌≡◌}
+use mathlib.Core.Bool.{true}
+use mathlib.Core.Logic.{inl, inr, ⊎_elim}
+use Prim.Native.Nat.{◌-◌, ◌<◌}
+use native.Mathlib.Omega.{arith}
+use borrow.Author.Rules.{rules}
+use Rattle.stripes.specs.Erased.{erasures}
+use Rattle.model.specs.Grid.{layout_of}
+use Rattle.layout.proofs.Runs.{numbered_two, stripes_few}
+use Rattle.tally.specs.Tally.{Passed}
+use Rattle.tally.proofs.Scanned.{next_passed, next_erased_lem}
+use Rattle.tally.proofs.Counted.{Crossed, erased_crossed}
+use Rattle.reach.specs.Reached.{word_stripes}
+use Rattle.smallest.proofs.Neighbours.{grid-apart}
+use Rattle.smallest.proofs.Searched.{Searched, searched_none, searched_over, searched_next, searched_end}
+use Rattle.smallest.proofs.search.search.Goals as goal
+
+pub loop-others-init : goal.loop-others-init
+loop-others-init c = (searched_none _ c.load.ensures, omega arith)
+
+-- Where the code began.
+abbrev start : goal.At-loop-others → goal.Start
+start l = l.before.before.before.before.before.before.before.before
+
+-- The disks that a turn passes over.
+passed : (c : goal.After-next_erased-d) →
+    Passed (start c.before.before).args.work.now c.loop-others.from c.next_erased-d.result
+passed c = next_passed _ _ c.next_erased-d.ensures c.loop-others.invariant.1
+
+over : (c : goal.After-next_erased-d) →
+    let a = (start c.before.before).args in
+    Searched (layout_of a.size a.base) (erasures a.work.now) c.next_erased-d.result c.loop-others.near c.loop-others.disk c.loop-others.others
+over c = searched_over c.loop-others.invariant.0 (passed c).after (passed c).none
+
+-- The disk of a turn is erased.
+erased : (c : goal.Else-work-d) → erasures (start c.before.before.before).args.work.now c.next_erased-d.result ≡ true
+erased c = next_erased_lem _ _ c.next_erased-d.ensures (search rules)
+
+pub stripes_of-pair-requires : goal.stripes_of-pair-requires
+stripes_of-pair-requires c = ((start c.before.before.before).pre.1.0, erased (goal.at.stripes_of-pair-requires c).Else-work-d)
+
+-- The disk with its stripes.
+pair : (c : goal.After-stripes_of-pair) →
+    let a = (start c.before.before.before.before).args in
+    Crossed (layout_of a.size a.base) c.next_erased-d.result c.stripes_of-pair.result.low c.stripes_of-pair.result.high
+pair c =
+    let s = start c.before.before.before.before in
+    erased_crossed s.pre.1.0 _ (erased c.before) (numbered_two s.pre.0) c.stripes_of-pair.ensures
+
+-- Its stripes have their places in the table.
+places : (c : goal.After-stripes_of-pair) → (c.stripes_of-pair.result.low < word_stripes) × (c.stripes_of-pair.result.high < word_stripes)
+places c =
+    let few = stripes_few (start c.before.before.before.before).pre.0 in
+    (omega (arith, (pair c).low_bound), omega (arith, (pair c).high_bound))
+
+pub toggle-requires : goal.toggle-requires
+toggle-requires c =
+    (c.loop-others.invariant.0.table.room, (omega (arith, places (goal.at.toggle-requires c).After-stripes_of-pair), omega (arith, places (goal.at.toggle-requires c).After-stripes_of-pair)))
+
+pub distance-steps-requires : goal.distance-steps-requires
+distance-steps-requires c =
+    let h = c.loop-others.invariant.0 in
+    let same = c.toggle.auto.0 in
+    (omega (arith, h.table.room), ((places (goal.at.distance-steps-requires c).After-stripes_of-pair).0, ((places (goal.at.distance-steps-requires c).After-stripes_of-pair).1, omega (arith, h.few, c.loop-others-test.true))))
+
+pub overflow_add-from : goal.overflow_add-from
+overflow_add-from c = omega (arith, c.if-work-d.false)
+
+pub loop-others-smaller : goal.loop-others-smaller
+loop-others-smaller c =
+    omega (arith, c.if-work-d.false, (passed (goal.at.loop-others-smaller c).After-next_erased-d).after)
+
+pub loop-others-preserved : goal.loop-others-preserved
+loop-others-preserved c =
+    let s = (start c.before.before.before.before.before.before.before.before.before.before.before).pre.0 in
+    let toggle = c.toggle in (
+      searched_next (numbered_two s) (grid-apart s) (stripes_few s) (over (goal.at.loop-others-preserved c).After-next_erased-d) (erased (goal.at.loop-others-preserved c).Else-work-d) (pair (goal.at.loop-others-preserved c).After-stripes_of-pair) toggle.ensures
+          (omega (arith, c.loop-others-test.true)) c.distance-steps.ensures
+          (⊎_elim (λ (w, disk, others). inl (w.taken, disk, others)) (λ (w, disk, others). inr (w.left, disk, others)) c.if-steps-others.branch),
+      omega (arith, c.if-work-d.false),
+    )
+
+pub returns-after-loop-others-clause-nearest : goal.returns-after-loop-others-clause-nearest
+returns-after-loop-others-clause-nearest c =
+    let s = (start c.before).pre in
+    let done = c.loop-others.invariant.0 in
+    searched_end s.0 _ s.1.1.0 s.1.0.inside done (inl c.loop-others-test.false)
+
+pub returns-after-loop-others-clause-table : goal.returns-after-loop-others-clause-table
+returns-after-loop-others-clause-table c =
+    let s = (start c.before).pre in
+    let done = c.loop-others.invariant.0 in
+    done.table
+
+pub returns-then-work-d-clause-nearest : goal.returns-then-work-d-clause-nearest
+returns-then-work-d-clause-nearest c =
+    let s = (start c.before.before.before).requires in
+    searched_end s.0 _ s.1.1.0 s.1.0.inside (over (goal.at.returns-then-work-d-clause-nearest c).After-next_erased-d) (inr (omega (arith, c.if-work-d.true, s.1.0.disks_fit)))
+
+pub returns-then-work-d-clause-table : goal.returns-then-work-d-clause-table
+returns-then-work-d-clause-table c =
+    let s = (start c.before.before.before).requires in
+    c.loop-others.invariant.0.table

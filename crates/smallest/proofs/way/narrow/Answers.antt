@@ -1,0 +1,34 @@
+-- `smallest::way::narrow` meets its contract: the table is cut, or the test says that no other disk leads on from the level.
+-- Assumes nothing.
+use mathlib.Core.Path.{refl, sym, ◌∙◌, ap, ap₂}
+use mathlib.Core.Logic.{inl, inr}
+use Prim.Native.Nat.{ℕ}
+use lib.Bits.{bit_or}
+use Rattle.reach.specs.Reached.{has}
+use Rattle.smallest.proofs.way.narrow.Goals as goal
+
+pub returns-then-crossing-one-clause-cut : goal.returns-then-crossing-one-clause-cut
+returns-then-crossing-one-clause-cut c =
+    let ball = c.ball-inside in
+    let pair = c.if-crossing-one.true ∙ ap₂ bit_or c.one.ensures c.one-2.ensures in
+    record {
+        inside = ball.result;
+        reaches = ball.ensures;
+        cut = inr (refl, λ y. ap (λ (w : ℕ). has w y) (sym pair) ∙ c.crossing.ensures y);
+      }
+
+pub returns-then-crossing-one-clause-levels : goal.returns-then-crossing-one-clause-levels
+returns-then-crossing-one-clause-levels c =
+    let ball = c.ball-inside in
+    let pair = c.if-crossing-one.true ∙ ap₂ bit_or c.one.ensures c.one-2.ensures in
+    c.requires.1.0
+
+pub returns-clause-cut : goal.returns-clause-cut
+returns-clause-cut c =
+    let ball = c.ball-inside in
+    record { inside = ball.result; reaches = ball.ensures; c.before.before.before.before.before.before.before = inl c.cut.ensures }
+
+pub returns-clause-levels : goal.returns-clause-levels
+returns-clause-levels c =
+    let ball = c.ball-inside in
+    c.measure.ensures

@@ -1,0 +1,52 @@
+-- `solve::peeled::peel` meets its contract: the erased disks are loaded, then peeled.
+-- Assumes nothing.
+use Prim.Native.Nat.{◌≤◌}
+use native.Mathlib.Omega.{arith}
+use lib.ListN.{length}
+use Rattle.model.specs.Grid.{layout_of}
+use Rattle.model.proofs.Grid.{layout-disks}
+use Rattle.order.proofs.Held.{none-held}
+use Rattle.solve.proofs.Memory.{map-disks, loaded_inside, made_some, peeled}
+use Rattle.solve.proofs.peeled.peel.Goals as goal
+
+pub copy-requires : goal.copy-requires
+copy-requires c =
+    let long = map-disks _ c.args.base _ c.requires.1.0 in
+    let room = c.requires.1.1.disks_fit in
+    omega arith
+
+pub tally-erased-requires : goal.tally-erased-requires
+tally-erased-requires c =
+    let room = c.requires.1.1 in
+    let same = c.copy.auto.1.0 in
+    let few = layout-disks c.args.size c.args.base in
+    let a = room.disks_fit in
+    let b = room.table_fits in
+    (c.requires.0, (omega arith, (loaded_inside _ c.args.base _ c.requires.1.0 _ c.copy.ensures, (omega arith, room.stripes_fit))))
+
+pub peel-made-requires : goal.peel-made-requires
+peel-made-requires c =
+    let p = c.requires in
+    let (number, tallied) = c.tally-erased.ensures in
+    (p.0, (number, (tallied, p.1.1.list_fits)))
+
+-- Where the code began, from the peeling on.
+abbrev start : goal.After-peel-made → goal.Start
+start p = p.before.before.before.before.before.before.before.before.before.before.before.before.before.before.before.before.before.before.before.before.before.before
+
+-- No disk's number is the map's length, so none is held back.
+no_disk : (p : goal.After-peel-made) → (layout_of (start p).args.size (start p).args.base).disks ≤ length (start p).args.map.now
+no_disk p =
+    let s = start p in
+    let long = map-disks _ s.args.base _ s.pre.1.0 in
+    omega arith
+
+pub overflow_sub-result : goal.overflow_sub-result
+overflow_sub-result c =
+    made_some _ _ _ c.tally-erased.ensures.0
+    (none-held (no_disk (goal.at.overflow_sub-result c).After-peel-made) _ _ c.peel-made.ensures).0
+
+pub returns : goal.returns
+returns c =
+    let (number, (rest, (entries, tallied))) = none-held (no_disk (goal.at.returns c).After-peel-made) _ _ c.peel-made.ensures in
+    peeled _ _ _ c.tally-erased.ensures.0 number c.copy.ensures entries rest tallied.table

@@ -1,0 +1,18 @@
+-- `solve::solve` meets its contract: the memory that it makes is large enough.
+-- Assumes nothing.
+use mathlib.Core.Path.{sym, refl}
+use lib.Seq.{length-take-le}
+use Rattle.layout.proofs.Numbers.{map-few}
+use Rattle.solve.proofs.Memory.{room-made}
+use Rattle.solve.proofs.solve.Goals as goal
+
+pub slice_bounds-work-end : goal.slice_bounds-work-end
+slice_bounds-work-end c = let p = c.requires in map-few _ _ p.0 _ p.1.0
+
+pub slice_bounds-solve_in-end : goal.slice_bounds-solve_in-end
+slice_bounds-solve_in-end c = sym (length-take-le _ _ (array-borrow-prefix-work c.before))
+
+pub solve_in-requires : goal.solve_in-requires
+solve_in-requires c =
+    let p = c.requires in
+    (p.0, (p.1.0, room-made _ _ p.0 _ p.1.0 (slice-aggregate-solve-in c.before.before.before) refl refl p.1.1))

@@ -1,0 +1,27 @@
+-- `solve::solve_in` meets its contract: what plan's order leaves decides.
+-- Assumes nothing.
+use native.Mathlib.Omega.{arith}
+use Rattle.model.proofs.Grid.{layout-two}
+use Rattle.layout.proofs.Numbers.{map-few}
+use Rattle.solve.proofs.Memory.{map-disks}
+use Rattle.solve.proofs.Solving.{solves_repairs, left-lossy, solves_cycle}
+use Rattle.solve.proofs.solve_in.Goals as goal
+
+pub returns-then-found-eq0 : goal.returns-then-found-eq0
+returns-then-found-eq0 c = solves_repairs c.peel-found.ensures c.if-found-eq0.true
+
+pub show-requires : goal.show-requires
+show-requires c =
+    let few = map-few _ _ c.requires.0 _ c.requires.1.0 in
+    let long = map-disks _ c.args.base _ c.requires.1.0 in
+    let kept = c.peel-found.auto.1.1.1 in
+    let room = c.requires.1.1.disks_fit in
+    let work = kept.0 in
+    let list = kept.1.1.1.0 in
+    let fits = c.requires.1.1.list_fits in
+    (c.requires.0, (c.peel-found.ensures.table, (left-lossy c.peel-found.ensures c.if-found-eq0.false, (omega arith, omega arith))))
+
+pub returns : goal.returns
+returns c =
+    solves_cycle c.peel-found.ensures c.if-found-eq0.false (layout-two c.args.size c.args.base c.requires.0.above)
+    c.undetermined_count-lost.ensures _ c.show.ensures.0 c.show.ensures.1

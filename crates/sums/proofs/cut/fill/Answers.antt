@@ -1,0 +1,26 @@
+-- `sums::cut::fill` meets its contract: what the list picks is what crosses, and an erased disk is not among it.
+-- Assumes nothing.
+use mathlib.Core.Path.{◌∙◌}
+use Rattle.stripes.specs.Erased.{erasures}
+use Rattle.sums.specs.Cut.{in_part}
+use Rattle.sums.proofs.Cuts.{cut_beside, cut-filled}
+use Rattle.sums.proofs.cut.fill.Goals as goal
+
+pub list_cut-count-requires : goal.list_cut-count-requires
+list_cut-count-requires c =
+    (c.requires.0, (c.requires.1.1.0, (c.requires.1.1.1.0, c.requires.1.1.1.1.0)))
+
+pub fill-requires : goal.fill-requires
+fill-requires c =
+    let a = c.args in
+    let l = c.list_cut-count in
+    cut_beside a.size a.base a.stretch a.array.now c.requires.1.0 (erasures a.map.now) (in_part a.parts.now a.name)
+    l.new.1.1.1.1.1.0 l.result l.ensures a.disk c.requires.1.1.1.1.1.0 c.requires.1.1.1.1.1.1
+
+pub returns : goal.returns
+returns c =
+    let a = c.args in
+    let l = c.list_cut-count in
+    c.fill.ensures
+    ∙ cut-filled a.size a.base a.stretch a.array.now c.requires.1.0 (erasures a.map.now) (in_part a.parts.now a.name)
+    l.new.1.1.1.1.1.0 l.result l.ensures a.disk c.requires.1.1.1.1.1.0 c.requires.1.1.1.1.1.1

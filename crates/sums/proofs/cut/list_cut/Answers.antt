@@ -1,0 +1,55 @@
+-- `sums::cut::list_cut` meets its contract: the survivors that the stripes so far bring are listed.
+-- Assumes nothing.
+use mathlib.Core.Path.{◌≡◌, refl}
+use Prim.Native.Nat.{◌<◌, ◌-◌}
+use native.Mathlib.Omega.{arith}
+use borrow.Author.Rules.{rules}
+use lib.ListN.{length}
+use Rattle.stripes.specs.Erased.{erasures}
+use Rattle.model.specs.Grid.{layout_of}
+use Rattle.model.proofs.Grid.{layout-disks}
+use Rattle.layout.proofs.Runs.{numbered_two}
+use Rattle.sums.specs.Cut.{in_part}
+use Rattle.sums.proofs.Cuts.{cut-none, cut-next, cut-room, cut_all}
+use Rattle.sums.proofs.cut.list_cut.Goals as goal
+
+pub bound-bound-requires : goal.bound-bound-requires
+bound-bound-requires c = c.requires.0
+
+pub loop-s-init : goal.loop-s-init
+loop-s-init c =
+    let a = c.args in
+    (search rules, refl, cut-none (layout_of a.size a.base) (erasures a.map.now) (in_part a.parts.now a.name) a.list.now)
+
+pub list_stripe-more-requires : goal.list_stripe-more-requires
+list_stripe-more-requires c =
+    let a = c.args in
+    let l = c.loop-s in
+    let L = layout_of a.size a.base in
+    let end = c.bound-bound.ensures in
+    let below : l.s < L.stripe_bound = omega arith in
+    let part = in_part a.parts.now a.name in
+    let room = cut-room L (erasures a.map.now) part (numbered_two c.requires.0) l.s l.n below l.invariant.2.few in
+    let same = layout-disks a.size a.base in
+    (c.requires.0, (c.requires.1.0, (c.requires.1.1.0, (below, (l.invariant.2.survivors, omega arith)))))
+
+pub loop-s-preserved : goal.loop-s-preserved
+loop-s-preserved c =
+    let a = c.args in
+    let l = c.loop-s in
+    let more = c.list_stripe-more in (
+      search rules,
+      search rules,
+      cut-next (layout_of a.size a.base) (erasures a.map.now) (in_part a.parts.now a.name) l.s l.list
+          more.new.1.1.1.1.1.1.0 l.n more.result l.invariant.2 more.ensures,
+    )
+
+pub returns : goal.returns
+returns c =
+    let a = c.args in
+    let l = c.loop-s in
+    let L = layout_of a.size a.base in
+    let end : l.s ≡ L.stripe_bound = let b = c.bound-bound.ensures in omega arith in
+    let same = layout-disks a.size a.base in
+    cut_all L (erasures a.map.now) (in_part a.parts.now a.name) (numbered_two c.requires.0) l.list l.n (length l.list)
+    (rw end at l.invariant.2) (omega arith)

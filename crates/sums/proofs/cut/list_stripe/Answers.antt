@@ -1,0 +1,174 @@
+-- `sums::cut::list_stripe` meets its contract: those of the disks so far that are to be listed stand behind what was there.
+-- Assumes nothing.
+use mathlib.Core.Path.{◌≡◌, ◌∙◌, sym, refl, ap, subst}
+use mathlib.Core.Bool.{not, ◌&&◌}
+use mathlib.Core.Logic.{⊎_elim}
+use Prim.Native.Nat.{ℕ, ◌<◌, ◌-◌}
+use native.Mathlib.Omega.{arith}
+use borrow.Author.Rules.{rules}
+use borrow.Author.Tests.{eq-eqb, ne_eqb, not-true, not-false}
+use lib.ListN.{length, length-set}
+use Rattle.stripes.specs.System.{other_than}
+use Rattle.stripes.specs.Erased.{erasures}
+use Rattle.stripes.proofs.Fold.{and_left}
+use Rattle.model.specs.Grid.{layout_of}
+use Rattle.model.proofs.Grid.{layout-disks, disks-bound, size_fits_lem}
+use Rattle.layout.specs.Stripe.{run_disk}
+use Rattle.layout.specs.declared.stripe.Run.{Run}
+use Rattle.sums.specs.Cut.{in_part, in_cut}
+use Rattle.sums.proofs.Cuts.{behind-none, behind_skip, behind-next, Along, run_along}
+use Rattle.sums.proofs.Cuts.{stripe-none, stripe-room, stripe_all, outside_none, empty_none}
+use Rattle.sums.proofs.cut.list_stripe.Goals as goal
+
+-- The run of a stripe in the part.
+known : (c : goal.After-disks_on-run)
+    → let a = c.args in
+    Along a.size a.base (erasures a.map.now) (in_part a.parts.now a.name) a.stripe c.disks_on-run.result
+known c =
+    let a = c.args in
+    run_along a.size a.base _ _ a.stripe c.requires.0 (eq-eqb _ _ c.if-parts-stripe.false)
+    (sym c.has_disks.ensures ∙ not-false _ c.if-not-has_disks.false) c.disks_on-run.result c.disks_on-run.ensures
+
+-- A disk of it has a small number.
+small : (c : goal.In-loop-k) → run_disk c.disks_on-run.result c.loop-k.k < 256
+small c =
+    let inside = (known c.before.before).disk c.loop-k.k c.loop-k-test.true in
+    let few = disks-bound c.args.size (size_fits_lem c.args.size c.requires.0.fits) in
+    let same = layout-disks c.args.size c.args.base in
+    omega arith
+
+-- The other stripe of the disk, and whether the disk is listed.
+other-is : (c : goal.After-other_at-other)
+    → let a = c.args in
+    c.other_at-other.result
+    ≡ other_than a.stripe ((layout_of a.size a.base).through (run_disk c.disks_on-run.result c.loop-k.k))
+other-is c =
+    let a = c.args in
+    c.other_at-other.ensures
+    ∙ ap (λ (run : Run). other_than a.stripe ((layout_of a.size a.base).through (run_disk run c.loop-k.k)))
+    (sym c.disks_on-run.ensures)
+
+test-is : (c : goal.After-leaves)
+    → let a = c.args in
+    c.leaves.result
+    ≡ in_cut (layout_of a.size a.base) (erasures a.map.now) (in_part a.parts.now a.name)
+    (run_disk c.disks_on-run.result c.loop-k.k)
+test-is c =
+    let a = c.args in
+    let d = run_disk c.disks_on-run.result c.loop-k.k in
+    c.leaves.ensures
+    ∙ ap (λ (o : ℕ). not (erasures a.map.now d) && not (in_part a.parts.now a.name o)) (other-is c.before)
+    ∙ (known c.before.before.before.before).test c.loop-k.k c.loop-k-test.true
+
+-- Where it is, there is room for it.
+room : (c : goal.Then-leaves) → c.loop-k.n < length c.loop-k.list
+room c =
+    let a = c.args in
+    let l = c.loop-k in
+    stripe-room a.size a.base (erasures a.map.now) (in_part a.parts.now a.name) a.stripe a.list.now a.have
+    c.disks_on-run.result (known c.before.before.before.before.before) l.k l.list l.n l.invariant.2
+    (length l.list) (rw l.invariant.1 c.requires.1.1.1.1.1) c.loop-k-test.true
+    (sym (test-is c.before) ∙ c.if-leaves.true)
+
+pub returns-then-parts-stripe : goal.returns-then-parts-stripe
+returns-then-parts-stripe c =
+    let a = c.args in
+    let part = in_part a.parts.now a.name in
+    stripe-none a.size a.base (erasures a.map.now) part a.stripe a.list.now a.have c.requires.1.1.1.1.0
+    (outside_none a.size a.base (erasures a.map.now) part a.stripe (ne_eqb _ _ c.if-parts-stripe.true))
+
+pub has_disks-requires : goal.has_disks-requires
+has_disks-requires c = c.requires.0
+
+pub returns-then-not-has_disks : goal.returns-then-not-has_disks
+returns-then-not-has_disks c =
+    let a = c.args in
+    let part = in_part a.parts.now a.name in
+    stripe-none a.size a.base (erasures a.map.now) part a.stripe a.list.now a.have c.requires.1.1.1.1.0
+    (empty_none a.size a.base (erasures a.map.now) part a.stripe (sym c.has_disks.ensures ∙ not-true _ c.if-not-has_disks.true))
+
+pub disks_on-run-requires : goal.disks_on-run-requires
+disks_on-run-requires c = c.requires.0
+
+pub loop-k-init : goal.loop-k-init
+loop-k-init c =
+    let a = c.args in
+    let L = layout_of a.size a.base in
+    let e = erasures a.map.now in
+    let t = in_cut L e (in_part a.parts.now a.name) in
+    (search rules, refl, behind-none L e a.list.now a.have t (run_disk c.disks_on-run.result) c.requires.1.1.1.1.0)
+
+pub overflow_mul-disk : goal.overflow_mul-disk
+overflow_mul-disk c = let h = small (goal.at.overflow_mul-disk c).In-loop-k in omega arith
+
+pub overflow_add-disk : goal.overflow_add-disk
+overflow_add-disk c = let h = small (goal.at.overflow_add-disk c).In-loop-k in omega arith
+
+pub other_at-other-requires : goal.other_at-other-requires
+other_at-other-requires c = (
+  c.requires.0,
+  (
+    sym c.has_disks.ensures ∙ not-false _ c.if-not-has_disks.false,
+    subst (λ (run : Run). c.loop-k.k < run.count) c.disks_on-run.ensures c.loop-k-test.true,
+  ),
+)
+
+pub leaves-requires-clause-disk_in_bounds : goal.leaves-requires-clause-disk_in_bounds
+leaves-requires-clause-disk_in_bounds c =
+    let r = known (goal.at.leaves-requires-clause-disk_in_bounds c).After-disks_on-run in
+    let inside = r.disk c.loop-k.k c.loop-k-test.true in
+    let other = r.other c.loop-k.k c.loop-k-test.true in
+    let is = other-is (goal.at.leaves-requires-clause-disk_in_bounds c).After-other_at-other in
+    let long = c.requires.1.0 in
+    let same = layout-disks c.args.size c.args.base in
+    omega arith
+
+pub leaves-requires-clause-other_in_bounds : goal.leaves-requires-clause-other_in_bounds
+leaves-requires-clause-other_in_bounds c =
+    let r = known (goal.at.leaves-requires-clause-other_in_bounds c).After-disks_on-run in
+    let inside = r.disk c.loop-k.k c.loop-k-test.true in
+    let other = r.other c.loop-k.k c.loop-k-test.true in
+    let is = other-is (goal.at.leaves-requires-clause-other_in_bounds c).After-other_at-other in
+    let long = c.requires.1.0 in
+    let same = layout-disks c.args.size c.args.base in
+    omega arith
+
+pub overflow_cast-list : goal.overflow_cast-list
+overflow_cast-list c = let h = small (goal.at.overflow_cast-list c).In-loop-k in omega arith
+
+pub offset_bounds-list-n : goal.offset_bounds-list-n
+offset_bounds-list-n c = let h = room (goal.at.offset_bounds-list-n c).Then-leaves in omega arith
+
+pub bounds-list-n : goal.bounds-list-n
+bounds-list-n c = room (goal.at.bounds-list-n c).Then-leaves
+
+pub overflow_add-n : goal.overflow_add-n
+overflow_add-n c = let h = room (goal.at.overflow_add-n c).Then-leaves in omega arith
+
+pub loop-k-preserved : goal.loop-k-preserved
+loop-k-preserved c =
+    let a = c.args in
+    let l = c.loop-k in
+    let at = run_disk c.disks_on-run.result in
+    let L = layout_of a.size a.base in
+    let e = erasures a.map.now in
+    let t = in_cut L e (in_part a.parts.now a.name) in
+    let test : c.leaves.result ≡ t (at l.k) = test-is (goal.at.loop-k-preserved c).After-leaves in (
+      search rules,
+      ⊎_elim (λ w. ap length w.1 ∙ simp length-set l.invariant.1) (λ w. ap length w.1 ∙ l.invariant.1) c.if-leaves.branch,
+      ⊎_elim
+          (λ w.
+          rw (w.1, w.2)
+          (behind-next L e a.list.now a.have t at l.k l.list l.n l.invariant.2 (sym test ∙ w.0.taken)
+          (room (record { before = c.before; if3 = w.0 })) ((known (goal.at.loop-k-preserved c).After-disks_on-run).disk l.k c.loop-k-test.true)
+          (not-true _ (and_left (not (e (at l.k))) _ (sym test ∙ w.0.taken)))))
+          (λ w. rw (w.1, w.2) (behind_skip L e a.list.now a.have t at l.k l.list l.n l.invariant.2 (sym test ∙ w.0.left)))
+          c.if-leaves.branch,
+    )
+
+pub returns : goal.returns
+returns c =
+    let a = c.args in
+    let l = c.loop-k in
+    stripe_all a.size a.base (erasures a.map.now) (in_part a.parts.now a.name) a.stripe a.list.now a.have
+    c.disks_on-run.result (known (goal.at.returns c).After-disks_on-run) l.k l.list l.n l.invariant.2 (omega arith)

@@ -1,0 +1,50 @@
+-- `sums::nonzero::lowest_column` meets its contract.
+-- Assumes nothing.
+use mathlib.Core.Path.{◌∙◌, sym}
+use native.Mathlib.Omega.{arith}
+use Rattle.sums.proofs.Stripes.{columns_reach, rest_reach, row-bytes-small, column-lowest, columns-none}
+use Rattle.sums.proofs.nonzero.lowest_column.Goals as goal
+
+pub across-across-requires : goal.across-across-requires
+across-across-requires c = c.requires.0.fits
+
+pub down-down-requires : goal.down-down-requires
+down-down-requires c = c.requires.0.fits
+
+pub overflow_mul-row_bytes : goal.overflow_mul-row_bytes
+overflow_mul-row_bytes c =
+    let small = (row-bytes-small c.args.size c.requires.0.fits c.args.stretch.block c.requires.1.0.block).0 in
+    rw c.across-across.ensures (omega arith)
+
+pub columns-requires : goal.columns-requires
+columns-requires c = tt
+
+pub overflow_mul-rest : goal.overflow_mul-rest
+overflow_mul-rest c =
+    let small = (row-bytes-small c.args.size c.requires.0.fits c.args.stretch.block c.requires.1.0.block).1 in
+    rw c.columns.ensures (omega arith)
+
+pub cancels-requires : goal.cancels-requires
+cancels-requires c =
+    rw (c.across-across.ensures, c.down-down.ensures, c.columns.ensures)
+    (rest_reach c.args.size c.args.stretch c.args.array.now c.requires.1.0)
+
+pub returns-then-cancels : goal.returns-then-cancels
+returns-then-cancels c =
+    let inside = c.requires.1.0.inside in
+    let whole = c.if-width-block.true in
+    rw c.across-across.ensures
+    (columns-none c.args.size c.args.base c.requires.0.above c.args.stretch c.args.array.now c.requires.1.1
+    (omega arith) whole
+    (rw (c.across-across.ensures, c.down-down.ensures, c.columns.ensures) at (sym c.cancels.ensures ∙ c.if-cancels.true)))
+
+pub lowest_nonzero-requires : goal.lowest_nonzero-requires
+lowest_nonzero-requires c =
+    rw (c.across-across.ensures, c.down-down.ensures)
+    (columns_reach c.args.size c.args.stretch c.args.array.now c.requires.1.0)
+
+pub returns : goal.returns
+returns c =
+    c.lowest_nonzero.ensures
+    ∙ rw (c.across-across.ensures, c.down-down.ensures)
+    (column-lowest c.args.size c.args.base c.requires.0.above c.args.stretch c.args.array.now)

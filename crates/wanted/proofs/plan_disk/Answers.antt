@@ -1,0 +1,76 @@
+-- `wanted::plan_disk` meets its contract: each refusal keeps the sheet; else it has the list that was found, or plan's draft where there is
+-- none.
+-- Assumes nothing.
+use mathlib.Core.Path.{◌≡◌, refl, sym, ◌∙◌, ap}
+use mathlib.Core.Bool.{true}
+use Prim.Native.Nat.{ℕ}
+use native.Mathlib.Omega.{arith}
+use borrow.Author.Rules.{rules}
+use borrow.Author.Tests.{not-true, not-false}
+use lib.ListN.{length}
+use Rattle.model.specs.Grid.{size_fits, sectors_fit, map_fits}
+use Rattle.model.specs.Refusal.{refusal}
+use Rattle.model.specs.Plan.{one_tests}
+use Rattle.model.specs.PlanDisk.{can_be_wanted}
+use Rattle.model.proofs.Grid.{one_byte}
+use Rattle.model.proofs.Accept.{one-fits}
+use Rattle.layout.proofs.Numbers.{numbered}
+use Rattle.wanted.proofs.Answers.{size-first, size-passed, is-wanted, refused-plan, refused-disk, unreached, small, reaches}
+use Rattle.wanted.proofs.plan_disk.Goals as goal
+
+-- What each test that was passed has shown.
+sized : (c : goal.Else-not-size_fits) → size_fits c.args.size ≡ true
+sized c = sym c.size_fits_lem.ensures ∙ not-false _ c.if-not-size_fits.false
+
+tested : (c : goal.Else-status-ne0) → let a = c.args in
+    refusal (one_tests a.size a.map.now (length a.sheet.now)) ≡ 0
+tested c = size-passed _ _ _ (sized c.before.before) ∙ sym c.sheet_refusal-status.ensures ∙ c.if-status-ne0.false
+
+can : (c : goal.Else-not-can_be_wanted) → let a = c.args in
+    can_be_wanted a.size a.map.now a.disk ≡ true
+can c = sym c.can_be_wanted.ensures ∙ not-false _ c.if-not-can_be_wanted.false
+
+pub returns-then-not-size_fits : goal.returns-then-not-size_fits
+returns-then-not-size_fits c =
+    refused-plan _ _ _ _ 1 (size-first _ _ _ (sym c.size_fits_lem.ensures ∙ not-true _ c.if-not-size_fits.true)) (λ q. omega arith)
+
+pub sheet_refusal-status-requires : goal.sheet_refusal-status-requires
+unfolding sectors_fit
+sheet_refusal-status-requires c = (sized (goal.at.sheet_refusal-status-requires c).Else-not-size_fits, refl)
+
+pub returns-then-status-ne0 : goal.returns-then-status-ne0
+returns-then-status-ne0 c =
+    refused-plan _ _ _ _ _ (size-passed _ _ _ (sized (goal.at.returns-then-status-ne0 c).Else-not-size_fits) ∙ sym c.sheet_refusal-status.ensures) c.if-status-ne0.true
+
+pub can_be_wanted-requires : goal.can_be_wanted-requires
+can_be_wanted-requires c = (one-fits _ _ _ (tested (goal.at.can_be_wanted-requires c).Else-status-ne0)).1
+
+pub returns-then-not-can_be_wanted : goal.returns-then-not-can_be_wanted
+returns-then-not-can_be_wanted c = refused-disk _ _ _ _ (tested (goal.at.returns-then-not-can_be_wanted c).Else-status-ne0) (sym c.can_be_wanted.ensures ∙ not-true _ c.if-not-can_be_wanted.true)
+
+pub find-count-requires : goal.find-count-requires
+find-count-requires c =
+    let (size, map, long) = one-fits _ _ _ (tested (goal.at.find-count-requires c).Else-status-ne0) in
+    (numbered _ size, (map, ((is-wanted _ _ _ (can (goal.at.find-count-requires c).Else-not-can_be_wanted)).1, search rules)))
+
+pub draft-requires : goal.draft-requires
+unfolding sectors_fit
+draft-requires c =
+    let a = c.args in
+    let (size, map, long) = one-fits _ _ _ (tested (goal.at.draft-requires c).Else-status-ne0) in
+    (size, (refl, (ap (λ (k : ℕ). map_fits k a.map.now) (one_byte a.size) ∙ map, long)))
+
+pub returns-then-count-eq0 : goal.returns-then-count-eq0
+returns-then-count-eq0 c =
+    unreached _ _ _ _ (tested (goal.at.returns-then-count-eq0 c).Else-status-ne0) (can (goal.at.returns-then-count-eq0 c).Else-not-can_be_wanted) c.find-count.ensures c.if-count-eq0.true 32 _ _ c.draft.ensures.0 c.draft.ensures.1
+
+pub write-requires : goal.write-requires
+write-requires c =
+    let s = c.args.sheet.now in
+    let fits = small _ _ s _ (tested (goal.at.write-requires c).Else-status-ne0) (can (goal.at.write-requires c).Else-not-can_be_wanted) c.find-count.ensures c.if-count-eq0.false in
+    let few = fits.few in
+    ((one-fits _ _ _ (tested (goal.at.write-requires c).Else-status-ne0)).2, (few, (search rules, fits.stripe)))
+
+pub returns : goal.returns
+returns c =
+    reaches _ _ _ _ (tested (goal.at.returns c).Else-status-ne0) (can (goal.at.returns c).Else-not-can_be_wanted) c.find-count.ensures c.if-count-eq0.false _ c.write.ensures

@@ -1,0 +1,27 @@
+-- `wanted::reach::find` meets its contract: the memory that it makes is large enough.
+-- Assumes nothing.
+use mathlib.Core.Path.{refl, sym, ◌∙◌}
+use lib.Seq.{length-take-le}
+use Rattle.layout.proofs.Numbers.{map-few}
+use Rattle.layout.proofs.Runs.{stripes_few}
+use Rattle.solve.proofs.Memory.{room-made}
+use Rattle.wanted.proofs.reach.find.Goals as goal
+
+pub slice_bounds-others-end : goal.slice_bounds-others-end
+slice_bounds-others-end c = let p = c.requires in map-few _ _ p.0 _ p.1.0
+
+pub slice_bounds-find_in-end : goal.slice_bounds-find_in-end
+slice_bounds-find_in-end c = sym (length-take-le _ _ (array-borrow-prefix-others c.before))
+
+pub slice_bounds-work-end : goal.slice_bounds-work-end
+slice_bounds-work-end c = let p = c.requires in map-few _ _ p.0 _ p.1.0
+
+pub slice_bounds-find_in-end-3 : goal.slice_bounds-find_in-end-3
+slice_bounds-find_in-end-3 c = sym (length-take-le _ _ (array-borrow-prefix-work c.before))
+
+pub find_in-requires : goal.find_in-requires
+find_in-requires c =
+    let p = c.requires in
+    let work = slice-aggregate-find-in-3 c.before.before.before in
+    let others = slice-aggregate-find-in c.before.before.before.before.before in
+    (p.0, (p.1.0, (p.1.1.0, (stripes_few p.0, (room-made _ _ p.0 _ p.1.0 work refl refl p.1.1.1, sym others ∙ work)))))

@@ -1,0 +1,26 @@
+-- `wanted::reach::load_others` meets its contract: the map without the disk is tallied, and its disks joined.
+-- Assumes nothing.
+use native.Mathlib.Omega.{arith}
+use lib.ListN.{length-set}
+use Rattle.model.proofs.Grid.{map-length}
+use Rattle.wanted.proofs.Loaded.{others_loaded, others_outside, parted-same}
+use Rattle.wanted.proofs.reach.load_others.Goals as goal
+
+pub tally-requires : goal.tally-requires
+tally-requires c =
+    let loaded = others_loaded c.args.map.now _ c.args.disk c.copy.ensures in
+    let long = map-length _ _ c.requires.1.0 in
+    let room = c.requires.1.1.1.0 in
+    let table = c.requires.1.1.1.1.0 in
+    let same = c.copy.auto.1.0 in
+    (c.requires.0, (rw (length-set _ _ _) (omega arith), (λ d h. others_outside c.args.map.now _ c.args.disk loaded d (omega arith), (rw (length-set _ _ _) (omega arith), c.requires.1.1.1.1.1.0))))
+
+pub join_all-requires : goal.join_all-requires
+join_all-requires c =
+    let p = c.requires in
+    (p.0, (c.tally.ensures.1.table, p.1.1.1.1.1.1))
+
+pub returns : goal.returns
+returns c =
+    let loaded = others_loaded c.args.map.now _ c.args.disk c.copy.ensures in
+    record { erased = loaded; table = c.tally.ensures.1.table; parted = parted-same loaded c.join_all.ensures }

@@ -1,0 +1,46 @@
+-- `wanted::reach::try_both` meets its contract: the table is that of the others again before the second stripe is tried.
+-- Assumes nothing.
+use mathlib.Core.Path.{sym, ◌∙◌}
+use native.Mathlib.Omega.{arith}
+use Rattle.stripes.specs.Erased.{erasures}
+use Rattle.model.proofs.Grid.{layout-disks, map-length}
+use Rattle.solve.proofs.Memory.{same-room}
+use Rattle.wanted.proofs.Loaded.{others_outside}
+use Rattle.wanted.proofs.Reached.{tried_first, tried_second}
+use Rattle.layout.proofs.Runs.{numbered_two}
+use Rattle.wanted.proofs.reach.try_both.Goals as goal
+
+pub try_stripe-count-requires : goal.try_stripe-count-requires
+try_stripe-count-requires c =
+    let p = c.requires in
+    (p.0, (p.1.0, (p.1.1.0, (p.1.1.1.0, (p.1.1.1.1.1.0, (p.1.1.1.1.1.1.0, p.1.1.1.1.1.1.1))))))
+
+pub returns-then-count-ne0 : goal.returns-then-count-ne0
+returns-then-count-ne0 c =
+    tried_first (numbered_two c.requires.0) (erasures c.args.map.now) c.args.disk c.requires.1.1.0 c.args.first c.args.second c.try_stripe-count.ensures c.if-count-ne0.true
+
+pub tally-requires : goal.tally-requires
+tally-requires c =
+    let o = c.requires.1.1.1.1.1.0 in
+    let room = c.requires.1.1.1.1.1.1.0 in
+    let a = o.table.disks_fit in
+    let b = room.table_fits in
+    let d = room.stripes_fit in
+    let same = c.requires.1.1.1.1.1.1.1 in
+    let few = layout-disks c.args.size c.args.base in
+    let long = map-length _ _ c.requires.1.0 in
+    let stripes = c.try_stripe-count.auto.1.1.1.1.1.1.1.1.0 in
+    let counts = c.try_stripe-count.auto.1.1.1.1.1.1.1.1.1.0 in
+    (c.requires.0, (omega arith, (λ i h. others_outside c.args.map.now _ c.args.disk o.erased i (omega arith), (omega arith, omega arith))))
+
+pub try_stripe-requires : goal.try_stripe-requires
+try_stripe-requires c =
+    let p = c.requires in
+    let o = p.1.1.1.1.1.0 in
+    let k = c.try_stripe-count.auto in
+    let m = c.tally.auto in
+    (p.0, (p.1.0, (p.1.1.0, (p.1.1.1.1.0, (record { erased = o.erased; table = c.tally.ensures.1.table; parted = o.parted }, (same-room p.1.1.1.1.1.1.0 k.1.1.1.1.1.1.1.0 (m.1.1.1.0 ∙ k.1.1.1.1.1.1.1.1.0) (m.1.1.1.1.0 ∙ k.1.1.1.1.1.1.1.1.1.0) k.1.1.1.1.1.1.1.1.1.1.0, p.1.1.1.1.1.1.1 ∙ sym k.1.1.1.1.1.1.1.0))))))
+
+pub returns : goal.returns
+returns c =
+    tried_second (numbered_two c.requires.0) (erasures c.args.map.now) c.args.disk c.requires.1.1.0 c.args.first c.args.second _ c.try_stripe-count.ensures c.if-count-ne0.false c.try_stripe.ensures
