@@ -64,6 +64,7 @@ module _ (f : Format) (s : List ℕ) where
 
   -- So where it comes back to k, it visits nothing new from there on.
   visits-ring : {n k j : ℕ} → Visits f s n (next_number f s k) k → (m : ℕ) → Visits f s m k j → Visits f s (suc n) k j
+  visits-ring back zero w = elim w [ ]
   visits-ring back (suc m) (here p) = here p
   visits-ring back (suc m) (there p w) = ⊎_elim (λ l. there p l) (λ r. visits-ring back m r) (visits-past back w)
 

@@ -9,6 +9,7 @@ use Rattle.stripes.specs.Fold.{◌⊕◌}
 use Rattle.reach.proofs.Words.{Without, lowest_out}
 use Rattle.reach.proofs.Rest.{gathered_none, gathered_next, gathered_all}
 use Rattle.bridges.specs.Forest.{on_one}
+use Rattle.bridges.proofs.closing.Goals.{In-loop-rest}
 use Rattle.bridges.proofs.closing.Goals as goal
 
 pub loop-rest-init : goal.loop-rest-init

@@ -9,6 +9,7 @@ use Rattle.stripes.specs.Fold.{count}
 use Rattle.stripes.proofs.Fold.{count_le, count_ext, count_none, count-without}
 use Rattle.reach.specs.Reached.{has, word_stripes}
 use Rattle.reach.proofs.Words.{Without, lowest_out, has-none}
+use Rattle.bridges.proofs.members.Goals.{In-loop-rest}
 use Rattle.bridges.proofs.members.Goals as goal
 
 pub loop-rest-init : goal.loop-rest-init

@@ -15,25 +15,25 @@ use Rattle.bridges.proofs.Reaching.{none_grown}
 use Rattle.bridges.proofs.reach_all.Goals as goal
 
 pub loop-s-init : goal.loop-s-init
-loop-s-init c = (none_grown _ _ _ c.requires.1.1, λ i l. absurd (not-suc-le-zero l), omega arith)
+loop-s-init c = (none_grown _ _ _ c.requires.ways_len, λ i l. absurd (not-suc-le-zero l), omega arith)
 
 pub bound-requires : goal.bound-requires
-bound-requires c = c.requires.0
+bound-requires c = c.requires.numbered
 
 pub has-requires : goal.has-requires
 has-requires c =
-    let few = stripes_few c.requires.0 in
+    let few = stripes_few c.requires.numbered in
     omega (arith, c.loop-s-test.true, c.bound.ensures)
 
 pub reach_part-more-requires : goal.reach_part-more-requires
 reach_part-more-requires c =
     let p = c.requires in
-    let few = stripes_few p.0 in
-    (p.0, (p.1.0, (c.loop-s.invariant.0, (omega (arith, c.loop-s-test.true, c.bound.ensures), sym c.has.ensures ∙ not-true _ c.if-not-has.true))))
+    let few = stripes_few p.numbered in
+    (p.numbered, (p.near, (c.loop-s.invariant.0, (omega (arith, c.loop-s-test.true, c.bound.ensures), sym c.has.ensures ∙ not-true _ c.if-not-has.true))))
 
 pub overflow_add-s : goal.overflow_add-s
 overflow_add-s c =
-    let few = stripes_few c.requires.0 in
+    let few = stripes_few c.requires.numbered in
     omega (arith, c.loop-s-test.true, c.bound.ensures)
 
 pub loop-s-smaller : goal.loop-s-smaller

@@ -10,15 +10,16 @@ use Rattle.reach.proofs.Words.{Without, lowest_out}
 use Rattle.neighbours.proofs.Neighbours.{grid-apart}
 use Rattle.bridges.proofs.Forest.{with_u, with_old}
 use Rattle.bridges.proofs.Reaching.{with_one, spread_begin, spread_next, spread_end, fewer_unseen}
+use Rattle.bridges.proofs.reach_part.Goals.{In-loop-ahead}
 use Rattle.bridges.proofs.reach_part.Goals as goal
 
 pub loop-ahead-init : goal.loop-ahead-init
 loop-ahead-init c =
     let p = c.requires in
     let one = c.one.ensures in
-    let power = pow-lt {i = c.args.stripe} {j = 64} p.1.1.1.0 in
+    let power = pow-lt {i = c.args.stripe} {j = 64} p.stripe_lt_word_stripes in
     rw one
-    (spread_begin _ (numbered_two p.0) (grid-apart p.0) p.1.0 p.1.1.0 c.args.stripe p.1.1.1.0 p.1.1.1.1
+    (spread_begin _ (numbered_two p.numbered) (grid-apart p.numbered) p.near p.grown_2 c.args.stripe p.stripe_lt_word_stripes p.stripe_value
     (or_lt 64 _ _ c.struct_known-1.given.0.fits power) (c.shared_slice_known-3-1.given c.args.stripe).fits)
 
 -- Where the code began.
@@ -42,18 +43,18 @@ pub offset_bounds-near-next : goal.offset_bounds-near-next
 offset_bounds-near-next c = omega (arith, (out (goal.at.offset_bounds-near-next c).In-loop-ahead).small)
 
 pub bounds-near-next : goal.bounds-near-next
-bounds-near-next c = omega (arith, (out (goal.at.bounds-near-next c).In-loop-ahead).small, c.requires.1.0.room)
+bounds-near-next c = omega (arith, (out (goal.at.bounds-near-next c).In-loop-ahead).small, c.requires.near.room)
 
 pub loop-ahead-smaller : goal.loop-ahead-smaller
 loop-ahead-smaller c =
-    fewer_unseen _ _ _ (out (goal.at.loop-ahead-smaller c).In-loop-ahead).small (c.loop-ahead.invariant.offered _ (out (goal.at.loop-ahead-smaller c).In-loop-ahead).member).unseen c.reach_one-more.ensures.1
+    fewer_unseen _ _ _ (out (goal.at.loop-ahead-smaller c).In-loop-ahead).small (c.loop-ahead.invariant.offered _ (out (goal.at.loop-ahead-smaller c).In-loop-ahead).member).unseen c.reach_one-more.ensures.seen
 
 pub loop-ahead-preserved : goal.loop-ahead-preserved
 loop-ahead-preserved c =
     let p = (start c.before.before.before.before.before.before.before.before).pre in
     let more = c.reach_one-more in
     let fits = c.struct_known-in-loop-ahead-1.given.0.fits in
-    spread_next _ (numbered_two p.0) (grid-apart p.0) p.1.0 c.loop-ahead.invariant _ (out (goal.at.loop-ahead-preserved c).In-loop-ahead).small more.ensures.0 fits more.ensures.1
+    spread_next _ (numbered_two p.0) (grid-apart p.0) p.1.0 c.loop-ahead.invariant _ (out (goal.at.loop-ahead-preserved c).In-loop-ahead).small more.ensures.growing fits more.ensures.seen
     (xor_lt 64 _ _ (or_lt 64 _ _ (or_lt 64 _ _ c.loop-ahead.invariant.ahead_fits (c.shared_slice_known-in-loop-ahead-1.given _).fits) fits) fits)
 
 pub returns : goal.returns

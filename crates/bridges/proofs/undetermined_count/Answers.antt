@@ -15,22 +15,23 @@ use Rattle.layout.proofs.Runs.{numbered_two, stripes_few}
 use Rattle.reach.specs.Reached.{word_stripes}
 use Rattle.reach.proofs.Words.{has-without}
 use Rattle.bridges.proofs.Counted.{bridges_lost}
+use Rattle.bridges.proofs.undetermined_count.Goals.{After-members}
 use Rattle.bridges.proofs.undetermined_count.Goals as goal
 
 -- The disks that are found determined and all that are not are the erased ones.
 all : (c : goal.After-members) →
     lost (layout_of c.args.size c.args.base) (erasures c.args.work.now) + c.members.result ≡ c.args.erased
 all c =
-    let two = numbered_two c.requires.0 in
+    let two = numbered_two c.requires.numbered in
     let reached = c.reach_all-all in
-    let f = reached.ensures.0.forest in
+    let f = reached.ensures.grown.forest in
     let found =
     bridges_lost (layout_of c.args.size c.args.base) two (erasures c.args.work.now) f
-    (λ d l h. reached.ensures.1 _ (lower-bound _ two d l)) (λ d l h. reached.ensures.1 _ (higher-bound _ two d l))
-    (λ t l. let few = stripes_few c.requires.0 in let less = on-bound _ two (f.disk t) (f.inside t l) t (f.here t l) in omega arith) in
+    (λ d l h. reached.ensures.all _ (lower-bound _ two d l)) (λ d l h. reached.ensures.all _ (higher-bound _ two d l))
+    (λ t l. let few = stripes_few c.requires.numbered in let less = on-bound _ two (f.disk t) (f.inside t l) t (f.here t l) in omega arith) in
     let words = count_ext word_stripes (λ t l. has-without reached.result.links reached.result.closed t) in
     ap (λ (n : ℕ). lost (layout_of c.args.size c.args.base) (erasures c.args.work.now) + n) (c.members.ensures ∙ words) ∙ found
-    ∙ ap (λ (n : ℕ). count n (erasures c.args.work.now)) (layout-disks c.args.size c.args.base) ∙ sym c.requires.1.1
+    ∙ ap (λ (n : ℕ). count n (erasures c.args.work.now)) (layout-disks c.args.size c.args.base) ∙ sym c.requires.erased_value
 
 pub overflow_sub-result : goal.overflow_sub-result
 overflow_sub-result c = let sum = all (goal.at.overflow_sub-result c).After-members in omega arith

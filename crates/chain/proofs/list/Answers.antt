@@ -12,15 +12,15 @@ read-chain-requires c = (search rules, (search rules, (omega arith, none-marked 
 
 pub returns-in_default : goal.returns-in_default
 returns-in_default c =
-    let refusal = by_number _ _ _ c.read-chain.ensures.0 _ c.enum_told-1.given.1 in
-    absurd (refusal.1 c.requires.1.1)
+    let refusal = by_number _ _ _ c.read-chain.ensures.chain _ c.enum_told-1.given.1 in
+    absurd (refusal.1 c.requires.sheet_value)
 
 pub returns-clause-number : goal.returns-clause-number
 returns-clause-number c =
-    let (fits, count) = by_records _ _ _ c.read-chain.ensures.0 _ c.chain-1.given.1 in
+    let (fits, count) = by_records _ _ _ c.read-chain.ensures.chain _ c.chain-1.given.1 in
     count
 
 pub returns-clause-list : goal.returns-clause-list
 returns-clause-list c =
-    let (fits, count) = by_records _ _ _ c.read-chain.ensures.0 _ c.chain-1.given.1 in
-    ap (listed c.read-chain.new.marks.0) count ∙ c.read-chain.ensures.1.0 fits
+    let (fits, count) = by_records _ _ _ c.read-chain.ensures.chain _ c.chain-1.given.1 in
+    ap (listed c.read-chain.new.marks.0) count ∙ c.read-chain.ensures.list fits

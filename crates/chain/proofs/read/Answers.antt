@@ -12,6 +12,7 @@ use Rattle.model.proofs.Chain.{kind_refused}
 use Rattle.reader.specs.declared.Found.TheVariants.{Record}
 use Rattle.reader.specs.Found.{found_at}
 use Rattle.chain.proofs.Listed.{listed-none, listed_small, listed-place, listed_next, listed_all, number_outside, ring_read, none_found, answered}
+use Rattle.chain.proofs.read.Goals.{In-Record-2}
 use Rattle.chain.proofs.read.Goals as goal
 
 pub returns-then-sheet-ne-REPAIR_KIND : goal.returns-then-sheet-ne-REPAIR_KIND
@@ -52,7 +53,7 @@ pub loop-k-preserved : goal.loop-k-preserved
 loop-k-preserved c =
     let put = c.put in
     let (read, kept, marks) = c.loop-k.invariant in (
-      listed_next read _ _ _ (search rules) (answered-record (goal.at.loop-k-preserved c).In-Record-2) put.new.0 put.ensures,
+      listed_next read _ _ _ (search rules) (answered-record (goal.at.loop-k-preserved c).In-Record-2) put.new.list put.ensures,
       ap length put.ensures ∙ simp length-set kept,
       simp length-set marks,
     )

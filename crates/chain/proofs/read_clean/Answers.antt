@@ -12,16 +12,16 @@ read-chain-requires c = (search rules, (search rules, (omega arith, none-marked 
 pub returns-in_default : goal.returns-in_default
 returns-in_default c =
     let read = c.read-chain in
-    refused _ _ _ _ read.ensures.0 c.enum_told-1.given.1
+    refused _ _ _ _ read.ensures.chain c.enum_told-1.given.1
 
 pub returns-then-not-rest_is_zero : goal.returns-then-not-rest_is_zero
 returns-then-not-rest_is_zero c =
     let read = c.read-chain in
-    left_over _ _ _ _ _ read.ensures.0 c.chain-1.given.1 read.ensures.1.0 read.ensures.1.1 _ c.rest_is_zero.ensures
+    left_over _ _ _ _ _ read.ensures.chain c.chain-1.given.1 read.ensures.list read.ensures.marks _ c.rest_is_zero.ensures
     (not-true _ c.if-not-rest_is_zero.true)
 
 pub returns : goal.returns
 returns c =
     let read = c.read-chain in
-    clean _ _ _ _ _ read.ensures.0 c.chain-1.given.1 read.ensures.1.0 read.ensures.1.1 _ c.rest_is_zero.ensures
+    clean _ _ _ _ _ read.ensures.chain c.chain-1.given.1 read.ensures.list read.ensures.marks _ c.rest_is_zero.ensures
     (not-false _ c.if-not-rest_is_zero.false)

@@ -10,6 +10,7 @@ use borrow.Author.Rules.{rules}
 use Rattle.model.specs.Grid.{layout_of}
 use Rattle.tally.proofs.Scanned.{next_passed}
 use Rattle.cycle.proofs.Search.{Searched, lies, none_self, none_elsewhere, search_next, partner_found, partner_missed}
+use Rattle.cycle.proofs.partner.Goals.{After-next_erased-d}
 use Rattle.cycle.proofs.partner.Goals as goal
 
 pub loop-size-init : goal.loop-size-init

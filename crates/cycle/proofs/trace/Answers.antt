@@ -9,6 +9,7 @@ use Rattle.stripes.specs.Erased.{erasures}
 use Rattle.model.specs.Grid.{layout_of}
 use Rattle.tally.proofs.Counted.{erased-inside}
 use Rattle.cycle.proofs.Turn.{Traced, traced, pair_rises, turn_first, turn_ends, turn_some, turn_erased, turn_fits, turn_closes, turn_next, answers}
+use Rattle.cycle.proofs.trace.Goals.{After-partner-disk, In-loop-k, Start}
 use Rattle.cycle.proofs.trace.Goals as goal
 
 -- Where the code began, and what is traced.
@@ -32,9 +33,11 @@ begun c =
 erased : (c : goal.After-partner-disk) → erasures (start c.before.before.before.before.before.before.before).args.set.now c.partner-disk.result ≡ true
 erased c = turn_erased (given (start c.before.before.before.before.before.before.before)) c.loop-k.invariant.1 c.partner-disk.ensures
 
-pub stripes_of-stripe-requires : goal.stripes_of-stripe-requires
-stripes_of-stripe-requires c =
-    (c.requires.1.0, ap (erasures c.args.set.now) c.next_erased-start.ensures ∙ (given (goal.at.stripes_of-stripe-requires c).Start).erased)
+pub stripes_of-stripe-requires-clause-table : goal.stripes_of-stripe-requires-clause-table
+stripes_of-stripe-requires-clause-table c = c.requires.table
+
+pub stripes_of-stripe-requires-clause-disk_value : goal.stripes_of-stripe-requires-clause-disk_value
+stripes_of-stripe-requires-clause-disk_value c = ap (erasures c.args.set.now) c.next_erased-start.ensures ∙ (given (goal.at.stripes_of-stripe-requires-clause-disk_value c).Start).erased
 
 pub loop-k-init : goal.loop-k-init
 loop-k-init c = (refl, turn_first (given (goal.at.loop-k-init c).Start) _ c.next_erased-start.ensures c.stripes_of-stripe.ensures)
@@ -53,9 +56,11 @@ overflow_add-k c =
     let few = (given (start c.before.before.before.before.before.before)).stripes_fit in
     omega arith
 
-pub partner-disk-requires : goal.partner-disk-requires
-partner-disk-requires c =
-    ((start c.before.before.before.before.before.before).requires.1.0, turn_some (given (start c.before.before.before.before.before.before)) c.loop-k.invariant.1)
+pub partner-disk-requires-clause-table : goal.partner-disk-requires-clause-table
+partner-disk-requires-clause-table c = (start c.before.before.before.before.before.before).requires.1.0
+
+pub partner-disk-requires-clause-stripe_bound : goal.partner-disk-requires-clause-stripe_bound
+partner-disk-requires-clause-stripe_bound c = turn_some (given (start c.before.before.before.before.before.before)) c.loop-k.invariant.1
 
 pub stripes_of-requires-clause-table : goal.stripes_of-requires-clause-table
 stripes_of-requires-clause-table c = (start c.before.before.before.before.before.before.before.before).pre.1.0

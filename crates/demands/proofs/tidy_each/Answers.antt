@@ -23,6 +23,12 @@ overflow_add-at c = omega arith
 pub slice_bounds-tidy-count : goal.slice_bounds-tidy-count
 slice_bounds-tidy-count c = omega arith
 
+pub slice_bounds-tidy-start : goal.slice_bounds-tidy-start
+slice_bounds-tidy-start c = omega arith
+
+pub slice_bounds-tidy-end : goal.slice_bounds-tidy-end
+slice_bounds-tidy-end c = omega arith
+
 pub overflow_add-p : goal.overflow_add-p
 overflow_add-p c = omega arith
 

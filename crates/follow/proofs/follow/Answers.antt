@@ -18,6 +18,7 @@ use Rattle.model.proofs.Follow.{sectors, listed}
 use Rattle.layout.proofs.Numbers.{numbered}
 use Rattle.restore.specs.Restored.{Sectored}
 use Rattle.follow.proofs.Answers.{array-refused, tests_left, sheet-refused, unclean, chains-fit, steps-refused, agreed, contradicted}
+use Rattle.follow.proofs.follow.Goals.{Else-not-all_clear, Else-of_array-ne0, Else-of_sheets-ne0}
 use Rattle.follow.proofs.follow.Goals as goal
 
 -- The array and the sectors have passed their tests,
@@ -66,10 +67,15 @@ nonzero_div-sectors c =
     let a = c.args in
     sector-some a.block a.sector (sector_fits_lem a.size a.block (length a.array.now) a.sector (sized (goal.at.nonzero_div-sectors c).Else-of_array-ne0)).1
 
-pub sheet_refusal-of_sheets-requires : goal.sheet_refusal-of_sheets-requires
-sheet_refusal-of_sheets-requires c =
+pub sheet_refusal-of_sheets-requires-clause-size_value : goal.sheet_refusal-of_sheets-requires-clause-size_value
+sheet_refusal-of_sheets-requires-clause-size_value c =
     let a = c.args in
-    ((sector_fits_lem a.size a.block (length a.array.now) a.sector (sized (goal.at.sheet_refusal-of_sheets-requires c).Else-of_array-ne0)).0.size, some-sectors (goal.at.sheet_refusal-of_sheets-requires c).Else-of_array-ne0)
+    (sector_fits_lem a.size a.block (length a.array.now) a.sector (sized (goal.at.sheet_refusal-of_sheets-requires-clause-size_value c).Else-of_array-ne0)).0.size
+
+pub sheet_refusal-of_sheets-requires-clause-sectors_value : goal.sheet_refusal-of_sheets-requires-clause-sectors_value
+sheet_refusal-of_sheets-requires-clause-sectors_value c =
+    let a = c.args in
+    some-sectors (goal.at.sheet_refusal-of_sheets-requires-clause-sectors_value c).Else-of_array-ne0
 
 pub returns-then-of_sheets-ne0 : goal.returns-then-of_sheets-ne0
 returns-then-of_sheets-ne0 c =
@@ -77,8 +83,11 @@ returns-then-of_sheets-ne0 c =
     sheet-refused a.size a.block a.sector a.array.now a.map.now a.sheets.now (sized (goal.at.returns-then-of_sheets-ne0 c).Else-of_array-ne0) _
     c.sheet_refusal-of_sheets.ensures c.if-of_sheets-ne0.true
 
-pub read_all-chains-requires : goal.read_all-chains-requires
-read_all-chains-requires c = (some-sectors (goal.at.read_all-chains-requires c).Else-of_array-ne0, (fit (goal.at.read_all-chains-requires c).Else-of_sheets-ne0).long)
+pub read_all-chains-requires-clause-sectors_value : goal.read_all-chains-requires-clause-sectors_value
+read_all-chains-requires-clause-sectors_value c = some-sectors (goal.at.read_all-chains-requires-clause-sectors_value c).Else-of_array-ne0
+
+pub read_all-chains-requires-clause-sheets_len : goal.read_all-chains-requires-clause-sheets_len
+read_all-chains-requires-clause-sheets_len c = (fit (goal.at.read_all-chains-requires-clause-sheets_len c).Else-of_sheets-ne0).long
 
 pub returns-in-Refused : goal.returns-in-Refused
 returns-in-Refused c =
@@ -123,9 +132,9 @@ restore-requires c =
 pub returns-then-not-restore : goal.returns-then-not-restore
 returns-then-not-restore c =
     contradicted _ _ _ _ _ _ (passed (goal.at.returns-then-not-restore c).Else-of_sheets-ne0) _ c.read_all-chains.ensures _ c.chains-1.given.1 (cleared (goal.at.returns-then-not-restore c).Else-not-all_clear)
-    _ c.restore.ensures.1 (sym c.restore.ensures.0 ∙ not-true _ c.if-not-restore.true)
+    _ c.restore.ensures.array (sym c.restore.ensures.answer ∙ not-true _ c.if-not-restore.true)
 
 pub returns : goal.returns
 returns c =
     agreed _ _ _ _ _ _ (passed (goal.at.returns c).Else-of_sheets-ne0) _ c.read_all-chains.ensures _ c.chains-1.given.1 (cleared (goal.at.returns c).Else-not-all_clear)
-    _ c.restore.ensures.1 (sym c.restore.ensures.0 ∙ not-false _ c.if-not-restore.false)
+    _ c.restore.ensures.array (sym c.restore.ensures.answer ∙ not-false _ c.if-not-restore.false)

@@ -10,7 +10,7 @@ use Rattle.layout.proofs.array_bytes.Goals as goal
 pub overflow_mul-result : goal.overflow_mul-result
 unfolding array_bytes
 overflow_mul-result c =
-    let h = bytes-bound c.args.size (size_fits_lem c.args.size c.requires.0) c.args.block (block_fits_lem c.args.block c.requires.1) in
+    let h = bytes-bound c.args.size (size_fits_lem c.args.size c.requires.size_value) c.args.block (block_fits_lem c.args.block c.requires.block_value) in
     let e = ap (λ (n : ℕ). n * c.args.block) c.disks.ensures in
     omega arith
 

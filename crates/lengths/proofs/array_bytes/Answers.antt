@@ -4,6 +4,7 @@ use mathlib.Core.Path.{◌≡◌, ◌∙◌, sym}
 use mathlib.Core.Bool.{true}
 use borrow.Author.Tests.{not-true, not-false}
 use Rattle.model.specs.Grid.{size_fits, block_fits, array_bytes_or_zero}
+use Rattle.lengths.proofs.array_bytes.Goals.{Else-not-block_fits, Else-not-size_fits}
 use Rattle.lengths.proofs.array_bytes.Goals as goal
 
 sized : (c : goal.Else-not-size_fits) → size_fits c.args.size ≡ true

@@ -3,6 +3,7 @@
 use mathlib.Core.Path.{◌≡◌, ◌∙◌, sym}
 use mathlib.Core.Bool.{true}
 use Rattle.model.specs.Grid.{size_fits, disks_or_zero}
+use Rattle.lengths.proofs.disks.Goals.{Then-size_fits}
 use Rattle.lengths.proofs.disks.Goals as goal
 
 sized : (c : goal.Then-size_fits) → size_fits c.args.size ≡ true

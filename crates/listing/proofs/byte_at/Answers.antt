@@ -2,8 +2,12 @@
 -- Assumes nothing.
 use mathlib.Core.Path.{refl, sym}
 use native.Mathlib.Omega.{arith}
+use borrow.Author.Rules.{rules}
 use lib.ListN.{get_or-eq_default}
 use Rattle.listing.proofs.byte_at.Goals as goal
+
+pub bounds-input-place : goal.bounds-input-place
+bounds-input-place c = search rules
 
 pub overflow_cast-result : goal.overflow_cast-result
 overflow_cast-result c = omega (arith, c.shared_slice_known-1.given c.args.place)

@@ -8,9 +8,10 @@ use borrow.Author.Rules.{rules}
 use borrow.Author.Tests.{not-true, not-false}
 use Rattle.model.specs.Grid.{disks, map_bytes}
 use Rattle.model.proofs.Refusal.{sector_fits_lem}
-use Rattle.model.proofs.Grid.{sector-some, sectors-some, map-length}
+use Rattle.model.proofs.Grid.{sector-some, sectors-some, map-length, block_within}
 use Rattle.stripes.proofs.Bytes.{block-before}
 use Rattle.look.proofs.Part.{Passed, look_nothing, look_block}
+use Rattle.look.proofs.look.Goals.{Else-not-all_present}
 use Rattle.look.proofs.look.Goals as goal
 
 -- The tests are passed where the last one is.
@@ -70,11 +71,17 @@ pub returns-then-not-all_present : goal.returns-then-not-all_present
 returns-then-not-all_present c =
     look_nothing _ _ _ _ _ _ (λ (ok, mapped, inside, present). true≢false (sym present ∙ sym c.all_present.ensures ∙ not-true _ c.if-not-all_present.true)) _
 
+pub slice_bounds-result-end-2 : goal.slice_bounds-result-end-2
+slice_bounds-result-end-2 c =
+    let (ok, mapped, inside, present) = passed (goal.at.slice_bounds-result-end-2 c).Else-not-all_present in
+    let (array, sector) = sector_fits_lem _ _ _ _ ok in
+    block_within _ _ _ array.long _ inside
+
 pub overflow_mul-at : goal.overflow_mul-at
-overflow_mul-at c = omega (arith, part-result-end c)
+overflow_mul-at c = omega (arith, slice_bounds-result-end-2 c)
 
 pub overflow_add-result : goal.overflow_add-result
-overflow_add-result c = omega (arith, part-result-end c)
+overflow_add-result c = omega (arith, slice_bounds-result-end-2 c)
 
 pub returns : goal.returns
 returns c = look_block _ _ _ _ _ _ (passed (goal.at.returns c).Else-not-all_present) _

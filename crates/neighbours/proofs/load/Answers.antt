@@ -13,6 +13,7 @@ use Rattle.tally.proofs.Scanned.{next_passed, next_erased_lem}
 use Rattle.tally.proofs.Counted.{Crossed, erased_crossed}
 use Rattle.neighbours.specs.Near.{Near}
 use Rattle.neighbours.proofs.Neighbours.{grid-apart, near_none, near_over, near_next, near_all}
+use Rattle.neighbours.proofs.load.Goals.{After-next_erased-d, After-stripes_of, Else-work-d}
 use Rattle.neighbours.proofs.load.Goals as goal
 
 pub loop-size-init : goal.loop-size-init

@@ -7,6 +7,7 @@ use borrow.Author.Rules.{rules}
 use lib.ListN.{length, get_or, length-set}
 use Rattle.notes.specs.Notes.{Loads}
 use Rattle.notes.proofs.Noted.{noted-inside, binary_none, binary_set, marked-none, marked_next, marked_all}
+use Rattle.notes.proofs.load.Goals.{At-loop-k, In-loop-k}
 use Rattle.notes.proofs.load.Goals as goal
 
 pub overflow_cast-count : goal.overflow_cast-count

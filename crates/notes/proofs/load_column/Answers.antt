@@ -14,34 +14,34 @@ pub load-requires-clause-sheet_len : goal.load-requires-clause-sheet_len
 load-requires-clause-sheet_len c =
     let a = c.args in
     let e : ℕ → Bool = at_position a.sectors a.position (erasures a.map.now) in
-    c.requires.1.0
+    c.requires.sheet_len
 
 pub load-requires-clause-by_index : goal.load-requires-clause-by_index
 load-requires-clause-by_index c =
     let a = c.args in
     let e : ℕ → Bool = at_position a.sectors a.position (erasures a.map.now) in
-    (e, subst (λ (N : ℕ). Notes N e a.sheet.now) (sym c.requires.0.room) c.requires.1.1)
+    (e, subst (λ (N : ℕ). Notes N e a.sheet.now) (sym c.requires.located.room) c.requires.notes)
 
 pub returns-then-load-clause-fits : goal.returns-then-load-clause-fits
 returns-then-load-clause-fits c =
     let a = c.args in
     let e : ℕ → Bool = at_position a.sectors a.position (erasures a.map.now) in
-    let loads = subst (λ (N : ℕ). Loads N a.sheet.now c.load.new.1.0) c.requires.0.room (c.load.ensures c.if-load.true) in
+    let loads = subst (λ (N : ℕ). Loads N a.sheet.now c.load.new.1.0) c.requires.located.room (c.load.ensures c.if-load.true) in
     loads.fits
 
 pub returns-then-load-clause-erased : goal.returns-then-load-clause-erased
 returns-then-load-clause-erased c =
     let a = c.args in
     let e : ℕ → Bool = at_position a.sectors a.position (erasures a.map.now) in
-    let loads = subst (λ (N : ℕ). Loads N a.sheet.now c.load.new.1.0) c.requires.0.room (c.load.ensures c.if-load.true) in
-    loads.erased e c.requires.1.1 ∙ below_all _ e (position_inside c.requires.0.positioned)
+    let loads = subst (λ (N : ℕ). Loads N a.sheet.now c.load.new.1.0) c.requires.located.room (c.load.ensures c.if-load.true) in
+    loads.erased e c.requires.notes ∙ below_all _ e (position_inside c.requires.located.positioned)
 
 pub returns-clause-fits : goal.returns-clause-fits
 returns-clause-fits c =
-    let p = c.requires.0.positioned in
+    let p = c.requires.located.positioned in
     rw c.gather.ensures (position_fits p)
 
 pub returns-clause-erased : goal.returns-clause-erased
 returns-clause-erased c =
-    let p = c.requires.0.positioned in
+    let p = c.requires.located.positioned in
     ap erasures c.gather.ensures ∙ position_erased p

@@ -18,11 +18,12 @@ use Rattle.sheet.proofs.Part.{part_sheet}
 use Rattle.notes.specs.Notes.{noted}
 use Rattle.sheet.proofs.Put.{put_length}
 use Rattle.notes.proofs.Noted.{NotedTo, noted-none, noted_over, noted_all, noted-next}
+use Rattle.notes.proofs.note_all.Goals.{After-next_erased-i, At-loop-sectors, Else-map-i}
 use Rattle.notes.proofs.note_all.Goals as goal
 
 pub loop-sectors-init : goal.loop-sectors-init
 loop-sectors-init c =
-    (omega arith, c.zero_all.auto.0 ∙ c.requires.1.1.1, noted-none _ _ c.zero_all.ensures)
+    (omega arith, c.zero_all.auto.0 ∙ c.requires.sheets_len, noted-none _ _ c.zero_all.ensures)
 
 -- Where the code began.
 abbrev start : goal.At-loop-sectors → goal.Start
@@ -79,6 +80,12 @@ overflow_add-at c =
     let few = (sectors-bound _ (start c.before.before).pre.1.0).1 in
     omega arith
 
+pub slice_bounds-note-end : goal.slice_bounds-note-end
+slice_bounds-note-end c =
+    let low = at (goal.at.slice_bounds-note-end c).Else-map-i in
+    let long = c.loop-sectors.invariant.1 in
+    omega arith
+
 pub nonzero_div-i : goal.nonzero_div-i
 nonzero_div-i c = let more = some (goal.at.nonzero_div-i c).At-loop-sectors in omega arith
 
@@ -103,9 +110,9 @@ loop-sectors-preserved c =
     let note = c.note in
     let below = c.if-map-i.false in
     let own = part_sheet narrow (i % (start c.before.before.before.before.before.before).args.sectors) c.loop-sectors.sheets in
-    let size : length note.new.0 ≡ 98 = note.auto.0 ∙ ap length own ∙ part_length (goal.at.loop-sectors-preserved c).Else-map-i in (
+    let size : length note.new.sheet ≡ 98 = note.auto.0 ∙ ap length own ∙ part_length (goal.at.loop-sectors-preserved c).Else-map-i in (
       omega arith,
-      put_length _ c.loop-sectors.sheets c.loop-sectors.invariant.1 _ (at (goal.at.loop-sectors-preserved c).Else-map-i) note.new.0 size,
+      put_length _ c.loop-sectors.sheets c.loop-sectors.invariant.1 _ (at (goal.at.loop-sectors-preserved c).Else-map-i) note.new.sheet size,
       noted-next _ _ (some (goal.at.loop-sectors-preserved c).At-loop-sectors) c.loop-sectors.sheets c.loop-sectors.invariant.1 i (next_erased_lem _ _ c.next_erased-i.ensures below) _
           (note.ensures ∙ ap (λ (s : List ℕ). noted s (i / (start c.before.before.before.before.before.before).args.sectors)) own) size (over (goal.at.loop-sectors-preserved c).After-next_erased-i),
     )

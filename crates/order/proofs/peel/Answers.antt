@@ -18,10 +18,11 @@ use Rattle.order.specs.declared.Next.TheVariants.{Repair}
 use Rattle.order.specs.Pick.{picked, held_repairs}
 use Rattle.order.proofs.Turns.{turn_none, turn_next, turn_stuck, turn_done, turn_ends, picked-allowed}
 use Rattle.layout.proofs.Runs.{stripes_few, numbered_two}
+use Rattle.order.proofs.peel.Goals.{At-loop-k, In-Repair-2}
 use Rattle.order.proofs.peel.Goals as goal
 
 pub loop-k-init : goal.loop-k-init
-loop-k-init c = (turn_none _ c.requires.1.1.0, search rules, search rules, search rules)
+loop-k-init c = (turn_none _ c.requires.tallied_2, search rules, search rules, search rules)
 
 -- Where the code began, and its layout.
 abbrev start : goal.At-loop-k → goal.Start
@@ -40,8 +41,11 @@ room l =
     let made = l.loop.invariant.0.within in
     (omega arith, omega (arith, l.loop.invariant.3, s.pre.1.1.1))
 
-pub pick-answer-requires : goal.pick-answer-requires
-pick-answer-requires c = ((start c.before.before.before).requires.0, c.loop-k.invariant.0.tallied)
+pub pick-answer-requires-clause-numbered : goal.pick-answer-requires-clause-numbered
+pick-answer-requires-clause-numbered c = (start c.before.before.before).requires.0
+
+pub pick-answer-requires-clause-tallied : goal.pick-answer-requires-clause-tallied
+pick-answer-requires-clause-tallied c = c.loop-k.invariant.0.tallied
 
 pub enum_known-answer : goal.enum_known-answer
 enum_known-answer c = c.in_default.keys1
@@ -86,7 +90,7 @@ pub loop-k-preserved : goal.loop-k-preserved
 loop-k-preserved c =
     let take = c.take in
     let n = small (goal.at.loop-k-preserved c).In-Repair-2 in (
-      turn_next c.loop-k.invariant.0 _ _ (answered (goal.at.loop-k-preserved c).In-Repair-2) (room (goal.at.loop-k-preserved c).At-loop-k).1 n.0 n.1 take.ensures.1 take.ensures.0 c.put.ensures,
+      turn_next c.loop-k.invariant.0 _ _ (answered (goal.at.loop-k-preserved c).In-Repair-2) (room (goal.at.loop-k-preserved c).At-loop-k).1 n.0 n.1 take.ensures.tallied take.ensures.erased c.put.ensures,
       search rules,
       search rules,
       search rules,

@@ -15,6 +15,7 @@ use Rattle.tally.proofs.Scanned.{next_passed, next_erased_lem}
 use Rattle.tally.proofs.Counted.{Crossed, erased_crossed, low_held, high_held}
 use Rattle.order.proofs.Picked.{Crowded, crowded_none, crowded_over, crowded_held, crowded_next, picked_none, picked_low, picked_high}
 use Rattle.layout.proofs.Runs.{numbered_two}
+use Rattle.order.proofs.pick.Goals.{After-next_erased-d, After-stripes_of-pair, Else-work-d, Then-d-held}
 use Rattle.order.proofs.pick.Goals as goal
 
 pub loop-size-init : goal.loop-size-init
@@ -40,8 +41,11 @@ returns-then-work-d c = picked_none (crowded (goal.at.returns-then-work-d c).Aft
 erased : (c : goal.Else-work-d) → erasures (start c.before.before).args.work.now c.next_erased-d.result ≡ true
 erased c = next_erased_lem _ _ c.next_erased-d.ensures (search rules)
 
-pub stripes_of-pair-requires : goal.stripes_of-pair-requires
-stripes_of-pair-requires c = ((start c.before.before.before).pre.1.table, erased (goal.at.stripes_of-pair-requires c).Else-work-d)
+pub stripes_of-pair-requires-clause-table : goal.stripes_of-pair-requires-clause-table
+stripes_of-pair-requires-clause-table c = (start c.before.before.before).pre.1.table
+
+pub stripes_of-pair-requires-clause-disk_value : goal.stripes_of-pair-requires-clause-disk_value
+stripes_of-pair-requires-clause-disk_value c = erased (goal.at.stripes_of-pair-requires-clause-disk_value c).Else-work-d
 
 -- Its stripes.
 pair : (c : goal.After-stripes_of-pair) →

@@ -14,6 +14,7 @@ use Rattle.model.proofs.SheetRow.{length-sheet_at}
 use Rattle.sheet.proofs.Part.{part_sheet}
 use Rattle.sheet.proofs.Put.{put_sheet}
 use Rattle.plan.proofs.Begun.{begins, ends, goes, stops, repairs_told, after-length, after-other, own_few, before-few}
+use Rattle.plan.proofs.draft_all.Goals.{After-draft_noted-answer}
 use Rattle.plan.proofs.draft_all.Goals as goal
 
 -- The loop that a position is drafted in, and the start.
@@ -30,22 +31,25 @@ kept d =
     after-length _ _ _ _ (turn d).loop.invariant.0 d.before.before.loop-test.true d.draft-noted.ensures.0 d.draft-noted.ensures.1
 
 pub loop-p-init : goal.loop-p-init
-loop-p-init c = let notes = c.requires.1.1.1 in (begins _ _ _ _ _ notes.0, λ q low high. notes.1 q high)
+loop-p-init c = let notes = c.requires.1.1.1 in (begins _ _ _ _ _ c.requires.sheets_len, λ q low high. c.requires.each_notes q high)
 
 pub overflow_mul-at : goal.overflow_mul-at
 overflow_mul-at c =
-    let few = (sectors-bound _ c.requires.1.0).1 in
+    let few = (sectors-bound _ c.requires.sectors_value).1 in
     omega arith
 
 pub overflow_add-own : goal.overflow_add-own
 overflow_add-own c =
-    let few = (sectors-bound _ c.requires.1.0).1 in
+    let few = (sectors-bound _ c.requires.sectors_value).1 in
     omega arith
+
+pub slice_bounds-own-end : goal.slice_bounds-own-end
+slice_bounds-own-end c = let long = c.loop-p.invariant.0.long in omega arith
 
 pub draft_noted-answer-requires : goal.draft_noted-answer-requires
 draft_noted-answer-requires c =
     let place = c.loop-p-test.true in (
-      record { size = c.requires.0; sectors = c.requires.1.0; place = place; map = c.requires.1.1.0 },
+      record { size = c.requires.size_value; sectors = c.requires.sectors_value; place = place; map = c.requires.map_value },
       (
         ap length (part_sheet narrow c.loop-p.p c.loop-p.sheets)
             ∙ length-sheet_at narrow c.args.sectors c.loop-p.sheets c.loop-p.invariant.0.long c.loop-p.p place,
@@ -59,14 +63,14 @@ zero_others-requires c =
 
 pub returns-in_default : goal.returns-in_default
 returns-in_default c =
-    stops _ _ _ _ (turn c.before.before.before.before.before.before.before).loop.invariant.0 c.loop-p-test.true c.draft_noted-answer.ensures.0 c.draft_noted-answer.ensures.1
+    stops _ _ _ _ (turn c.before.before.before.before.before.before.before).loop.invariant.0 c.loop-p-test.true c.draft_noted-answer.ensures.outcome c.draft_noted-answer.ensures.sheet
     c.in_default.keys2 c.zero_others.ensures
 
 pub overflow_add-count : goal.overflow_add-count
 overflow_add-count c =
     let s = start c.before.before.before.before.before in
     let l = (turn c.before.before.before.before.before).loop in
-    let number = (repairs_told _ _ _ (sym c.draft_noted-answer.ensures.0 ∙ c.answer-1.given.1)).1 in
+    let number = (repairs_told _ _ _ (sym c.draft_noted-answer.ensures.outcome ∙ c.answer-1.given.1)).1 in
     let here = own_few s.args.size s.pre.0 (at_position s.args.sectors l.p (erasures s.args.map.now)) in
     let so_far = before-few s.args.size s.pre.0 s.args.sectors (erasures s.args.map.now) l.p in
     let counted = l.inv.0.counted in

@@ -15,6 +15,7 @@ use Rattle.solve.specs.declared.Solved.TheVariants.{Repairs, Cycle}
 use Rattle.solve.proofs.Fitting.{repairs_fit, cycle-fits}
 use Rattle.sheet.proofs.Fitting.{listed-fits}
 use Rattle.plan.proofs.Answers.{drafts-repairs, drafts-fatal}
+use Rattle.plan.proofs.draft_column.Goals.{After-solve-answer, In-Cycle-2, In-Repairs-2}
 use Rattle.plan.proofs.draft_column.Goals as goal
 
 abbrev start : goal.After-solve-answer → goal.Start
@@ -40,7 +41,7 @@ lossy c = subst (Found c.before.before.before) c.answer-in-Cycle-1.given.1 c.sol
 pub solve-answer-requires : goal.solve-answer-requires
 solve-answer-requires c =
     let p = c.requires in
-    (numbered _ p.0, (p.1.0, search rules))
+    (numbered _ p.size_value, (p.column_value, search rules))
 
 pub write-requires : goal.write-requires
 write-requires c =

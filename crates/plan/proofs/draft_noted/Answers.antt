@@ -8,18 +8,18 @@ use Rattle.plan.proofs.draft_noted.Goals as goal
 
 pub slice_bounds-column-end : goal.slice_bounds-column-end
 slice_bounds-column-end c =
-    let few = disks-few c.requires.0 in
+    let few = disks-few c.requires.positioned in
     let all = c.disks-disks.ensures in
     omega arith
 
 pub slice_bounds-own-end : goal.slice_bounds-own-end
-slice_bounds-own-end c = sym (length-take-le _ _ (array-borrow-prefix-column c.before))
+slice_bounds-own-end c = sym (length-take-le _ _ (slice_bounds-column-end c.before))
 
 pub load_column-requires : goal.load_column-requires
 load_column-requires c =
     let p = c.requires in
-    (record { positioned = p.0; room = sym (slice-aggregate-own c.before.before) ∙ c.disks-disks.ensures }, p.1)
+    (record { positioned = p.positioned; room = sym (slice_bounds-own-end c.before.before) ∙ c.disks-disks.ensures }, p.1)
 
 pub returns : goal.returns
 returns c =
-    rw (← c.load_column.ensures.1) c.draft_column.ensures
+    rw (← c.load_column.ensures.erased) c.draft_column.ensures

@@ -13,6 +13,7 @@ use Rattle.model.proofs.Accept.{sheet_fits}
 use Rattle.model.proofs.Grid.{sectors-bound}
 use Rattle.plan.proofs.Answers.{refused-size, refused-sectors, refused-sheets, planned}
 use Rattle.plan.proofs.Begun.{all_few}
+use Rattle.plan.proofs.plan.Goals.{Else-not-sectors_fit, Else-not-size_fits, Else-status-ne0}
 use Rattle.plan.proofs.plan.Goals as goal
 
 -- What each test that was passed has shown.
@@ -32,8 +33,11 @@ returns-then-not-size_fits c = refused-size _ _ _ _ (sym c.size_fits_lem.ensures
 pub returns-then-not-sectors_fit : goal.returns-then-not-sectors_fit
 returns-then-not-sectors_fit c = refused-sectors _ _ _ _ (sized (goal.at.returns-then-not-sectors_fit c).Else-not-size_fits) (sym c.sectors_fit.ensures ∙ not-true _ c.if-not-sectors_fit.true)
 
-pub sheet_refusal-status-requires : goal.sheet_refusal-status-requires
-sheet_refusal-status-requires c = (sized (goal.at.sheet_refusal-status-requires c).Else-not-size_fits, cut (goal.at.sheet_refusal-status-requires c).Else-not-sectors_fit)
+pub sheet_refusal-status-requires-clause-size_value : goal.sheet_refusal-status-requires-clause-size_value
+sheet_refusal-status-requires-clause-size_value c = sized (goal.at.sheet_refusal-status-requires-clause-size_value c).Else-not-size_fits
+
+pub sheet_refusal-status-requires-clause-sectors_value : goal.sheet_refusal-status-requires-clause-sectors_value
+sheet_refusal-status-requires-clause-sectors_value c = cut (goal.at.sheet_refusal-status-requires-clause-sectors_value c).Else-not-sectors_fit
 
 pub returns-then-status-ne0 : goal.returns-then-status-ne0
 returns-then-status-ne0 c =
@@ -53,4 +57,4 @@ returns c =
     let size = sized (goal.at.returns c).Else-not-size_fits in
     planned a.size a.sectors a.map.now a.sheets.now size (cut (goal.at.returns c).Else-not-sectors_fit) (tested (goal.at.returns c).Else-status-ne0) _
     (all_few a.size size a.sectors (erasures a.map.now)) _ _
-    c.draft.ensures.0 c.draft.ensures.1
+    c.draft.ensures.outcome c.draft.ensures.sheets

@@ -6,12 +6,13 @@ use lib.ListN.{length}
 use Rattle.model.specs.Grid.{rectangle}
 use Rattle.model.specs.Array.{look_length}
 use Rattle.raid2d.proofs.Looked.{Found, part_length, look_none, look_some}
+use Rattle.raid2d.proofs.raid2d_look.Goals.{After-look-part, Else-len-eq0}
 use Rattle.raid2d.proofs.raid2d_look.Goals as goal
 
 -- The part's length, which the code tests.
 part_is : (c : goal.After-look-part) → let a = c.args in length c.look-part.result.now ≡ look_length (rectangle a.rows a.columns) a.block a.sector a.array.now a.map.now a.disk
 unfolding rectangle
-part_is c = let a = c.args in ap length c.look-part.ensures.0 ∙ part_length (rectangle a.rows a.columns) a.block a.sector a.array.now a.map.now a.disk
+part_is c = let a = c.args in ap length c.look-part.ensures.bytes ∙ part_length (rectangle a.rows a.columns) a.block a.sector a.array.now a.map.now a.disk
 
 found : (c : goal.Else-len-eq0) → let a = c.args in Found (rectangle a.rows a.columns) a.block a.sector a.array.now a.map.now a.disk
 unfolding rectangle

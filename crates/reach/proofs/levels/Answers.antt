@@ -11,8 +11,8 @@ use Rattle.reach.proofs.levels.Goals as goal
 pub loop-level-init : goal.loop-level-init
 loop-level-init c =
     let filled = c.fill in
-    let long = filled.auto.0 ∙ c.requires.1.1.1 in
-    (omega arith, searched_none _ _ _ c.one-done.ensures, levelled-none _ _ _ filled.new.0 long c.requires.1.0 filled.ensures)
+    let long = filled.auto.0 ∙ c.requires.levels_len in
+    (omega arith, searched_none _ _ _ c.one-done.ensures, levelled-none _ _ _ filled.new.levels long c.requires.from_lt_word_stripes filled.ensures)
 
 pub returns-then-front-eq0 : goal.returns-then-front-eq0
 returns-then-front-eq0 c =

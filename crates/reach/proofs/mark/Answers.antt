@@ -6,6 +6,7 @@ use lib.Bits.{bit_and}
 use lib.Count.{count_trailing_zeros}
 use Rattle.reach.proofs.Words.{Without, lowest_out}
 use Rattle.reach.proofs.Rest.{marked-none, marked_next, marked_all}
+use Rattle.reach.proofs.mark.Goals.{In-loop-left}
 use Rattle.reach.proofs.mark.Goals as goal
 
 pub loop-left-init : goal.loop-left-init
@@ -25,7 +26,7 @@ pub loop-left-smaller : goal.loop-left-smaller
 loop-left-smaller c = (out (goal.at.loop-left-smaller c).In-loop-left).less
 
 pub loop-left-preserved : goal.loop-left-preserved
-loop-left-preserved c = marked_next c.loop-left.invariant (out (goal.at.loop-left-preserved c).In-loop-left) (slice-write-levels c)
+loop-left-preserved c = marked_next c.loop-left.invariant (out (goal.at.loop-left-preserved c).In-loop-left) (bounds-levels-s c)
 
 pub returns : goal.returns
 returns c = marked_all c.loop-left.invariant c.loop-left-test.false

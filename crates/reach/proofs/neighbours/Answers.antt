@@ -8,6 +8,7 @@ use lib.Count.{count_trailing_zeros}
 use Rattle.reach.specs.Reached.{next_in}
 use Rattle.reach.proofs.Words.{Without, lowest_out}
 use Rattle.reach.proofs.Rest.{gathered_none, gathered_next, gathered_all}
+use Rattle.reach.proofs.neighbours.Goals.{In-loop-rest}
 use Rattle.reach.proofs.neighbours.Goals as goal
 
 pub loop-rest-init : goal.loop-rest-init

@@ -12,6 +12,7 @@ use Rattle.model.proofs.Grid.{sector-some, sectors-some, sectors-bound}
 use Rattle.model.proofs.Refusal.{sector_fits_lem}
 use Rattle.layout.proofs.Numbers.{numbered}
 use Rattle.rebuild.proofs.Answers.{array-refused, sheet-refused, no-repairs, Passed, fitting, held, as-plan, Planned, planned, sheets-long, chains-fit, peels, made-is, made-few, count-is, in_map, contradicted, made-them}
+use Rattle.rebuild.proofs.rebuild.Goals.{After-at_most-made, Else-limit-eq0, Else-of_array-ne0}
 use Rattle.rebuild.proofs.rebuild.Goals as goal
 
 -- The array and the sectors have passed their tests, and then everything has.
@@ -63,10 +64,15 @@ nonzero_div-sectors c =
     let a = c.args in
     sector-some a.block a.sector (sector_fits_lem a.size a.block (length a.array.now) a.sector (array_ok (goal.at.nonzero_div-sectors c).Else-of_array-ne0)).1
 
-pub sheet_refusal-of_sheets-requires : goal.sheet_refusal-of_sheets-requires
-sheet_refusal-of_sheets-requires c =
+pub sheet_refusal-of_sheets-requires-clause-size_value : goal.sheet_refusal-of_sheets-requires-clause-size_value
+sheet_refusal-of_sheets-requires-clause-size_value c =
     let a = c.args in
-    ((sector_fits_lem a.size a.block (length a.array.now) a.sector (array_ok (goal.at.sheet_refusal-of_sheets-requires c).Else-of_array-ne0)).0.size, some-sectors (goal.at.sheet_refusal-of_sheets-requires c).Else-of_array-ne0)
+    (sector_fits_lem a.size a.block (length a.array.now) a.sector (array_ok (goal.at.sheet_refusal-of_sheets-requires-clause-size_value c).Else-of_array-ne0)).0.size
+
+pub sheet_refusal-of_sheets-requires-clause-sectors_value : goal.sheet_refusal-of_sheets-requires-clause-sectors_value
+sheet_refusal-of_sheets-requires-clause-sectors_value c =
+    let a = c.args in
+    some-sectors (goal.at.sheet_refusal-of_sheets-requires-clause-sectors_value c).Else-of_array-ne0
 
 pub returns-then-of_sheets-ne0 : goal.returns-then-of_sheets-ne0
 returns-then-of_sheets-ne0 c =
@@ -87,7 +93,7 @@ draft-answer-requires c =
 
 pub returns-in_default : goal.returns-in_default
 returns-in_default c =
-    as-plan (passed (tests c.before.before.before)) _ _ c.draft-answer.ensures.0 c.draft-answer.ensures.1 c.in_default.keys2
+    as-plan (passed (tests c.before.before.before)) _ _ c.draft-answer.ensures.outcome c.draft-answer.ensures.sheets c.in_default.keys2
 
 pub make-requires : goal.make-requires
 make-requires c =
@@ -106,8 +112,8 @@ zero_all-requires c = sheets-long (drafted (goal.at.zero_all-requires c).After-a
 
 pub returns-then-not-make : goal.returns-then-not-make
 returns-then-not-make c =
-    contradicted (drafted (goal.at.returns-then-not-make c).After-at_most-made) _ c.make.ensures.0 (not-true _ c.if-not-make.true)
-    _ _ c.make.ensures.1 c.zero_all.ensures
+    contradicted (drafted (goal.at.returns-then-not-make c).After-at_most-made) _ c.make.ensures.answer (not-true _ c.if-not-make.true)
+    _ _ c.make.ensures.array c.zero_all.ensures
 
 pub mark_present-requires : goal.mark_present-requires
 mark_present-requires c =
@@ -118,5 +124,5 @@ mark_present-requires c =
 
 pub returns : goal.returns
 returns c =
-    made-them (drafted (goal.at.returns c).After-at_most-made) _ c.make.ensures.0
-    (not-false _ c.if-not-make.false) _ _ c.make.ensures.1 c.mark_present.ensures
+    made-them (drafted (goal.at.returns c).After-at_most-made) _ c.make.ensures.answer
+    (not-false _ c.if-not-make.false) _ _ c.make.ensures.array c.mark_present.ensures

@@ -25,10 +25,10 @@ array_bytes-requires-clause-block_value c = sym c.block_fits.ensures ∙ not-fal
 pub returns-then-len-array_bytes : goal.returns-then-len-array_bytes
 unfolding array_tests
 returns-then-len-array_bytes c =
-    let (size, block) = array-bytes-requires c.before.before tt in
+    let (size, block) = array_bytes-requires c.before.before tt in
     sym (passes 1 _ _ size ∙ passes 2 _ _ block ∙ fails 3 _ _ (ne_eqb _ _ (λ e. c.if-len-array_bytes.true (e ∙ sym c.array_bytes.ensures))))
 
 pub returns : goal.returns
 returns c =
-    let (size, block) = array-bytes-requires c.before.before tt in
+    let (size, block) = array_bytes-requires c.before.before tt in
     sym (array-accepted _ _ _ (record { size = size; block = block; long = c.if-len-array_bytes.false ∙ c.array_bytes.ensures }))

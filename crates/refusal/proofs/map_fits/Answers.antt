@@ -10,7 +10,7 @@ use Rattle.refusal.proofs.map_fits.Goals as goal
 pub overflow_mul-disks : goal.overflow_mul-disks
 unfolding map_bytes
 overflow_mul-disks c =
-    let most = map-bound c.args.size c.args.sectors c.requires.0 c.requires.1 in
+    let most = map-bound c.args.size c.args.sectors c.requires.size_value c.requires.sectors_value in
     let same = ap (λ (k : ℕ). k * c.args.sectors) c.disks.ensures in
     omega arith
 

@@ -13,7 +13,7 @@ unfolding sheet_tests
 returns-then-not-map_fits c = sym (fails 4 _ _ (sym c.map_fits.ensures ∙ not-true _ c.if-not-map_fits.true))
 
 pub overflow_mul-sectors : goal.overflow_mul-sectors
-overflow_mul-sectors c = let few = (sectors-bound c.args.sectors c.requires.1).1 in omega arith
+overflow_mul-sectors c = let few = (sectors-bound c.args.sectors c.requires.sectors_value).1 in omega arith
 
 pub returns-then-len-sectors : goal.returns-then-len-sectors
 unfolding sheet_tests

@@ -2,9 +2,13 @@
 -- Assumes nothing.
 use mathlib.Core.Path.{◌∙◌, sym, ap}
 use mathlib.Core.Bool.{Bool, ◌&&◌}
+use borrow.Author.Rules.{rules}
 use borrow.Author.Tests.{not-true, not-false}
 use Rattle.model.specs.Grid.{columns, side_fits, size_fits}
 use Rattle.refusal.proofs.size_fits.Goals as goal
+
+pub rows-rows-requires : goal.rows-rows-requires
+rows-rows-requires c = search rules
 
 pub returns-then-not-side_fits : goal.returns-then-not-side_fits
 unfolding size_fits

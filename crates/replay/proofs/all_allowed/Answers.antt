@@ -12,10 +12,11 @@ use Rattle.stripes.proofs.Peel.{allowed_is}
 use Rattle.model.specs.Grid.{layout_of}
 use Rattle.entries.specs.Listed.{listed}
 use Rattle.replay.proofs.Replayed.{replayed_none, replayed_next, replayed_refused}
+use Rattle.replay.proofs.all_allowed.Goals.{Else-not-allowed}
 use Rattle.replay.proofs.all_allowed.Goals as goal
 
 pub loop-k-init : goal.loop-k-init
-loop-k-init c = (search rules, search rules, search rules, replayed_none _ c.requires.1.0)
+loop-k-init c = (search rules, search rules, search rules, replayed_none _ c.requires.tallied)
 
 -- Where the code began.
 abbrev start : goal.At-loop-k → goal.Start
@@ -47,7 +48,7 @@ loop-k-preserved c =
       search rules,
       search rules,
       search rules,
-      replayed_next c.loop-k.invariant.3 _ _ c.disk_of-disk.ensures c.stripe_of-stripe.ensures (may (goal.at.loop-k-preserved c).Else-not-allowed) take.ensures.1 take.ensures.0,
+      replayed_next c.loop-k.invariant.3 _ _ c.disk_of-disk.ensures c.stripe_of-stripe.ensures (may (goal.at.loop-k-preserved c).Else-not-allowed) take.ensures.tallied take.ensures.erased,
     )
 
 pub returns : goal.returns

@@ -10,6 +10,7 @@ use Rattle.model.specs.Grid.{layout_of}
 use Rattle.tally.proofs.Counted.{Crossed, erased_crossed, low_held, high_held}
 use Rattle.replay.proofs.Replayed.{by_low, by_high, by_neither}
 use Rattle.layout.proofs.Runs.{numbered_two}
+use Rattle.replay.proofs.allowed.Goals.{After-stripes_of-pair, Else-work-disk-ne1}
 use Rattle.replay.proofs.allowed.Goals as goal
 
 pub returns-then-work-disk : goal.returns-then-work-disk
@@ -22,8 +23,11 @@ returns-then-work-disk-ne1 c = let h = c.if-work-disk-ne1.true in sym (allowed-p
 erased : (c : goal.Else-work-disk-ne1) → let a = c.args in erasures a.work.now a.disk ≡ true
 erased c = let h = c.if-work-disk-ne1.false in is_erased _ _ (omega arith)
 
-pub stripes_of-pair-requires : goal.stripes_of-pair-requires
-stripes_of-pair-requires c = (c.requires.1.table, erased (goal.at.stripes_of-pair-requires c).Else-work-disk-ne1)
+pub stripes_of-pair-requires-clause-table : goal.stripes_of-pair-requires-clause-table
+stripes_of-pair-requires-clause-table c = c.requires.tallied.table
+
+pub stripes_of-pair-requires-clause-disk_value : goal.stripes_of-pair-requires-clause-disk_value
+stripes_of-pair-requires-clause-disk_value c = erased (goal.at.stripes_of-pair-requires-clause-disk_value c).Else-work-disk-ne1
 
 -- Where the code began.
 abbrev start : goal.After-stripes_of-pair → goal.Start

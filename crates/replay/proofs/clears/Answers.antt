@@ -8,16 +8,16 @@ use Rattle.replay.proofs.clears.Goals as goal
 
 pub slice_bounds-work-end : goal.slice_bounds-work-end
 slice_bounds-work-end c =
-    let few = disks-few c.requires.1.0 in
+    let few = disks-few c.requires.positioned in
     let all = c.disks-disks.ensures in
     omega arith
 
 pub slice_bounds-clears_in-end : goal.slice_bounds-clears_in-end
-slice_bounds-clears_in-end c = sym (length-take-le _ _ (array-borrow-prefix-work c.before))
+slice_bounds-clears_in-end c = sym (length-take-le _ _ (slice_bounds-work-end c.before))
 
 pub clears_in-requires : goal.clears_in-requires
 clears_in-requires c =
     let p = c.requires in
-    let few = array-borrow-prefix-work c.before.before.before in
-    let long = sym (slice-aggregate-clears-in c.before.before) in
-    (p.0, (record { positioned = p.1.0; room = long ∙ c.disks-disks.ensures }, (p.1.1, (omega arith, omega arith))))
+    let few = slice_bounds-work-end c.before.before.before in
+    let long = sym (slice_bounds-clears_in-end c.before.before) in
+    (p.numbered, (record { positioned = p.positioned; room = long ∙ c.disks-disks.ensures }, (p.count_in_bounds, (omega arith, omega arith))))

@@ -14,6 +14,7 @@ use Rattle.model.proofs.Grid.{layout-disks}
 use Rattle.entries.specs.Listed.{listed}
 use Rattle.tally.proofs.Column.{position_inside}
 use Rattle.replay.proofs.Replayed.{clears_all, clears-not}
+use Rattle.replay.proofs.clears_in.Goals.{After-all_allowed}
 use Rattle.replay.proofs.clears_in.Goals as goal
 
 -- Where the code began, from the loading on.
@@ -49,4 +50,4 @@ pub returns : goal.returns
 returns c =
     let a = (start (loaded c.before.before.before.before.before)).args in
     clears_all _ _ _ _ (sym (judged (goal.at.returns c).After-all_allowed) ∙ not-false _ c.if-not-all_allowed.false) _
-    (c.tally-erased.ensures.0 ∙ ap₂ count (sym (layout-disks a.size a.base)) (loaded c.before.before.before.before.before).load-position.ensures)
+    (c.tally-erased.ensures.number ∙ ap₂ count (sym (layout-disks a.size a.base)) (loaded c.before.before.before.before.before).load-position.ensures)

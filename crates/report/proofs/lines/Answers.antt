@@ -12,7 +12,7 @@ use Rattle.report.proofs.lines.Goals as goal
 
 pub loop-k-init : goal.loop-k-init
 unfolding entry_lines listed
-loop-k-init c = (c.requires.0, omega arith, omega arith, nothing_written _ _ (omega arith))
+loop-k-init c = (c.requires.printable, omega arith, omega arith, nothing_written _ _ (omega arith))
 
 pub disk_of-disk-requires : goal.disk_of-disk-requires
 disk_of-disk-requires c = let held = c.loop-k.invariant.0.held in omega arith

@@ -18,6 +18,7 @@ use Rattle.solve.specs.declared.Solved.TheVariants.{Repairs, Cycle}
 use Rattle.layout.proofs.Numbers.{numbered}
 use Rattle.text.proofs.Joined.{written_as}
 use Rattle.report.proofs.Answers.{size_refused, map-refused, repairs-printable, cycle-printable, repairs-reported, cycle-reported}
+use Rattle.report.proofs.report.Goals.{After-solve-answer, Else-not-map_fits, Else-not-size_fits, In-Cycle-2, In-Repairs-2}
 use Rattle.report.proofs.report.Goals as goal
 
 -- What each test that was passed has shown.

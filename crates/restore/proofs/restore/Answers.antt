@@ -10,26 +10,26 @@ pub returns-then-all_cancel : goal.returns-then-all_cancel
 unfolding whole
 returns-then-all_cancel c =
     let a = c.args in
-    all_restored a.size a.base a.block a.sector a.array.now c.requires.1.0 (erasures a.map.now) _ c.requires.1.1.1.1.1
+    all_restored a.size a.base a.block a.sector a.array.now c.requires.sectored (erasures a.map.now) _ c.requires.peels
     _ c.repair_positions.ensures (sym c.all_cancel.ensures ∙ c.if-all_cancel.true)
 
 pub zero_erased-requires-clause-array_len : goal.zero_erased-requires-clause-array_len
 zero_erased-requires-clause-array_len c =
     let a = c.args in
     let e = erasures a.map.now in
-    map-sized a.size a.base a.block a.sector a.array.now c.requires.1.0 e _ c.requires.1.1.1.1.1 _
-          c.repair_positions.ensures a.map.now c.requires.1.1.0
+    map-sized a.size a.base a.block a.sector a.array.now c.requires.sectored e _ c.requires.peels _
+          c.repair_positions.ensures a.map.now c.requires.map_value
 
 pub zero_erased-requires-clause-array_len_bound : goal.zero_erased-requires-clause-array_len_bound
 zero_erased-requires-clause-array_len_bound c =
     let a = c.args in
     let e = erasures a.map.now in
-    few_bytes a.size a.base a.block a.sector a.array.now c.requires.1.0 e _ c.requires.1.1.1.1.1 _
-          c.repair_positions.ensures c.requires.0.fits
+    few_bytes a.size a.base a.block a.sector a.array.now c.requires.sectored e _ c.requires.peels _
+          c.repair_positions.ensures c.requires.numbered.fits
 
 pub returns : goal.returns
 unfolding whole
 returns c =
     let a = c.args in
-    contradicted a.size a.base a.block a.sector a.array.now c.requires.1.0 (erasures a.map.now) _ c.requires.1.1.1.1.1
+    contradicted a.size a.base a.block a.sector a.array.now c.requires.sectored (erasures a.map.now) _ c.requires.peels
     _ c.repair_positions.ensures (sym c.all_cancel.ensures ∙ c.if-all_cancel.false) _ c.zero_erased.ensures

@@ -8,6 +8,7 @@ use lib.ListN.{length}
 use Rattle.model.specs.Grid.{map_bytes, map_fits}
 use Rattle.model.specs.Refusal.{refusal, sector_tests}
 use Rattle.save.proofs.Answers.{refused-array, refused-map, some_bytes, sectors-fit, is-numbered, is-sectored, array-few, byte-each, contradicted, determined-saved}
+use Rattle.save.proofs.save.Goals.{Else-not-map_fits, Else-status-ne0}
 use Rattle.save.proofs.save.Goals as goal
 
 pub returns-then-status-ne0 : goal.returns-then-status-ne0

@@ -12,14 +12,14 @@ use Rattle.save.proofs.ByPosition.{SavedTo, saved-none, saved-length, still_fits
 use Rattle.save.proofs.save_all.Goals as goal
 
 pub nonzero_div-sectors : goal.nonzero_div-sectors
-nonzero_div-sectors c = sector-some c.args.block c.args.sector c.requires.1.0.sector
+nonzero_div-sectors c = sector-some c.args.block c.args.sector c.requires.sectored.sector
 
 pub loop-p-init : goal.loop-p-init
-loop-p-init c = (saved-none c.requires.0 c.requires.1.0 c.args.map.now, search rules)
+loop-p-init c = (saved-none c.requires.numbered c.requires.sectored c.args.map.now, search rules)
 
 pub overflow_mul-stretch : goal.overflow_mul-stretch
 overflow_mul-stretch c =
-    let h = offset_inside c.requires.0 c.requires.1.0 c.args.map.now c.loop-p-test.true in
+    let h = offset_inside c.requires.numbered c.requires.sectored c.args.map.now c.loop-p-test.true in
     omega arith
 
 pub save_position-number-requires : goal.save_position-number-requires
@@ -39,13 +39,13 @@ pub overflow_add-number : goal.overflow_add-number
 overflow_add-number c =
     let m = c.args.map.now in
     let (number, array) = c.save_position-number.ensures in
-    let most = positions-few c.requires.0 c.requires.1.0 m in
-    let few = (saved-next c.requires.0 c.requires.1.0 m c.loop-p.invariant.0 c.loop-p-test.true array number).few in
+    let most = positions-few c.requires.numbered c.requires.sectored m in
+    let few = (saved-next c.requires.numbered c.requires.sectored m c.loop-p.invariant.0 c.loop-p-test.true array number).few in
     omega arith
 
 pub overflow_add-p : goal.overflow_add-p
 overflow_add-p c =
-    let most = positions-few c.requires.0 c.requires.1.0 c.args.map.now in
+    let most = positions-few c.requires.numbered c.requires.sectored c.args.map.now in
     let place = c.loop-p-test.true in
     omega arith
 
@@ -53,7 +53,7 @@ pub loop-p-preserved : goal.loop-p-preserved
 loop-p-preserved c =
     let (number, array) = c.save_position-number.ensures in
     let place = c.loop-p-test.true in
-    (saved-next c.requires.0 c.requires.1.0 c.args.map.now c.loop-p.invariant.0 place array number, search rules)
+    (saved-next c.requires.numbered c.requires.sectored c.args.map.now c.loop-p.invariant.0 place array number, search rules)
 
 pub returns : goal.returns
 returns c =
@@ -61,7 +61,7 @@ returns c =
     let l = c.loop-p in
     let n = a.block / a.sector in
     let all : l.p ≡ n = omega arith in
-    saved_all c.requires.0 c.requires.1.0 a.map.now
+    saved_all c.requires.numbered c.requires.sectored a.map.now
     (subst
     (λ (k : ℕ). SavedTo (layout_of a.size a.base) n a.sector (erasures a.map.now) a.array.now k l.array l.number)
     all l.invariant.0)

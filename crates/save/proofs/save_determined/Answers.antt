@@ -10,22 +10,22 @@ use Rattle.save.proofs.Answers.{peels, made-few, number-few, all_saved}
 use Rattle.save.proofs.save_determined.Goals as goal
 
 pub peel-made-requires : goal.peel-made-requires
-peel-made-requires c = let p = c.requires in (p.0, (p.1.1.0, (p.1.1.1.0, p.1.1.1.1.0)))
+peel-made-requires c = let p = c.requires in (p.numbered, (p.erased_value, (p.tallied, p.capacity_in_bounds)))
 
 pub repair_all-requires : goal.repair_all-requires
 repair_all-requires c =
     let a = c.args in
     let p = c.peel-made in
     let e = erasures a.work.now in
-    let list = p.new.1.1.1.1.1.1.1.0 in
-    let (number, (left, (entries, tallied))) = none-held c.requires.1.1.1.0.table.disks_fit _ _ p.ensures in
-    let allowed = peels a.size a.base c.requires.0 e list p.result number entries in
-    let few = made-few a.size a.base c.requires.0 e list p.result number entries in
-    let room = c.requires.1.1.1.1.0 in
+    let list = p.new.counts.1.1.1.1.1.1.0 in
+    let (number, (left, (entries, tallied))) = none-held c.requires.tallied.table.disks_fit _ _ p.ensures in
+    let allowed = peels a.size a.base c.requires.numbered e list p.result number entries in
+    let few = made-few a.size a.base c.requires.numbered e list p.result number entries in
+    let room = c.requires.capacity_in_bounds in
     let kept = p.auto.1.1.1.1.1.1.1.0 in (
-      c.requires.0,
+      c.requires.numbered,
       (
-        c.requires.1.0,
+        c.requires.held,
         (
           omega arith,
           (
@@ -41,12 +41,12 @@ sum_rest-requires c =
     let a = c.args in
     let p = c.peel-made in
     let e = erasures a.work.now in
-    let list = p.new.1.1.1.1.1.1.1.0 in
-    let (number, (left, (entries, tallied))) = none-held c.requires.1.1.1.0.table.disks_fit _ _ p.ensures in
-    let allowed = peels a.size a.base c.requires.0 e list p.result number entries in (
-      c.requires.0,
+    let list = p.new.counts.1.1.1.1.1.1.0 in
+    let (number, (left, (entries, tallied))) = none-held c.requires.tallied.table.disks_fit _ _ p.ensures in
+    let allowed = peels a.size a.base c.requires.numbered e list p.result number entries in (
+      c.requires.numbered,
       (
-        still_held a.size a.base e list p.result allowed a.stretch a.array.now c.requires.1.0 _ c.repair_all.ensures,
+        still_held a.size a.base e list p.result allowed a.stretch a.array.now c.requires.held _ c.repair_all.ensures,
         tallied.table,
       ),
     )
@@ -55,18 +55,18 @@ pub overflow_add-result : goal.overflow_add-result
 overflow_add-result c =
     let a = c.args in
     let p = c.peel-made in
-    let (number, (left, (entries, tallied))) = none-held c.requires.1.1.1.0.table.disks_fit _ _ p.ensures in
+    let (number, (left, (entries, tallied))) = none-held c.requires.tallied.table.disks_fit _ _ p.ensures in
     let few =
-    number-few a.size a.base c.requires.0 (erasures a.work.now) p.new.1.1.1.1.1.1.1.0 p.result number entries _ c.sum_rest.ensures.0 in
+    number-few a.size a.base c.requires.numbered (erasures a.work.now) p.new.counts.1.1.1.1.1.1.0 p.result number entries _ c.sum_rest.ensures.number in
     omega arith
 
 pub returns : goal.returns
 returns c =
     let a = c.args in
     let p = c.peel-made in
-    let (number, (left, (entries, tallied))) = none-held c.requires.1.1.1.0.table.disks_fit _ _ p.ensures in
+    let (number, (left, (entries, tallied))) = none-held c.requires.tallied.table.disks_fit _ _ p.ensures in
     let found = c.slice_known-1.given in
     let small : Bytes a.array.now = λ i l. omega (arith, found i) in
     let summed = c.sum_rest.ensures in
-    all_saved a.size a.base c.requires.0 (erasures a.work.now) p.new.1.1.1.1.1.1.1.0 p.result number entries a.stretch a.array.now
-    c.requires.1.0 small c.requires.1.1.1.1.1 c.repair_all.ensures left summed.0 summed.1
+    all_saved a.size a.base c.requires.numbered (erasures a.work.now) p.new.counts.1.1.1.1.1.1.0 p.result number entries a.stretch a.array.now
+    c.requires.held small c.requires.array_value c.repair_all.ensures left summed.number summed.array

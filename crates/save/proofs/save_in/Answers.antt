@@ -7,19 +7,19 @@ use Rattle.save.proofs.save_in.Goals as goal
 pub tally-erased-requires : goal.tally-erased-requires
 tally-erased-requires c =
     let p = c.requires in
-    let located = p.1.1.0 in
+    let located = p.located in
     let long = located.room in
-    let room = p.1.1.1.0 in
+    let room = p.room in
     let table = room.table_fits in
     let kept = c.load_position.auto.1.1.1.1.0 in
-    (p.0, (omega arith, (loaded_inside located.positioned _ c.load_position.ensures, (omega arith, room.stripes_fit))))
+    (p.numbered, (omega arith, (loaded_inside located.positioned _ c.load_position.ensures, (omega arith, room.stripes_fit))))
 
 pub save_determined-requires : goal.save_determined-requires
 save_determined-requires c =
     let p = c.requires in
     let (number, tallied) = c.tally-erased.ensures in
-    let fit = rw (← c.load_position.ensures) at p.1.1.1.1 in
-    (p.0, (p.1.0, (number, (tallied, (p.1.1.1.0.list_fits, fit)))))
+    let fit = rw (← c.load_position.ensures) at p.array_value in
+    (p.numbered, (p.held, (number, (tallied, (p.room.list_fits, fit)))))
 
 pub returns : goal.returns
 returns c =

@@ -10,17 +10,17 @@ use Rattle.save.proofs.save_position.Goals as goal
 
 pub slice_bounds-work-end : goal.slice_bounds-work-end
 slice_bounds-work-end c =
-    let few = disks-few c.requires.1.1.0 in
+    let few = disks-few c.requires.positioned in
     let all = c.disks-disks.ensures in
     omega arith
 
 pub slice_bounds-save_in-end : goal.slice_bounds-save_in-end
-slice_bounds-save_in-end c = sym (length-take-le _ _ (array-borrow-prefix-work c.before))
+slice_bounds-save_in-end c = sym (length-take-le _ _ (slice_bounds-work-end c.before))
 
 pub save_in-requires : goal.save_in-requires
 save_in-requires c =
     let (numbered, (held, (positioned, fit))) = c.requires in
-    let long = sym (slice-aggregate-save-in c.before.before.before) ∙ c.disks-disks.ensures in (
+    let long = sym (slice_bounds-save_in-end c.before.before.before) ∙ c.disks-disks.ensures in (
       numbered,
       (
         held,

@@ -11,6 +11,7 @@ use Rattle.model.proofs.Demand2.{check_refused}
 use Rattle.layout.proofs.Numbers.{numbered}
 use Rattle.sums.proofs.Whole.{held}
 use Rattle.scrub.proofs.Answer.{unsealed, sealed}
+use Rattle.scrub.proofs.check.Goals.{Else-status-ne0}
 use Rattle.scrub.proofs.check.Goals as goal
 
 -- Past the tests, nothing is refused.
@@ -22,9 +23,17 @@ returns-then-status-ne0 c =
     let status = c.array_refusal-status.ensures in
     ap Refused status ∙ sym (check_refused _ _ _ (λ e. c.if-status-ne0.true (status ∙ e)))
 
-pub lowest_nonzero-lowest-requires : goal.lowest_nonzero-lowest-requires
+pub lowest_nonzero-lowest-requires-clause-numbered : goal.lowest_nonzero-lowest-requires-clause-numbered
 unfolding whole
-lowest_nonzero-lowest-requires c = let fits = array-fits _ _ _ (accepted (goal.at.lowest_nonzero-lowest-requires c).Else-status-ne0) in (numbered _ fits.size, held _ _ _ fits)
+lowest_nonzero-lowest-requires-clause-numbered c =
+    let fits = array-fits _ _ _ (accepted (goal.at.lowest_nonzero-lowest-requires-clause-numbered c).Else-status-ne0) in
+    numbered _ fits.size
+
+pub lowest_nonzero-lowest-requires-clause-held : goal.lowest_nonzero-lowest-requires-clause-held
+unfolding whole
+lowest_nonzero-lowest-requires-clause-held c =
+    let fits = array-fits _ _ _ (accepted (goal.at.lowest_nonzero-lowest-requires-clause-held c).Else-status-ne0) in
+    held _ _ _ fits
 
 pub bound-requires : goal.bound-requires
 bound-requires c = numbered _ (array-fits _ _ _ (accepted (goal.at.bound-requires c).Else-status-ne0)).size

@@ -8,6 +8,7 @@ use Rattle.model.proofs.Seal.{seal_fits, seal_is}
 use Rattle.model.proofs.Demand2.{seal_refused}
 use Rattle.seal.specs.Parity.{last_row_filled}
 use Rattle.seal.proofs.Rows.{halves_seal}
+use Rattle.seal.proofs.seal.Goals.{Else-status-ne0}
 use Rattle.seal.proofs.seal.Goals as goal
 
 -- Past the tests, nothing is refused.

@@ -11,6 +11,7 @@ use Rattle.model.specs.Plan.{sheet_layout}
 use Rattle.model.specs.Rebuild.{rebuild_turn}
 use Rattle.series.proofs.Ends.{positions-bound}
 use Rattle.series.proofs.Progress.{begins, ends, inside, ready, fewer, goes}
+use Rattle.series.proofs.rebuild_in_turns.Goals.{After-struct_known-in-loop-done-1}
 use Rattle.series.proofs.rebuild_in_turns.Goals as goal
 
 pub overflow_mul-bytes : goal.overflow_mul-bytes
@@ -47,6 +48,9 @@ overflow_add-own c = let here = within (goal.at.overflow_add-own c).After-struct
 pub slice_bounds-own-count : goal.slice_bounds-own-count
 slice_bounds-own-count c = omega arith
 
+pub slice_bounds-own-end : goal.slice_bounds-own-end
+slice_bounds-own-end c = within (goal.at.slice_bounds-own-end c).After-struct_known-in-loop-done-1
+
 pub turn-done-requires : goal.turn-done-requires
 turn-done-requires c =
     let l = c.loop-done in
@@ -62,7 +66,7 @@ loop-done-smaller c =
     let at : ℕ = bytes * c.loop-done.done.turns in
     fewer (sectored (a.block / a.sector) (sheet_layout a.size)) c.loop-done.done _
     (rebuild_turn a.size a.block a.sector c.loop-done.array c.loop-done.map (take (at + bytes - at) (drop at c.loop-done.sheets)) a.limit)
-    c.turn-done.ensures.0 c.loop-done-test.true
+    c.turn-done.ensures.turns c.loop-done-test.true
 
 pub loop-done-preserved : goal.loop-done-preserved
 loop-done-preserved c =

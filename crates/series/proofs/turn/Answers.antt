@@ -8,13 +8,14 @@ use Rattle.model.specs.Rebuild.{rebuild_turn}
 use Rattle.model.specs.declared.Outcome.TheVariants.{Repairs}
 use Rattle.series.proofs.Ends.{positions-bound, sum_small, number_small, refused_last, few-made, repairs-counted}
 use Rattle.model.specs.Series.{turn_bytes}
+use Rattle.series.proofs.turn.Goals.{In-Repairs-2}
 use Rattle.series.proofs.turn.Goals as goal
 
 pub overflow_add-turns : goal.overflow_add-turns
 overflow_add-turns c =
     let a = c.args in
     let some = (positions-bound a.block a.sector).0 in
-    let small = number_small (turn_bytes a.block a.sector) a.done.turns 9223372036854775808 (omega arith) c.requires.1.1 in
+    let small = number_small (turn_bytes a.block a.sector) a.done.turns 9223372036854775808 (omega arith) c.requires.turns_bound in
     omega arith
 
 pub returns-in_default : goal.returns-in_default
@@ -30,15 +31,15 @@ repaired : (c : goal.In-Repairs-2)
     → let a = c.args in
     Repairs c.last-1.given.0.0
     ≡ (rebuild_turn a.size a.block a.sector a.array.now a.map.now a.sheets.now a.limit).answer
-repaired c = sym c.last-1.given.1 ∙ c.rebuild-last.ensures.0
+repaired c = sym c.last-1.given.1 ∙ c.rebuild-last.ensures.outcome
 
 sum_fits : (c : goal.In-Repairs-2)
     → let a = c.args in
     a.done.made + c.last-1.given.0.0 < 9223372036854775808
 sum_fits c =
     let a = c.args in
-    sum_small (turn_bytes a.block a.sector) a.done.turns a.done.made c.last-1.given.0.0 9223372036854775808 c.requires.1.0
-    (few-made a.size a.block a.sector a.array.now a.map.now a.sheets.now a.limit _ (repaired c)) c.requires.1.1
+    sum_small (turn_bytes a.block a.sector) a.done.turns a.done.made c.last-1.given.0.0 9223372036854775808 c.requires.made_bound
+    (few-made a.size a.block a.sector a.array.now a.map.now a.sheets.now a.limit _ (repaired c)) c.requires.turns_bound
 
 pub overflow_add-result : goal.overflow_add-result
 overflow_add-result c = let sum = sum_fits (goal.at.overflow_add-result c).In-Repairs-2 in omega arith

@@ -20,7 +20,7 @@ bounds-sheet-at-in-loop-k c = simp length-set (omega arith)
 
 pub overflow_cast-sheet-in-loop-k-2 : goal.overflow_cast-sheet-in-loop-k-2
 overflow_cast-sheet-in-loop-k-2 c =
-    omega (arith, c.requires.1.1.1 c.loop-k.k (search rules))
+    omega (arith, c.requires.by_index c.loop-k.k (search rules))
 
 pub bounds-sheet-at-in-loop-k-2 : goal.bounds-sheet-at-in-loop-k-2
 bounds-sheet-at-in-loop-k-2 c = simp length-set (omega arith)

@@ -6,4 +6,4 @@ pub choose-requires : goal.choose-requires
 choose-requires c =
     let p = c.requires in
     let found = c.search-found.ensures in
-    (p.0, (p.1.0, (found.0, (found.1, p.1.1.1))))
+    (p.numbered, (p.table, (found.nearest, (found.table, p.set_len))))

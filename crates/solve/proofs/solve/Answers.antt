@@ -7,12 +7,12 @@ use Rattle.solve.proofs.Memory.{room-made}
 use Rattle.solve.proofs.solve.Goals as goal
 
 pub slice_bounds-work-end : goal.slice_bounds-work-end
-slice_bounds-work-end c = let p = c.requires in map-few _ _ p.0 _ p.1.0
+slice_bounds-work-end c = let p = c.requires in map-few _ _ p.numbered _ p.map_value
 
 pub slice_bounds-solve_in-end : goal.slice_bounds-solve_in-end
-slice_bounds-solve_in-end c = sym (length-take-le _ _ (array-borrow-prefix-work c.before))
+slice_bounds-solve_in-end c = sym (length-take-le _ _ (slice_bounds-work-end c.before))
 
 pub solve_in-requires : goal.solve_in-requires
 solve_in-requires c =
     let p = c.requires in
-    (p.0, (p.1.0, room-made _ _ p.0 _ p.1.0 (slice-aggregate-solve-in c.before.before.before) refl refl p.1.1))
+    (p.numbered, (p.map_value, room-made _ _ p.numbered _ p.map_value (slice_bounds-solve_in-end c.before.before.before) refl refl p.capacity_in_bounds))

@@ -12,16 +12,16 @@ returns-then-found-eq0 c = solves_repairs c.peel-found.ensures c.if-found-eq0.tr
 
 pub show-requires : goal.show-requires
 show-requires c =
-    let few = map-few _ _ c.requires.0 _ c.requires.1.0 in
-    let long = map-disks _ c.args.base _ c.requires.1.0 in
+    let few = map-few _ _ c.requires.numbered _ c.requires.map_value in
+    let long = map-disks _ c.args.base _ c.requires.map_value in
     let kept = c.peel-found.auto.1.1.1 in
-    let room = c.requires.1.1.disks_fit in
+    let room = c.requires.room.disks_fit in
     let work = kept.0 in
     let list = kept.1.1.1.0 in
-    let fits = c.requires.1.1.list_fits in
-    (c.requires.0, (c.peel-found.ensures.table, (left-lossy c.peel-found.ensures c.if-found-eq0.false, (omega arith, omega arith))))
+    let fits = c.requires.room.list_fits in
+    (c.requires.numbered, (c.peel-found.ensures.table, (left-lossy c.peel-found.ensures c.if-found-eq0.false, (omega arith, omega arith))))
 
 pub returns : goal.returns
 returns c =
-    solves_cycle c.peel-found.ensures c.if-found-eq0.false (layout-two c.args.size c.args.base c.requires.0.above)
-    c.undetermined_count-lost.ensures _ c.show.ensures.0 c.show.ensures.1
+    solves_cycle c.peel-found.ensures c.if-found-eq0.false (layout-two c.args.size c.args.base c.requires.numbered.above)
+    c.undetermined_count-lost.ensures _ c.show.ensures.number c.show.ensures.list

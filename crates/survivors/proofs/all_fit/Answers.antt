@@ -14,14 +14,14 @@ use Rattle.survivors.proofs.ByPosition.{fits_at, positions-few, positioned, offs
 use Rattle.survivors.proofs.all_fit.Goals as goal
 
 pub nonzero_div-sectors : goal.nonzero_div-sectors
-nonzero_div-sectors c = sector-some c.args.block c.args.sector c.requires.1.0.sector
+nonzero_div-sectors c = sector-some c.args.block c.args.sector c.requires.sectored.sector
 
 pub loop-p-init : goal.loop-p-init
-loop-p-init c = (fits-none c.requires.0 c.requires.1.0 c.args.map.now, search rules)
+loop-p-init c = (fits-none c.requires.numbered c.requires.sectored c.args.map.now, search rules)
 
 pub overflow_mul-stretch : goal.overflow_mul-stretch
 overflow_mul-stretch c =
-    let h = offset_inside c.requires.0 c.requires.1.0 c.args.map.now c.loop-p-test.true in
+    let h = offset_inside c.requires.numbered c.requires.sectored c.args.map.now c.loop-p-test.true in
     omega arith
 
 pub position_fits-requires : goal.position_fits-requires
@@ -33,18 +33,18 @@ position_fits-requires c =
 
 pub returns-then-not-position_fits : goal.returns-then-not-position_fits
 returns-then-not-position_fits c =
-    unfit_at c.requires.0 c.requires.1.0 c.args.map.now c.loop-p.p c.loop-p-test.true
+    unfit_at c.requires.numbered c.requires.sectored c.args.map.now c.loop-p.p c.loop-p-test.true
     (sym c.position_fits.ensures ∙ not-true _ c.if-not-position_fits.true)
 
 pub overflow_add-p : goal.overflow_add-p
 overflow_add-p c =
-    let most = positions-few c.requires.0 c.requires.1.0 c.args.map.now in
+    let most = positions-few c.requires.numbered c.requires.sectored c.args.map.now in
     omega arith
 
 pub loop-p-preserved : goal.loop-p-preserved
 loop-p-preserved c =
     let l = c.loop-p in (
-      fits_next c.requires.0 c.requires.1.0 c.args.map.now l.p l.invariant.0
+      fits_next c.requires.numbered c.requires.sectored c.args.map.now l.p l.invariant.0
           (sym c.position_fits.ensures ∙ not-false _ c.if-not-position_fits.false),
       search rules,
     )
@@ -54,6 +54,6 @@ returns c =
     let a = c.args in
     let l = c.loop-p in
     let all : l.p ≡ a.block / a.sector = omega arith in
-    fits_all c.requires.0 c.requires.1.0 a.map.now
+    fits_all c.requires.numbered c.requires.sectored a.map.now
     (subst (λ (k : ℕ). every k (fits_at (layout_of a.size a.base) a.block a.sector (erasures a.map.now) a.array.now) ≡ true)
     all l.invariant.0)

@@ -9,28 +9,28 @@ use Rattle.survivors.proofs.position_fits.Goals as goal
 
 pub slice_bounds-memory-end : goal.slice_bounds-memory-end
 slice_bounds-memory-end c =
-    let few = disks-few c.requires.1.1 in
+    let few = disks-few c.requires.positioned in
     let all = c.disks-disks.ensures in
     omega arith
 
 pub slice_bounds-work-end : goal.slice_bounds-work-end
-slice_bounds-work-end c = sym (length-take-le _ _ (array-borrow-prefix-memory c.before))
+slice_bounds-work-end c = sym (length-take-le _ _ (slice_bounds-memory-end c.before))
 
 pub load_position-requires : goal.load_position-requires
 load_position-requires c =
     record {
-      positioned = c.requires.1.1;
-      room = sym (slice-aggregate-work c.before) ∙ c.disks-disks.ensures;
+      positioned = c.requires.positioned;
+      room = sym (slice_bounds-work-end c.before) ∙ c.disks-disks.ensures;
     }
 
 pub tally-requires : goal.tally-requires
 tally-requires c =
     let p = c.requires in
-    let few = disks-few p.1.1 in
+    let few = disks-few p.positioned in
     let all = c.disks-disks.ensures in
-    let room = slice-aggregate-work c.before.before.before.before.before.before.before in
+    let room = slice_bounds-work-end c.before.before.before.before.before.before.before in
     let kept = c.load_position.auto.1.1.1.1.0 in
-    (p.0, (omega arith, (loaded_inside p.1.1 _ c.load_position.ensures, (omega arith, omega arith))))
+    (p.numbered, (omega arith, (loaded_inside p.positioned _ c.load_position.ensures, (omega arith, omega arith))))
 
 pub returns : goal.returns
 returns c =

@@ -14,11 +14,11 @@ use Rattle.survivors.proofs.survivors_fit.Goals as goal
 
 pub join_all-requires : goal.join_all-requires
 join_all-requires c =
-    let few = stripes_few c.requires.0 in
-    (c.requires.0, (c.requires.1.1, omega arith))
+    let few = stripes_few c.requires.numbered in
+    (c.requires.numbered, (c.requires.table, omega arith))
 
 pub bound-bound-requires : goal.bound-bound-requires
-bound-bound-requires c = c.requires.0
+bound-bound-requires c = c.requires.numbered
 
 pub loop-s-init : goal.loop-s-init
 loop-s-init c = (passing_none, search rules, refl)
@@ -29,22 +29,22 @@ part_fits-requires c =
     let fits = parted.stripes_fit in
     let is = c.bound-bound.ensures in
     let h = c.loop-s-test.true in
-    let table = c.requires.1.1.disks_fit in
+    let table = c.requires.table.disks_fit in
     let same = layout-disks c.args.size c.args.base in
-    let most = disks-bound c.args.size (size_fits_lem c.args.size c.requires.0.fits) in
+    let most = disks-bound c.args.size (size_fits_lem c.args.size c.requires.numbered.fits) in
     let long = c.loop-s.invariant.2 in
-    (c.requires.0, (c.requires.1.0, (omega arith, (fits, (omega arith, omega arith)))))
+    (c.requires.numbered, (c.requires.held, (omega arith, (fits, (omega arith, omega arith)))))
 
 pub returns-then-not-part_fits : goal.returns-then-not-part_fits
 returns-then-not-part_fits c =
     let is = c.bound-bound.ensures in
     let h = c.loop-s-test.true in
-    one_fails (layout-two c.args.size c.args.base c.requires.0.above) c.args.stretch c.join_all.ensures c.args.array.now
+    one_fails (layout-two c.args.size c.args.base c.requires.numbered.above) c.args.stretch c.join_all.ensures c.args.array.now
     c.loop-s.s (omega arith) c.part_fits.ensures (not-true _ c.if-not-part_fits.true)
 
 pub overflow_add-s : goal.overflow_add-s
 overflow_add-s c =
-    let few = stripes_few c.requires.0 in
+    let few = stripes_few c.requires.numbered in
     let is = c.bound-bound.ensures in
     omega (arith, c.loop-s-test.true)
 
@@ -55,7 +55,7 @@ pub loop-s-preserved : goal.loop-s-preserved
 loop-s-preserved c =
     let is = c.bound-bound.ensures in
     let h = c.loop-s-test.true in (
-      passing_next (layout-two c.args.size c.args.base c.requires.0.above) c.args.stretch c.join_all.ensures c.args.array.now
+      passing_next (layout-two c.args.size c.args.base c.requires.numbered.above) c.args.stretch c.join_all.ensures c.args.array.now
           c.loop-s.s (omega arith) c.loop-s.invariant.0 c.part_fits.ensures (not-false _ c.if-not-part_fits.false),
       omega arith,
       search rules,
@@ -66,5 +66,5 @@ returns c =
     let is = c.bound-bound.ensures in
     let L = layout_of c.args.size c.args.base in
     let end : c.loop-s.s ≡ L.stripe_bound = omega (arith, c.loop-s-test.false, c.loop-s.invariant.1) in
-    all_pass (layout-two c.args.size c.args.base c.requires.0.above) c.args.stretch c.join_all.ensures c.args.array.now
+    all_pass (layout-two c.args.size c.args.base c.requires.numbered.above) c.args.stretch c.join_all.ensures c.args.array.now
     (subst (λ (k : ℕ). Passing L c.args.stretch (erasures c.args.work.now) c.args.array.now c.join_all.new.1.1.1.1.0 k) end c.loop-s.invariant.0)

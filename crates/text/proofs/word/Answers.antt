@@ -25,7 +25,7 @@ loop-i-smaller c = omega arith
 pub loop-i-preserved : goal.loop-i-preserved
 loop-i-preserved c =
     let l = c.loop-i in
-    (omega arith, l.invariant.1, letter_written _ c.loop-i-test.true (slice-write-out c) l.invariant.2)
+    (omega arith, l.invariant.1, letter_written _ c.loop-i-test.true (bounds-out-at c) l.invariant.2)
 
 pub returns : goal.returns
 returns c = written_as (take_all _ _ c.loop-i-test.false) c.loop-i.invariant.2

@@ -17,15 +17,15 @@ write-requires c =
     let read = c.read-chain in
     let sheet = c.args.sheet.now in
     let bytes : Bytes sheet = λ i l. omega (arith, c.slice_known-1.given i) in
-    let few = small sheet c.if-sheet-ne-BYTES.false _ read.ensures.0 _ read.ensures.1.0 _ c.chain-1.given.1 bytes in
+    let few = small sheet c.if-sheet-ne-BYTES.false _ read.ensures.chain _ read.ensures.list _ c.chain-1.given.1 bytes in
     let most = few.few in
     (c.if-sheet-ne-BYTES.false, (omega arith, (omega arith, λ i l. few.stripe i (omega arith))))
 
 pub returns-in-Records : goal.returns-in-Records
 returns-in-Records c =
     let read = c.read-chain in
-    rewritten _ c.if-sheet-ne-BYTES.false _ read.ensures.0 _ read.ensures.1.0 _ c.chain-1.given.1 _ c.write.ensures
+    rewritten _ c.if-sheet-ne-BYTES.false _ read.ensures.chain _ read.ensures.list _ c.chain-1.given.1 _ c.write.ensures
 
 pub returns-in-Refused : goal.returns-in-Refused
 returns-in-Refused c =
-    refused _ c.if-sheet-ne-BYTES.false _ c.read-chain.ensures.0 _ c.chain-in-Refused-1.given.1
+    refused _ c.if-sheet-ne-BYTES.false _ c.read-chain.ensures.chain _ c.chain-in-Refused-1.given.1

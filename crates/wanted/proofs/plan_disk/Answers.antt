@@ -16,6 +16,7 @@ use Rattle.model.proofs.Grid.{one_byte}
 use Rattle.model.proofs.Accept.{one-fits}
 use Rattle.layout.proofs.Numbers.{numbered}
 use Rattle.wanted.proofs.Answers.{size-first, size-passed, is-wanted, refused-plan, refused-disk, unreached, small, reaches}
+use Rattle.wanted.proofs.plan_disk.Goals.{Else-not-can_be_wanted, Else-not-size_fits, Else-status-ne0}
 use Rattle.wanted.proofs.plan_disk.Goals as goal
 
 -- What each test that was passed has shown.
@@ -34,9 +35,13 @@ pub returns-then-not-size_fits : goal.returns-then-not-size_fits
 returns-then-not-size_fits c =
     refused-plan _ _ _ _ 1 (size-first _ _ _ (sym c.size_fits_lem.ensures ∙ not-true _ c.if-not-size_fits.true)) (λ q. omega arith)
 
-pub sheet_refusal-status-requires : goal.sheet_refusal-status-requires
+pub sheet_refusal-status-requires-clause-size_value : goal.sheet_refusal-status-requires-clause-size_value
 unfolding sectors_fit
-sheet_refusal-status-requires c = (sized (goal.at.sheet_refusal-status-requires c).Else-not-size_fits, refl)
+sheet_refusal-status-requires-clause-size_value c = sized (goal.at.sheet_refusal-status-requires-clause-size_value c).Else-not-size_fits
+
+pub sheet_refusal-status-requires-clause-sectors_value : goal.sheet_refusal-status-requires-clause-sectors_value
+unfolding sectors_fit
+sheet_refusal-status-requires-clause-sectors_value c = refl
 
 pub returns-then-status-ne0 : goal.returns-then-status-ne0
 returns-then-status-ne0 c =
@@ -62,7 +67,7 @@ draft-requires c =
 
 pub returns-then-count-eq0 : goal.returns-then-count-eq0
 returns-then-count-eq0 c =
-    unreached _ _ _ _ (tested (goal.at.returns-then-count-eq0 c).Else-status-ne0) (can (goal.at.returns-then-count-eq0 c).Else-not-can_be_wanted) c.find-count.ensures c.if-count-eq0.true 32 _ _ c.draft.ensures.0 c.draft.ensures.1
+    unreached _ _ _ _ (tested (goal.at.returns-then-count-eq0 c).Else-status-ne0) (can (goal.at.returns-then-count-eq0 c).Else-not-can_be_wanted) c.find-count.ensures c.if-count-eq0.true 32 _ _ c.draft.ensures.outcome c.draft.ensures.sheets
 
 pub write-requires : goal.write-requires
 write-requires c =

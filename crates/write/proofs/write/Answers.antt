@@ -10,6 +10,7 @@ use Rattle.model.specs.Array.{write_status}
 use Rattle.model.proofs.Refusal.{ArrayFits, array-fits}
 use Rattle.model.proofs.Write.{write_is, status_first, status_disk, status_length, status_none}
 use Rattle.model.proofs.Demand2.{write_refused}
+use Rattle.write.proofs.write.Goals.{Else-data-block, Else-not-is_data, Else-status-ne0}
 use Rattle.write.proofs.write.Goals as goal
 
 -- What each test that was passed has shown.

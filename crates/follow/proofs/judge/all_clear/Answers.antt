@@ -13,6 +13,7 @@ use Rattle.stripes.specs.Sectors.{at_position}
 use Rattle.model.specs.Grid.{layout_of}
 use Rattle.chain.proofs.Place.{part-long, part-fits, part-few, part-lists}
 use Rattle.follow.proofs.Judged.{clearsAt, none_judged, more_judged, all_judged, one_unclear}
+use Rattle.follow.proofs.judge.all_clear.Goals.{After-clears}
 use Rattle.follow.proofs.judge.all_clear.Goals as goal
 
 pub loop-p-init : goal.loop-p-init
@@ -20,24 +21,24 @@ loop-p-init c = (search rules, search rules, none_judged _ _ _ _)
 
 pub list-count-requires : goal.list-count-requires
 list-count-requires c =
-    let long = c.requires.1.1.1.0 in
+    let long = c.requires.sheets_len in
     let place = c.loop-p-test.true in (
       part-long c.args.sectors c.args.sheets.now long c.loop-p.p place,
-      (search rules, part-fits c.args.sectors c.args.sheets.now long c.loop-p.p place c.requires.1.1.1.1),
+      (search rules, part-fits c.args.sectors c.args.sheets.now long c.loop-p.p place c.requires.by_index),
     )
 
 pub clears-requires : goal.clears-requires
 clears-requires c =
     let place = c.loop-p-test.true in
-    let most = part-few c.args.sectors c.args.sheets.now c.requires.1.1.1.0 c.loop-p.p place c.requires.1.1.1.1 _ _
+    let most = part-few c.args.sectors c.args.sheets.now c.requires.sheets_len c.loop-p.p place c.requires.by_index _ _
     c.list-count.ensures in (
-      c.requires.0,
+      c.requires.numbered,
       (
         record {
-          size = c.requires.0.fits;
-          sectors = c.requires.1.0;
+          size = c.requires.numbered.fits;
+          sectors = c.requires.sectors_value;
           place = search rules;
-          map = c.requires.1.1.0;
+          map = c.requires.map_value;
         },
         search rules,
       ),
@@ -51,8 +52,8 @@ judged c =
     let a = c.args in
     c.clears.ensures
     ∙ ap (clears (layout_of a.size a.base) (at_position a.sectors c.loop-p.p (erasures a.map.now)))
-    (part-lists a.sectors a.sheets.now c.requires.1.1.1.0 c.loop-p.p c.loop-p-test.true
-    c.requires.1.1.1.1 _ _ c.list-count.ensures)
+    (part-lists a.sectors a.sheets.now c.requires.sheets_len c.loop-p.p c.loop-p-test.true
+    c.requires.by_index _ _ c.list-count.ensures)
 
 pub returns-then-not-clears : goal.returns-then-not-clears
 returns-then-not-clears c =

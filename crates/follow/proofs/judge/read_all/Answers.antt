@@ -12,21 +12,21 @@ use Rattle.chain.specs.Read.{chain_read}
 use Rattle.sheet.proofs.Part.{part_sheet}
 use Rattle.chain.proofs.Place.{part-long}
 use Rattle.follow.proofs.Judged.{SoFar, none_read, more_few, more_read, more_refused, all_refused, all_read}
+use Rattle.follow.proofs.judge.read_all.Goals.{After-loop-p, After-read_clean-own}
 use Rattle.follow.proofs.judge.read_all.Goals as goal
 
 pub loop-p-init : goal.loop-p-init
 loop-p-init c = (search rules, search rules, none_read _ _)
 
-pub read_clean-own-requires : goal.read_clean-own-requires
-read_clean-own-requires c =
-    (part-long c.args.sectors c.args.sheets.now c.requires.1 c.loop-p.p c.loop-p-test.true, search rules)
+pub read_clean-own-requires-clause-sheet_len : goal.read_clean-own-requires-clause-sheet_len
+read_clean-own-requires-clause-sheet_len c = part-long c.args.sectors c.args.sheets.now c.requires.sheets_len c.loop-p.p c.loop-p-test.true
 
 -- What reading the sheet of the position has answered.
 answered : (c : goal.After-read_clean-own) →
     let own = sheet_at narrow c.loop-p.p c.args.sheets.now in
     c.read_clean-own.result ≡ chain_read (clean_refusal narrow own) own
 answered c =
-    c.read_clean-own.ensures.0
+    c.read_clean-own.ensures.chain
     ∙ ap (λ (t : List ℕ). chain_read (clean_refusal narrow t) t) (part_sheet narrow c.loop-p.p c.args.sheets.now)
 
 pub overflow_add-number : goal.overflow_add-number

@@ -10,7 +10,7 @@ use Rattle.model.proofs.Grid.{across_positive}
 use Rattle.layout.proofs.stripe.stripes_of.Goals as goal
 
 pub across-across-requires : goal.across-across-requires
-across-across-requires c = c.requires.0.fits
+across-across-requires c = c.requires.numbered.fits
 
 pub nonzero_div-result : goal.nonzero_div-result
 nonzero_div-result c = let h = across_positive c.args.size in let e = c.across-across.ensures in omega arith
@@ -20,7 +20,7 @@ nonzero_rem-result c = let h = across_positive c.args.size in let e = c.across-a
 
 pub overflow_add-result : goal.overflow_add-result
 overflow_add-result c =
-    let low = c.requires.0.small in
+    let low = c.requires.numbered.small in
     let e = c.across-across.ensures in
     let h = across_positive c.args.size in
     let some : 0 < c.across-across.result = omega arith in

@@ -13,24 +13,25 @@ use Rattle.tally.proofs.Scanned.{next_passed, next_erased_lem}
 use Rattle.tally.proofs.Counted.{Crossed, erased_crossed}
 use Rattle.parts.specs.Parted.{Parted}
 use Rattle.parts.proofs.Parted.{parted-none, parted_over, parted-next, parted_all}
+use Rattle.parts.proofs.join.join_all.Goals.{After-next_erased-d, After-stripes_of-pair, Else-work-d}
 use Rattle.parts.proofs.join.join_all.Goals as goal
 
 pub start-requires-clause-bound_in_bounds : goal.start-requires-clause-bound_in_bounds
 start-requires-clause-bound_in_bounds c =
     let is = c.bound-bound.ensures in
-    let few = stripes_few c.requires.0 in
-    omega (arith, c.requires.1.1)
+    let few = stripes_few c.requires.numbered in
+    omega (arith, c.requires.base_in_bounds)
 
 pub start-requires-clause-bound_bound : goal.start-requires-clause-bound_bound
 start-requires-clause-bound_bound c =
     let is = c.bound-bound.ensures in
-    let few = stripes_few c.requires.0 in
+    let few = stripes_few c.requires.numbered in
     omega arith
 
 pub loop-size-init : goal.loop-size-init
 loop-size-init c =
     let same = c.start.auto.0 in
-    (parted-none _ (omega (arith, c.requires.1.1)) c.bound-bound.ensures c.start.ensures, omega arith, refl)
+    (parted-none _ (omega (arith, c.requires.base_in_bounds)) c.bound-bound.ensures c.start.ensures, omega arith, refl)
 
 -- Where the code began.
 abbrev start : goal.At-loop-size → goal.Start
@@ -52,8 +53,11 @@ returns-then-work-d c = parted_all (start c.before.before).pre.1.0 c.if-work-d.t
 erased : (c : goal.Else-work-d) → erasures (start c.before.before).args.work.now c.next_erased-d.result ≡ true
 erased c = next_erased_lem _ _ c.next_erased-d.ensures (search rules)
 
-pub stripes_of-pair-requires : goal.stripes_of-pair-requires
-stripes_of-pair-requires c = ((start c.before.before).pre.1.0, erased (goal.at.stripes_of-pair-requires c).Else-work-d)
+pub stripes_of-pair-requires-clause-table : goal.stripes_of-pair-requires-clause-table
+stripes_of-pair-requires-clause-table c = (start c.before.before).pre.1.0
+
+pub stripes_of-pair-requires-clause-disk_value : goal.stripes_of-pair-requires-clause-disk_value
+stripes_of-pair-requires-clause-disk_value c = erased (goal.at.stripes_of-pair-requires-clause-disk_value c).Else-work-d
 
 -- The disk with its stripes.
 pair : (c : goal.After-stripes_of-pair) →

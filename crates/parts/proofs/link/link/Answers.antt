@@ -9,6 +9,7 @@ use Rattle.model.specs.Grid.{layout_of}
 use Rattle.layout.proofs.Runs.{numbered_two, stripes_few}
 use Rattle.tally.proofs.Counted.{Crossed, erased_crossed}
 use Rattle.parts.proofs.Parted.{crossed_places, parted-closed, walked-closed, answer-closed, parted-next, walked_next, answer_link, name_small}
+use Rattle.parts.proofs.link.link.Goals.{After-stripes_of-pair}
 use Rattle.parts.proofs.link.link.Goals as goal
 
 -- Where the code began.

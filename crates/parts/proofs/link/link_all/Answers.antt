@@ -11,32 +11,33 @@ use Rattle.layout.proofs.Runs.{stripes_few}
 use Rattle.tally.specs.Tally.{Passed}
 use Rattle.tally.proofs.Scanned.{next_passed, next_erased_lem}
 use Rattle.parts.proofs.Parted.{Linking, parted-none, walked_none, linking_none, linking_over, linking_next, linking_all}
+use Rattle.parts.proofs.link.link_all.Goals.{After-next_erased-d, Else-work-d}
 use Rattle.parts.proofs.link.link_all.Goals as goal
 
 pub start-requires-clause-bound_in_bounds : goal.start-requires-clause-bound_in_bounds
 start-requires-clause-bound_in_bounds c =
     let is = c.bound-bound.ensures in
-    let few = stripes_few c.requires.0 in
-    omega (arith, c.requires.1.1.0)
+    let few = stripes_few c.requires.numbered in
+    omega (arith, c.requires.base_in_bounds)
 
 pub start-requires-clause-bound_bound : goal.start-requires-clause-bound_bound
 start-requires-clause-bound_bound c =
     let is = c.bound-bound.ensures in
-    let few = stripes_few c.requires.0 in
+    let few = stripes_few c.requires.numbered in
     omega arith
 
 pub clear-requires : goal.clear-requires
 clear-requires c =
     let is = c.bound-bound.ensures in
-    omega (arith, c.requires.1.1.1)
+    omega (arith, c.requires.base_in_bounds_2)
 
 pub loop-size-init : goal.loop-size-init
 loop-size-init c =
     let parts = c.start.auto.0 in
     let ways = c.clear.auto.0 in
     let is = c.bound-bound.ensures in (
-      linking_none (parted-none _ (omega (arith, c.requires.1.1.0)) is c.start.ensures)
-          (walked_none _ (omega (arith, c.requires.1.1.1)) is c.clear.ensures) refl,
+      linking_none (parted-none _ (omega (arith, c.requires.base_in_bounds)) is c.start.ensures)
+          (walked_none _ (omega (arith, c.requires.base_in_bounds_2)) is c.clear.ensures) refl,
       omega arith,
       refl,
       refl,
@@ -79,7 +80,7 @@ loop-size-smaller c = omega (arith, c.if-work-d.false, (passed (goal.at.loop-siz
 pub loop-size-preserved : goal.loop-size-preserved
 loop-size-preserved c =
     let link = c.link-closed in (
-      linking_next (over (goal.at.loop-size-preserved c).After-next_erased-d) (erased (goal.at.loop-size-preserved c).Else-work-d) link.ensures.0 link.ensures.1.0 link.ensures.1.1,
+      linking_next (over (goal.at.loop-size-preserved c).After-next_erased-d) (erased (goal.at.loop-size-preserved c).Else-work-d) link.ensures.parts link.ensures.ways link.ensures.answer,
       omega (arith, c.if-work-d.false),
       search rules,
       search rules,

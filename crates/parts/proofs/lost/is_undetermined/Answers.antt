@@ -6,7 +6,9 @@ use Rattle.stripes.specs.Fold.{◌⊕◌}
 use Rattle.model.specs.Grid.{layout_of}
 use Rattle.layout.proofs.Runs.{numbered_two, stripes_few}
 use Rattle.tally.proofs.Counted.{Crossed, erased_crossed}
+use Rattle.parts.proofs.Parted.{crossed_places}
 use Rattle.parts.proofs.Read.{read_undetermined}
+use Rattle.parts.proofs.lost.is_undetermined.Goals.{After-stripes_of-pair}
 use Rattle.parts.proofs.lost.is_undetermined.Goals as goal
 
 -- Where the code began.
@@ -24,8 +26,14 @@ pair c =
 pub offset_bounds-ways-low : goal.offset_bounds-ways-low
 offset_bounds-ways-low c = omega (arith, stripes_few (start c).requires.0, (pair (goal.at.offset_bounds-ways-low c).After-stripes_of-pair).low_bound)
 
+pub bounds-ways-low : goal.bounds-ways-low
+bounds-ways-low c = (crossed_places (pair (goal.at.bounds-ways-low c).After-stripes_of-pair) (start c.before).requires.1.1.1.0.stripes_fit).0
+
 pub offset_bounds-ways-high : goal.offset_bounds-ways-high
 offset_bounds-ways-high c = omega (arith, stripes_few (start c.before).requires.0, (pair (goal.at.offset_bounds-ways-high c).After-stripes_of-pair).high_bound)
+
+pub bounds-ways-high : goal.bounds-ways-high
+bounds-ways-high c = (crossed_places (pair (goal.at.bounds-ways-high c).After-stripes_of-pair) (start c.before.before).requires.1.1.1.0.stripes_fit).1
 
 pub returns : goal.returns
 unfolding ◌⊕◌

@@ -14,12 +14,13 @@ use Rattle.tally.specs.Tally.{Passed}
 use Rattle.tally.proofs.Scanned.{next_passed, next_erased_lem}
 use Rattle.tally.proofs.Counted.{erased-inside}
 use Rattle.parts.proofs.Judged.{Judged, judged_none, judged_over, judged_few, judged_all, judged_next}
+use Rattle.parts.proofs.lost.undetermined_count.Goals.{After-next_erased-d, Else-work-d}
 use Rattle.parts.proofs.lost.undetermined_count.Goals as goal
 
 pub link_all-closed-requires : goal.link_all-closed-requires
 link_all-closed-requires c =
-    let few = stripes_few c.requires.0 in
-    (c.requires.0, (c.requires.1, (omega arith, omega arith)))
+    let few = stripes_few c.requires.numbered in
+    (c.requires.numbered, (c.requires.table, (omega arith, omega arith)))
 
 pub loop-size-init : goal.loop-size-init
 loop-size-init c = (judged_none _ _, omega arith)
@@ -48,7 +49,7 @@ pub is_undetermined-requires : goal.is_undetermined-requires
 is_undetermined-requires c =
     let s = start c.before.before.before in
     let all = c.link_all-closed.ensures in
-    (s.pre.0, (s.pre.1, (erased (goal.at.is_undetermined-requires c).Else-work-d, (all.1.0, all.1.1))))
+    (s.pre.0, (s.pre.1, (erased (goal.at.is_undetermined-requires c).Else-work-d, (all.ways, all.answer))))
 
 pub overflow_add-count : goal.overflow_add-count
 overflow_add-count c =

@@ -10,6 +10,7 @@ use Rattle.tally.proofs.Counted.{Crossed, erased_crossed}
 use Rattle.parts.proofs.Filled.{filled_none, filled_next, filled_all}
 use Rattle.parts.proofs.Parted.{crossed_places}
 use Rattle.parts.proofs.Read.{read_side}
+use Rattle.parts.proofs.side.mark.Goals.{After-stripes_of-pair}
 use Rattle.parts.proofs.side.mark.Goals as goal
 
 -- Where the code began.
@@ -71,7 +72,7 @@ bounds-side-s c =
     omega (arith, c.loop-s-test.true)
 
 pub bounds-side-s : goal.bounds-side-s
-bounds-side-s c = written c
+bounds-side-s c = bounds-side-s c
 
 pub overflow_add-s : goal.overflow_add-s
 overflow_add-s c =
@@ -80,7 +81,7 @@ overflow_add-s c =
 
 pub loop-s-preserved : goal.loop-s-preserved
 unfolding ◌⊕◌
-loop-s-preserved c = filled_next c.loop-s.invariant _ (written c) c.beside.ensures
+loop-s-preserved c = filled_next c.loop-s.invariant _ (bounds-side-s c) c.beside.ensures
 
 pub returns : goal.returns
 unfolding ◌⊕◌

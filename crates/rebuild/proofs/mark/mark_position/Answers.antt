@@ -9,6 +9,7 @@ use Rattle.stripes.specs.Repair.{map_after}
 use Rattle.stripes.specs.Sectors.{sector_at}
 use Rattle.stripes.proofs.Split.{length-map_after}
 use Rattle.rebuild.proofs.Marks.{sectorList, marks_none, marks_next}
+use Rattle.rebuild.proofs.mark.mark_position.Goals.{After-disk_of-disk, At-loop-k}
 use Rattle.rebuild.proofs.mark.mark_position.Goals as goal
 
 -- The map keeps its length.
@@ -21,7 +22,7 @@ inside : (c : goal.After-disk_of-disk) →
     c.disk_of-disk.result * a.sectors + a.position < length a.map.now
 unfolding sector_at
 inside c =
-    let there = c.requires.1.1.1 c.loop-k.k c.loop-k-test.true in
+    let there = c.requires.by_index c.loop-k.k c.loop-k-test.true in
     subst (λ (d : ℕ). d * c.args.sectors + c.args.position < length c.args.map.now) (sym c.disk_of-disk.ensures) there
 
 pub loop-k-init : goal.loop-k-init

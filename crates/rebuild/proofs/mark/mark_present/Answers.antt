@@ -15,6 +15,7 @@ use Rattle.model.specs.Follow.{sheets_entries}
 use Rattle.entries.specs.Listed.{entry_disk, listed}
 use Rattle.chain.proofs.Place.{part-long, part-fits, part-few, part-lists}
 use Rattle.rebuild.proofs.Marks.{within_at, positions-none, positions-next, named}
+use Rattle.rebuild.proofs.mark.mark_present.Goals.{After-list-count, At-loop-p}
 use Rattle.rebuild.proofs.mark.mark_present.Goals as goal
 
 -- The map keeps its length.
@@ -26,17 +27,17 @@ loop-p-init c = (search rules, search rules, positions-none _ _ _)
 
 pub list-count-requires : goal.list-count-requires
 list-count-requires c =
-    let long = c.requires.1.0 in
+    let long = c.requires.sheets_len in
     let place = c.loop-p-test.true in (
       part-long c.args.sectors c.args.sheets.now long c.loop-p.p place,
-      (search rules, part-fits c.args.sectors c.args.sheets.now long c.loop-p.p place c.requires.1.1.0),
+      (search rules, part-fits c.args.sectors c.args.sheets.now long c.loop-p.p place c.requires.by_index),
     )
 
 -- The list has the repairs of the sheet.
 lists : (c : goal.After-list-count) →
     listed c.list-count.new.1.0 c.list-count.result ≡ chain_entries narrow (sheet_at narrow c.loop-p.p c.args.sheets.now)
 lists c =
-    part-lists c.args.sectors c.args.sheets.now c.requires.1.0 c.loop-p.p c.loop-p-test.true c.requires.1.1.0
+    part-lists c.args.sectors c.args.sheets.now c.requires.sheets_len c.loop-p.p c.loop-p-test.true c.requires.by_index
     _ _ c.list-count.ensures
 
 -- The map has a place for each of them.
@@ -44,8 +45,8 @@ pub mark_position-requires : goal.mark_position-requires
 unfolding sheets_entries
 mark_position-requires c =
     let place = c.loop-p-test.true in
-    let most = part-few c.args.sectors c.args.sheets.now c.requires.1.0 c.loop-p.p place c.requires.1.1.0 _ _ c.list-count.ensures in (
-      c.requires.0,
+    let most = part-few c.args.sectors c.args.sheets.now c.requires.sheets_len c.loop-p.p place c.requires.by_index _ _ c.list-count.ensures in (
+      c.requires.sectors_bound,
       (
         search rules,
         (
@@ -53,7 +54,7 @@ mark_position-requires c =
           λ k h.
               let (inside, disk) = named c.list-count.new.1.0 _ c.list-count.result (lists (goal.at.mark_position-requires c).After-list-count) k h in
               let there = within_at c.args.sectors (λ q. chain_entries narrow (sheet_at narrow q c.args.sheets.now))
-              (length c.args.map.now) c.args.sectors c.requires.1.1.1 c.loop-p.p place k inside in
+              (length c.args.map.now) c.args.sectors c.requires.within c.loop-p.p place k inside in
               subst (λ (n : ℕ). sector_at c.args.sectors c.loop-p.p (entry_disk c.list-count.new.1.0 k) < n) (sym (kept (goal.at.mark_position-requires c).At-loop-p))
               (subst (λ (d : ℕ). sector_at c.args.sectors c.loop-p.p d < length c.args.map.now) disk there),
         ),

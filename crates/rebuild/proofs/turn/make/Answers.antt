@@ -11,14 +11,14 @@ use Rattle.rebuild.proofs.turn.make.Goals as goal
 pub repair_positions-requires : goal.repair_positions-requires
 repair_positions-requires c =
     let p = c.requires in
-    (p.0, (p.1.0, (p.1.1.1.0, (p.1.1.1.1.0, p.1.1.1.1.1.0))))
+    (p.numbered, (p.sectored, (p.sheets_len, (p.by_index, p.peels))))
 
 pub returns-then-made-count-clause-answer : goal.returns-then-made-count-clause-answer
 returns-then-made-count-clause-answer c =
     let a = c.args in
     let (long, (most, all)) = c.requires.1.1.1.1.1.1 in
     let less = c.if-made-count.true in
-    sym (ap not (nothing_tested _ a.map.now _ c.requires.1.1.1.1.1.0 (whole a.sector) a.array.now (omega arith)))
+    sym (ap not (nothing_tested _ a.map.now _ c.requires.peels (whole a.sector) a.array.now (omega arith)))
 
 pub returns-then-made-count-clause-array : goal.returns-then-made-count-clause-array
 returns-then-made-count-clause-array c =
@@ -30,7 +30,7 @@ returns-then-made-count-clause-array c =
 pub restore-requires : goal.restore-requires
 restore-requires c =
     let p = c.requires in
-    (p.0, (p.1.0, (p.1.1.0, (p.1.1.1.0, (p.1.1.1.1.0, p.1.1.1.1.1.0)))))
+    (p.numbered, (p.sectored, (p.map_value, (p.sheets_len, (p.by_index, p.peels)))))
 
 pub returns-clause-answer : goal.returns-clause-answer
 returns-clause-answer c =
@@ -38,7 +38,7 @@ returns-clause-answer c =
     let (answer, array) = c.restore.ensures in
     let (long, (most, all)) = c.requires.1.1.1.1.1.1 in
     let none = c.if-made-count.false in
-    answer ∙ sym (all_tested _ a.map.now _ c.requires.1.1.1.1.1.0 (whole a.sector) a.array.now (omega arith))
+    answer ∙ sym (all_tested _ a.map.now _ c.requires.peels (whole a.sector) a.array.now (omega arith))
 
 pub returns-clause-array : goal.returns-clause-array
 returns-clause-array c =

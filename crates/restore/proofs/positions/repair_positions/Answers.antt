@@ -23,6 +23,7 @@ use Rattle.entries.specs.Listed.{listed}
 use Rattle.sheet.proofs.Part.{part_sheet}
 use Rattle.restore.proofs.Judged.{on-disks, on_stripes}
 use Rattle.restore.proofs.ByPosition.{peels_at, positions-none, positions-next}
+use Rattle.restore.proofs.positions.repair_positions.Goals.{After-list-in-loop-p-1, At-loop-p, In-loop-p, Start}
 use Rattle.restore.proofs.positions.repair_positions.Goals as goal
 
 -- The block is cut into sectors, and the array holds a block for each disk.
@@ -44,7 +45,7 @@ inside c =
     stretch_inside (c.args.block / c.args.sector) c.args.sector c.args.block (cut c.before.before.before.before.before) c.loop-p-test.true
 
 pub nonzero_div-sectors : goal.nonzero_div-sectors
-nonzero_div-sectors c = sector-some c.args.block c.args.sector c.requires.1.0.sector
+nonzero_div-sectors c = sector-some c.args.block c.args.sector c.requires.sectored.sector
 
 pub loop-p-init : goal.loop-p-init
 loop-p-init c =
@@ -58,8 +59,8 @@ pub list-count-requires : goal.list-count-requires
 list-count-requires c =
     let place = c.loop-p-test.true in
     let is = part_sheet narrow c.loop-p.p c.args.sheets.now in (
-      ap length is ∙ length-sheet_at narrow (c.args.block / c.args.sector) c.args.sheets.now c.requires.1.1.0 c.loop-p.p place,
-      (search rules, ap (chain_refusal narrow) is ∙ c.requires.1.1.1.0 c.loop-p.p place),
+      ap length is ∙ length-sheet_at narrow (c.args.block / c.args.sector) c.args.sheets.now c.requires.sheets_len c.loop-p.p place,
+      (search rules, ap (chain_refusal narrow) is ∙ c.requires.by_index c.loop-p.p place),
     )
 
 pub overflow_mul-stretch : goal.overflow_mul-stretch
@@ -72,7 +73,7 @@ lists : (c : goal.After-list-in-loop-p-1) →
     listed r.new.1.0 r.result ≡ chain_entries narrow (sheet_at narrow c.loop-p.p a.sheets.now)
 lists c =
     let a = c.args in
-    c.list-count.ensures.1 ∙ ap (chain_entries narrow) (part_sheet narrow c.loop-p.p a.sheets.now)
+    c.list-count.ensures.list ∙ ap (chain_entries narrow) (part_sheet narrow c.loop-p.p a.sheets.now)
 
 allowed-there : (c : goal.After-list-in-loop-p-1) →
     let a = c.args in
@@ -83,14 +84,14 @@ unfolding sheets_entries
 allowed-there c =
     let a = c.args in
     rw (lists c)
-    (peels_at (a.block / a.sector) (layout_of a.size a.base) (erasures a.map.now) _ c.requires.1.1.1.1 c.loop-p.p
+    (peels_at (a.block / a.sector) (layout_of a.size a.base) (erasures a.map.now) _ c.requires.peels c.loop-p.p
     c.loop-p-test.true)
 
 few : (c : goal.After-list-in-loop-p-1) → c.list-count.result ≤ 32
 few c =
     let is = part_sheet narrow c.loop-p.p c.args.sheets.now in
-    let most = chain_few narrow _ (c.requires.1.1.1.0 c.loop-p.p c.loop-p-test.true) in
-    let all = c.list-count.ensures.0 ∙ ap (λ (t : List ℕ). length (chain_entries narrow t)) is in
+    let most = chain_few narrow _ (c.requires.by_index c.loop-p.p c.loop-p-test.true) in
+    let all = c.list-count.ensures.number ∙ ap (λ (t : List ℕ). length (chain_entries narrow t)) is in
     omega arith
 
 pub repair_all-requires : goal.repair_all-requires
@@ -99,12 +100,12 @@ repair_all-requires c =
     let r = c.list-count in
     let e = at_position (a.block / a.sector) c.loop-p.p (erasures a.map.now) in
     let most = few (goal.at.repair_all-requires c).After-list-in-loop-p-1 in (
-      c.requires.0,
+      c.requires.numbered,
       (
         record {
           inside = inside (goal.at.repair_all-requires c).In-loop-p;
-          block = c.requires.1.0.block;
-          sized = kept (goal.at.repair_all-requires c).At-loop-p ∙ c.requires.1.0.sized;
+          block = c.requires.sectored.block;
+          sized = kept (goal.at.repair_all-requires c).At-loop-p ∙ c.requires.sectored.sized;
         },
         (
           search rules,

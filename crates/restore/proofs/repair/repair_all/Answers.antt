@@ -11,6 +11,7 @@ use Rattle.model.specs.Grid.{layout_of}
 use Rattle.stripes.proofs.Restore.{length-rebuilt}
 use Rattle.entries.specs.Listed.{listed}
 use Rattle.restore.proofs.Steps.{steps_none, steps_next}
+use Rattle.restore.proofs.repair.repair_all.Goals.{At-loop-k}
 use Rattle.restore.proofs.repair.repair_all.Goals as goal
 
 -- The array keeps its length.
@@ -32,16 +33,16 @@ repair-requires c =
     let more = c.loop-k-test.true in
     let disk = c.disk_of-disk.ensures in
     let stripe = c.stripe_of-stripe.ensures in (
-      c.requires.0,
+      c.requires.numbered,
       (
         record {
-          inside = c.requires.1.0.inside;
-          block = c.requires.1.0.block;
-          sized = kept (goal.at.repair-requires c).At-loop-k ∙ c.requires.1.0.sized;
+          inside = c.requires.held.inside;
+          block = c.requires.held.block;
+          sized = kept (goal.at.repair-requires c).At-loop-k ∙ c.requires.held.sized;
         },
         (
-          rw disk (c.requires.1.1.1.0 k more),
-          ap₂ (on (layout_of a.size a.base)) disk stripe ∙ c.requires.1.1.1.1 k more,
+          rw disk (c.requires.by_index k more),
+          ap₂ (on (layout_of a.size a.base)) disk stripe ∙ c.requires.by_index_2 k more,
         ),
       ),
     )

@@ -12,6 +12,7 @@ use Rattle.stripes.specs.Erased.{erasures, below}
 use Rattle.stripes.specs.Repair.{zeroed}
 use Rattle.stripes.proofs.Bytes.{block-before}
 use Rattle.restore.proofs.Zeros.{length-zeroed, zeroed-none, zeroed-present, zeroed-erased, zeroed_all}
+use Rattle.restore.proofs.zero.zero_erased.Goals.{At-loop-i, In-loop-i}
 use Rattle.restore.proofs.zero.zero_erased.Goals as goal
 
 -- The array keeps its length, and the sector lies within it.
@@ -29,7 +30,7 @@ inside c =
 pub loop-i-init : goal.loop-i-init
 loop-i-init c =
     let a = c.args in
-    (search rules, zeroed-none a.sector (length a.map.now) a.array.now c.requires.0 (erasures a.map.now))
+    (search rules, zeroed-none a.sector (length a.map.now) a.array.now c.requires.array_len (erasures a.map.now))
 
 pub overflow_mul-i : goal.overflow_mul-i
 overflow_mul-i c = let h = inside (goal.at.overflow_mul-i c).In-loop-i in omega arith
@@ -51,11 +52,11 @@ loop-i-preserved c =
       ⊎_elim
           (λ w.
           w.5 ∙ w.2.ensures
-          ∙ zeroed-erased a.sector (length a.map.now) a.array.now c.requires.0 e l.i more l.array l.invariant.1
+          ∙ zeroed-erased a.sector (length a.map.now) a.array.now c.requires.array_len e l.i more l.array l.invariant.1
           (eq-eqb _ 1 w.0.taken))
           (λ w.
           w.1
-          ∙ zeroed-present a.sector (length a.map.now) a.array.now c.requires.0 e l.i more l.array l.invariant.1
+          ∙ zeroed-present a.sector (length a.map.now) a.array.now c.requires.array_len e l.i more l.array l.invariant.1
           (ne_eqb _ 1 w.0.left))
           c.if-map-i-eq1.branch,
     )
@@ -66,4 +67,4 @@ returns c =
     let l = c.loop-i in
     l.invariant.1
     ∙ ap (λ (n : ℕ). zeroed (whole a.sector) a.array.now (below n (erasures a.map.now))) (omega arith)
-    ∙ zeroed_all a.sector (length a.map.now) a.array.now c.requires.0 (erasures a.map.now)
+    ∙ zeroed_all a.sector (length a.map.now) a.array.now c.requires.array_len (erasures a.map.now)

@@ -19,7 +19,7 @@ start c = c.before.before.before.before.before.before
 pub is_undetermined-requires : goal.is_undetermined-requires
 is_undetermined-requires c =
     let p = c.requires in
-    (p.0, (p.1.1.0, (p.1.1.1.0, (p.1.1.1.1.1.0, p.1.1.1.1.1.1))))
+    (p.numbered, (p.table, (p.disk_value, (p.walked, p.closed_value))))
 
 pub returns-then-is_undetermined-clause-answer : goal.returns-then-is_undetermined-clause-answer
 returns-then-is_undetermined-clause-answer c =

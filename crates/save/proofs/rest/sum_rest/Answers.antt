@@ -15,16 +15,17 @@ use Rattle.tally.proofs.Scanned.{next_passed, next_erased_lem}
 use Rattle.tally.proofs.Counted.{erased-inside}
 use Rattle.sums.specs.Held.{Held}
 use Rattle.save.proofs.Summed.{Rest, sized_as, rest-none, rest_over, rest-few, rest_all, rest-next}
+use Rattle.save.proofs.rest.sum_rest.Goals.{After-next_erased-d, Else-work-d}
 use Rattle.save.proofs.rest.sum_rest.Goals as goal
 
 pub link_all-closed-requires : goal.link_all-closed-requires
 link_all-closed-requires c =
-    let few = stripes_few c.requires.0 in
-    (c.requires.0, (c.requires.1.1, (omega arith, omega arith)))
+    let few = stripes_few c.requires.numbered in
+    (c.requires.numbered, (c.requires.table, (omega arith, omega arith)))
 
 pub loop-size-init : goal.loop-size-init
 loop-size-init c =
-    (rest-none c.requires.1.0.inside (sized_as c.args.size c.args.base c.requires.1.0), omega arith, refl)
+    (rest-none c.requires.held.inside (sized_as c.args.size c.args.base c.requires.held), omega arith, refl)
 
 -- Where the code began.
 abbrev start : goal.At-loop-size → goal.Start
@@ -56,7 +57,7 @@ sum_disk-requires c =
     let held : Held s.args.size s.args.stretch c.loop-size.array =
     record { inside = s.pre.1.0.inside; block = s.pre.1.0.block; sized = c.loop-size.invariant.2 ∙ s.pre.1.0.sized } in
     let all = c.link_all-closed.ensures in
-    (s.pre.0, (held, (s.pre.1.1, (erased (goal.at.sum_disk-requires c).Else-work-d, (all.0, (all.1.0, all.1.1))))))
+    (s.pre.0, (held, (s.pre.1.1, (erased (goal.at.sum_disk-requires c).Else-work-d, (all.parts, (all.ways, all.answer))))))
 
 -- Its number is small.
 small : (c : goal.Else-work-d) → c.next_erased-d.result < 256
@@ -82,7 +83,7 @@ pub loop-size-preserved : goal.loop-size-preserved
 loop-size-preserved c =
     let summed = c.sum_disk in
     let s = start c.before.before.before.before.before.before.before.before.before in (
-      rest-next s.pre.1.0.inside (sized_as s.args.size s.args.base s.pre.1.0) (over (goal.at.loop-size-preserved c).After-next_erased-d) summed.ensures.0 summed.ensures.1
+      rest-next s.pre.1.0.inside (sized_as s.args.size s.args.base s.pre.1.0) (over (goal.at.loop-size-preserved c).After-next_erased-d) summed.ensures.answer summed.ensures.array
           (⊎_elim (λ w. inl (w.0.taken, w.1)) (λ w. inr (w.0.left, w.1)) c.if-sum_disk.branch),
       omega (arith, c.if-work-d.false),
       search rules,

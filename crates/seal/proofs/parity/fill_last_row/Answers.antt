@@ -8,6 +8,7 @@ use Rattle.model.proofs.Seal.{seal_fits}
 use Rattle.sums.proofs.Stripes.{row-bytes-small}
 use Rattle.seal.specs.Parity.{last_row_filled}
 use Rattle.seal.proofs.Rows.{last_spaced}
+use Rattle.seal.proofs.parity.fill_last_row.Goals.{Start}
 use Rattle.seal.proofs.parity.fill_last_row.Goals as goal
 
 sized : (s : goal.Start) → ArrayFits s.args.size s.args.block (length s.args.array.now)

@@ -13,6 +13,7 @@ use Rattle.xor.specs.Strided.{Spaced}
 use Rattle.sums.proofs.Stripes.{row-bytes-small}
 use Rattle.seal.specs.Parity.{row_filled, rows_filled}
 use Rattle.seal.proofs.Rows.{row_spaced, rows-length, rows_next}
+use Rattle.seal.proofs.parity.fill_rows.Goals.{At-loop-row, In-loop-row, Start}
 use Rattle.seal.proofs.parity.fill_rows.Goals as goal
 
 sized : (s : goal.Start) → ArrayFits s.args.size s.args.block (length s.args.array.now)

@@ -11,6 +11,7 @@ use Rattle.tally.specs.Tally.{Table}
 use Rattle.tally.proofs.Counted.{crossed}
 use Rattle.smallest.specs.Leads.{Near}
 use Rattle.smallest.proofs.Choosing.{wiped_table, wiped_near}
+use Rattle.smallest.proofs.choose.begin.Goals.{After-wipe, Joined-found}
 use Rattle.smallest.proofs.choose.begin.Goals as goal
 
 -- Where the code began.

@@ -18,12 +18,13 @@ use Rattle.reach.specs.Reached.{word_stripes}
 use Rattle.smallest.proofs.Neighbours.{grid-apart}
 use Rattle.smallest.proofs.Choosing.{Choosing, AllChosen, wiped_all, choosing_few, choosing_start, choosing_over, choosing_end}
 use Rattle.smallest.proofs.Choosing.{choosing_pass, choosing_take, choosing_last, chosen-smallest}
+use Rattle.smallest.proofs.choose.choose.Goals.{After-begin-ends, After-stripes_of-pair, In-loop-d, Left-loop-d}
 use Rattle.smallest.proofs.choose.choose.Goals as goal
 
 pub begin-ends-requires : goal.begin-ends-requires
 begin-ends-requires c =
     let p = c.requires in
-    (p.0, (p.1.0, (p.1.1.0, (p.1.1.1.0, refl))))
+    (p.numbered, (p.table, (p.nearest, (p.near, refl))))
 
 -- Where the code began.
 abbrev start : goal.After-begin-ends → goal.Start
@@ -64,8 +65,8 @@ loop-d-init c =
     let s = start c.before.before.before.before.before.before.before.before.before.before.before in
     let wipe = c.wipe in
     over (goal.at.loop-d-init c).After-begin-ends
-    (choosing_start (layout c.before.before.before.before.before.before.before.before.before.before.before) (numbered_two s.pre.0) (stripes_few s.pre.0) s.pre.1.1.0 (ends (goal.at.loop-d-init c).After-begin-ends) c.begin-ends.ensures.1.1
-    c.begin-ends.ensures.1.0 (ap erasures wipe.ensures ∙ wiped_all _) (wipe.auto.0 ∙ s.pre.1.1.1.1 ∙ sym c.begin-ends.auto.1.1.0))
+    (choosing_start (layout c.before.before.before.before.before.before.before.before.before.before.before) (numbered_two s.pre.0) (stripes_few s.pre.0) s.pre.1.1.0 (ends (goal.at.loop-d-init c).After-begin-ends) c.begin-ends.ensures.measured
+    c.begin-ends.ensures.left (ap erasures wipe.ensures ∙ wiped_all _) (wipe.auto.0 ∙ s.pre.1.1.1.1 ∙ sym c.begin-ends.auto.1.1.0))
     c.next_erased-d.ensures
 
 abbrev begun : goal.At-loop-d → goal.After-begin-ends
@@ -75,8 +76,11 @@ begun l = l.before.before.before.before.before.before.before.before.before.befor
 erased : (t : goal.In-loop-d) → erasures (map (begun t.before)) t.before.loop.d ≡ true
 erased t = t.before.loop.invariant.1 t.loop-test.true
 
-pub stripes_of-pair-requires : goal.stripes_of-pair-requires
-stripes_of-pair-requires c = (c.loop-d.invariant.0.measured.table, erased (goal.at.stripes_of-pair-requires c).In-loop-d)
+pub stripes_of-pair-requires-clause-table : goal.stripes_of-pair-requires-clause-table
+stripes_of-pair-requires-clause-table c = c.loop-d.invariant.0.measured.table
+
+pub stripes_of-pair-requires-clause-disk_value : goal.stripes_of-pair-requires-clause-disk_value
+stripes_of-pair-requires-clause-disk_value c = erased (goal.at.stripes_of-pair-requires-clause-disk_value c).In-loop-d
 
 -- The disk with its stripes, which have their places in the tables.
 pair : (p : goal.After-stripes_of-pair) →

@@ -9,6 +9,7 @@ use Rattle.reach.specs.Reached.{has}
 use Rattle.reach.proofs.Words.{Without, lowest_out}
 use Rattle.reach.proofs.Rest.{gathered_none, gathered_next, gathered_all}
 use Rattle.smallest.proofs.Cutting.{crossing_all}
+use Rattle.smallest.proofs.near.crossing.Goals.{In-loop-rest}
 use Rattle.smallest.proofs.near.crossing.Goals as goal
 
 pub loop-rest-init : goal.loop-rest-init

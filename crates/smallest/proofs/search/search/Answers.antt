@@ -15,6 +15,7 @@ use Rattle.tally.proofs.Counted.{Crossed, erased_crossed}
 use Rattle.reach.specs.Reached.{word_stripes}
 use Rattle.smallest.proofs.Neighbours.{grid-apart}
 use Rattle.smallest.proofs.Searched.{Searched, searched_none, searched_over, searched_next, searched_end}
+use Rattle.smallest.proofs.search.search.Goals.{After-next_erased-d, After-stripes_of-pair, Else-work-d}
 use Rattle.smallest.proofs.search.search.Goals as goal
 
 pub loop-others-init : goal.loop-others-init
@@ -38,8 +39,11 @@ over c = searched_over c.loop-others.invariant.0 (passed c).after (passed c).non
 erased : (c : goal.Else-work-d) → erasures (start c.before.before.before).args.work.now c.next_erased-d.result ≡ true
 erased c = next_erased_lem _ _ c.next_erased-d.ensures (search rules)
 
-pub stripes_of-pair-requires : goal.stripes_of-pair-requires
-stripes_of-pair-requires c = ((start c.before.before.before).pre.1.0, erased (goal.at.stripes_of-pair-requires c).Else-work-d)
+pub stripes_of-pair-requires-clause-table : goal.stripes_of-pair-requires-clause-table
+stripes_of-pair-requires-clause-table c = (start c.before.before.before).pre.1.0
+
+pub stripes_of-pair-requires-clause-disk_value : goal.stripes_of-pair-requires-clause-disk_value
+stripes_of-pair-requires-clause-disk_value c = erased (goal.at.stripes_of-pair-requires-clause-disk_value c).Else-work-d
 
 -- The disk with its stripes.
 pair : (c : goal.After-stripes_of-pair) →

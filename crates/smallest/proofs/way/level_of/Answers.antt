@@ -7,6 +7,7 @@ use native.Mathlib.Omega.{arith}
 use borrow.Author.Tests.{not-false, not-true}
 use Rattle.reach.specs.Reached.{next_in}
 use Rattle.smallest.proofs.Levels.{level_absent, level_first, level_second, level_none}
+use Rattle.smallest.proofs.way.level_of.Goals.{Else-not-has}
 use Rattle.smallest.proofs.way.level_of.Goals as goal
 
 pub returns-then-not-has : goal.returns-then-not-has

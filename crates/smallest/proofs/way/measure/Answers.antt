@@ -5,6 +5,7 @@ use borrow.Author.Rules.{rules}
 use lib.ListN.{length, take}
 use lib.Seq.{length-take-le}
 use Rattle.smallest.proofs.Levels.{levelled_both}
+use Rattle.smallest.proofs.way.measure.Goals.{After-levels-arg-1}
 use Rattle.smallest.proofs.way.measure.Goals as goal
 
 -- The first half has a place for each stripe.
@@ -17,6 +18,12 @@ slice_bounds-levels-end-2 c = sym (first (goal.at.slice_bounds-levels-end-2 c).A
 pub levels-requires : goal.levels-requires
 levels-requires c = (search rules, (search rules, (search rules, first (goal.at.levels-requires c).After-levels-arg-1)))
 
+pub levels-requires-2 : goal.levels-requires-2
+levels-requires-2 c = search rules
+
+pub shape_of-levels : goal.shape_of-levels
+shape_of-levels c = search rules
+
 pub returns : goal.returns
 returns c =
     let here = c.levels in
@@ -24,4 +31,4 @@ returns c =
     levelled_both here.new.1.1.1.0 there.new.1.1.1.0 _ _
     (here.auto.1.1.1.0 ∙ first (goal.at.returns c).After-levels-arg-1) here.ensures
     (there.auto.1.1.1.0 ∙ (levels-requires-2 c.before.before.before there.lifetimes).1.1.1) there.ensures
-    (same_length c ∙ c.requires.1.1.1.1)
+    (shape_of-levels c ∙ c.requires.levels_len)

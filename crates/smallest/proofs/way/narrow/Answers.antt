@@ -21,7 +21,7 @@ pub returns-then-crossing-one-clause-levels : goal.returns-then-crossing-one-cla
 returns-then-crossing-one-clause-levels c =
     let ball = c.ball-inside in
     let pair = c.if-crossing-one.true ∙ ap₂ bit_or c.one.ensures c.one-2.ensures in
-    c.requires.1.0
+    c.requires.levelled
 
 pub returns-clause-cut : goal.returns-clause-cut
 returns-clause-cut c =

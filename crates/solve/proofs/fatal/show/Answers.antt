@@ -1,13 +1,17 @@
 -- `solve::fatal::show` meets its contract: the memory that it makes is as long as the working map.
 -- Assumes nothing.
 use mathlib.Core.Path.{sym}
+use borrow.Author.Rules.{rules}
 use lib.Seq.{length-take-le}
 use Rattle.solve.proofs.fatal.show.Goals as goal
 
+pub slice_bounds-set-end : goal.slice_bounds-set-end
+slice_bounds-set-end c = search rules
+
 pub slice_bounds-show_in-end : goal.slice_bounds-show_in-end
-slice_bounds-show_in-end c = sym (length-take-le _ _ (array-borrow-prefix-set c.before))
+slice_bounds-show_in-end c = sym (length-take-le _ _ (slice_bounds-set-end c.before))
 
 pub show_in-requires : goal.show_in-requires
 show_in-requires c =
     let p = c.requires in
-    (p.0, (p.1.0, (p.1.1.0, (sym (slice-aggregate-show-in c.before), p.1.1.1.1))))
+    (p.numbered, (p.table, (p.work_value, (sym (slice_bounds-show_in-end c.before), p.capacity_in_bounds))))

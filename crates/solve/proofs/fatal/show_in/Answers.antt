@@ -34,10 +34,10 @@ pub returns-clause-number : goal.returns-clause-number
 returns-clause-number c =
     let s = start c.before.before.before.before.before.before.before.before.before in
     let cycle = shown_cycle_lem _ (numbered_two s.pre.0) s.args.work.now (set c.before.before.before.before.before.before.before.before.before) s.pre.1.1.0 c.find.ensures in
-    c.trace.ensures.0 ∙ ap length cycle
+    c.trace.ensures.number ∙ ap length cycle
 
 pub returns-clause-list : goal.returns-clause-list
 returns-clause-list c =
     let s = start c.before.before.before.before.before.before.before.before.before in
     let cycle = shown_cycle_lem _ (numbered_two s.pre.0) s.args.work.now (set c.before.before.before.before.before.before.before.before.before) s.pre.1.1.0 c.find.ensures in
-    c.trace.ensures.1 ∙ cycle
+    c.trace.ensures.list ∙ cycle

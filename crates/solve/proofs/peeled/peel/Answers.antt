@@ -7,28 +7,29 @@ use Rattle.model.specs.Grid.{layout_of}
 use Rattle.model.proofs.Grid.{layout-disks}
 use Rattle.order.proofs.Held.{none-held}
 use Rattle.solve.proofs.Memory.{map-disks, loaded_inside, made_some, peeled}
+use Rattle.solve.proofs.peeled.peel.Goals.{After-peel-made}
 use Rattle.solve.proofs.peeled.peel.Goals as goal
 
 pub copy-requires : goal.copy-requires
 copy-requires c =
-    let long = map-disks _ c.args.base _ c.requires.1.0 in
-    let room = c.requires.1.1.disks_fit in
+    let long = map-disks _ c.args.base _ c.requires.map_value in
+    let room = c.requires.room.disks_fit in
     omega arith
 
 pub tally-erased-requires : goal.tally-erased-requires
 tally-erased-requires c =
-    let room = c.requires.1.1 in
+    let room = c.requires.room in
     let same = c.copy.auto.1.0 in
     let few = layout-disks c.args.size c.args.base in
     let a = room.disks_fit in
     let b = room.table_fits in
-    (c.requires.0, (omega arith, (loaded_inside _ c.args.base _ c.requires.1.0 _ c.copy.ensures, (omega arith, room.stripes_fit))))
+    (c.requires.numbered, (omega arith, (loaded_inside _ c.args.base _ c.requires.map_value _ c.copy.ensures, (omega arith, room.stripes_fit))))
 
 pub peel-made-requires : goal.peel-made-requires
 peel-made-requires c =
     let p = c.requires in
     let (number, tallied) = c.tally-erased.ensures in
-    (p.0, (number, (tallied, p.1.1.list_fits)))
+    (p.numbered, (number, (tallied, p.room.list_fits)))
 
 -- Where the code began, from the peeling on.
 abbrev start : goal.After-peel-made → goal.Start
@@ -43,10 +44,10 @@ no_disk p =
 
 pub overflow_sub-result : goal.overflow_sub-result
 overflow_sub-result c =
-    made_some _ _ _ c.tally-erased.ensures.0
+    made_some _ _ _ c.tally-erased.ensures.number
     (none-held (no_disk (goal.at.overflow_sub-result c).After-peel-made) _ _ c.peel-made.ensures).0
 
 pub returns : goal.returns
 returns c =
     let (number, (rest, (entries, tallied))) = none-held (no_disk (goal.at.returns c).After-peel-made) _ _ c.peel-made.ensures in
-    peeled _ _ _ c.tally-erased.ensures.0 number c.copy.ensures entries rest tallied.table
+    peeled _ _ _ c.tally-erased.ensures.number number c.copy.ensures entries rest tallied.table

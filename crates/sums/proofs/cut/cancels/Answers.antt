@@ -7,25 +7,25 @@ use Rattle.sums.proofs.Cuts.{cut-start, cut-chosen, cut-cancelled}
 use Rattle.sums.proofs.cut.cancels.Goals as goal
 
 pub list_cut-count-requires : goal.list_cut-count-requires
-list_cut-count-requires c = (c.requires.0, c.requires.1.1)
+list_cut-count-requires c = (c.requires.numbered, c.requires.1.1)
 
 pub cancels-requires-clause-chosen : goal.cancels-requires-clause-chosen
 cancels-requires-clause-chosen c =
     let a = c.args in
     let l = c.list_cut-count in
-    cut-chosen a.size a.base a.stretch a.array.now c.requires.1.0 (erasures a.map.now) (in_part a.parts.now a.name)
+    cut-chosen a.size a.base a.stretch a.array.now c.requires.held (erasures a.map.now) (in_part a.parts.now a.name)
           l.new.1.1.1.1.1.0 l.result l.ensures
 
 pub cancels-requires-clause-len_in_bounds : goal.cancels-requires-clause-len_in_bounds
 cancels-requires-clause-len_in_bounds c =
     let a = c.args in
     let l = c.list_cut-count in
-    cut-start a.size a.stretch a.array.now c.requires.1.0
+    cut-start a.size a.stretch a.array.now c.requires.held
 
 pub returns : goal.returns
 returns c =
     let a = c.args in
     let l = c.list_cut-count in
     c.cancels.ensures
-    ∙ cut-cancelled a.size a.base a.stretch a.array.now c.requires.1.0 (erasures a.map.now) (in_part a.parts.now a.name)
+    ∙ cut-cancelled a.size a.base a.stretch a.array.now c.requires.held (erasures a.map.now) (in_part a.parts.now a.name)
     l.new.1.1.1.1.1.0 l.result l.ensures

@@ -8,19 +8,19 @@ use Rattle.sums.proofs.cut.fill.Goals as goal
 
 pub list_cut-count-requires : goal.list_cut-count-requires
 list_cut-count-requires c =
-    (c.requires.0, (c.requires.1.1.0, (c.requires.1.1.1.0, c.requires.1.1.1.1.0)))
+    (c.requires.numbered, (c.requires.size_in_bounds, (c.requires.base_in_bounds, c.requires.size_in_bounds_2)))
 
 pub fill-requires : goal.fill-requires
 fill-requires c =
     let a = c.args in
     let l = c.list_cut-count in
-    cut_beside a.size a.base a.stretch a.array.now c.requires.1.0 (erasures a.map.now) (in_part a.parts.now a.name)
-    l.new.1.1.1.1.1.0 l.result l.ensures a.disk c.requires.1.1.1.1.1.0 c.requires.1.1.1.1.1.1
+    cut_beside a.size a.base a.stretch a.array.now c.requires.held (erasures a.map.now) (in_part a.parts.now a.name)
+    l.new.1.1.1.1.1.0 l.result l.ensures a.disk c.requires.disk_bound c.requires.disk_value
 
 pub returns : goal.returns
 returns c =
     let a = c.args in
     let l = c.list_cut-count in
     c.fill.ensures
-    ∙ cut-filled a.size a.base a.stretch a.array.now c.requires.1.0 (erasures a.map.now) (in_part a.parts.now a.name)
-    l.new.1.1.1.1.1.0 l.result l.ensures a.disk c.requires.1.1.1.1.1.0 c.requires.1.1.1.1.1.1
+    ∙ cut-filled a.size a.base a.stretch a.array.now c.requires.held (erasures a.map.now) (in_part a.parts.now a.name)
+    l.new.1.1.1.1.1.0 l.result l.ensures a.disk c.requires.disk_bound c.requires.disk_value

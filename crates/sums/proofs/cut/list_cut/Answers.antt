@@ -14,7 +14,7 @@ use Rattle.sums.proofs.Cuts.{cut-none, cut-next, cut-room, cut_all}
 use Rattle.sums.proofs.cut.list_cut.Goals as goal
 
 pub bound-bound-requires : goal.bound-bound-requires
-bound-bound-requires c = c.requires.0
+bound-bound-requires c = c.requires.numbered
 
 pub loop-s-init : goal.loop-s-init
 loop-s-init c =
@@ -29,9 +29,9 @@ list_stripe-more-requires c =
     let end = c.bound-bound.ensures in
     let below : l.s < L.stripe_bound = omega arith in
     let part = in_part a.parts.now a.name in
-    let room = cut-room L (erasures a.map.now) part (numbered_two c.requires.0) l.s l.n below l.invariant.2.few in
+    let room = cut-room L (erasures a.map.now) part (numbered_two c.requires.numbered) l.s l.n below l.invariant.2.few in
     let same = layout-disks a.size a.base in
-    (c.requires.0, (c.requires.1.0, (c.requires.1.1.0, (below, (l.invariant.2.survivors, omega arith)))))
+    (c.requires.numbered, (c.requires.size_in_bounds, (c.requires.base_in_bounds, (below, (l.invariant.2.survivors, omega arith)))))
 
 pub loop-s-preserved : goal.loop-s-preserved
 loop-s-preserved c =
@@ -51,5 +51,5 @@ returns c =
     let L = layout_of a.size a.base in
     let end : l.s ≡ L.stripe_bound = let b = c.bound-bound.ensures in omega arith in
     let same = layout-disks a.size a.base in
-    cut_all L (erasures a.map.now) (in_part a.parts.now a.name) (numbered_two c.requires.0) l.list l.n (length l.list)
+    cut_all L (erasures a.map.now) (in_part a.parts.now a.name) (numbered_two c.requires.numbered) l.list l.n (length l.list)
     (rw end at l.invariant.2) (omega arith)

@@ -18,6 +18,7 @@ use Rattle.layout.specs.declared.stripe.Run.{Run}
 use Rattle.sums.specs.Cut.{in_part, in_cut}
 use Rattle.sums.proofs.Cuts.{behind-none, behind_skip, behind-next, Along, run_along}
 use Rattle.sums.proofs.Cuts.{stripe-none, stripe-room, stripe_all, outside_none, empty_none}
+use Rattle.sums.proofs.cut.list_stripe.Goals.{After-disks_on-run, After-leaves, After-other_at-other, In-loop-k, Then-leaves}
 use Rattle.sums.proofs.cut.list_stripe.Goals as goal
 
 -- The run of a stripe in the part.
@@ -26,14 +27,14 @@ known : (c : goal.After-disks_on-run)
     Along a.size a.base (erasures a.map.now) (in_part a.parts.now a.name) a.stripe c.disks_on-run.result
 known c =
     let a = c.args in
-    run_along a.size a.base _ _ a.stripe c.requires.0 (eq-eqb _ _ c.if-parts-stripe.false)
+    run_along a.size a.base _ _ a.stripe c.requires.numbered (eq-eqb _ _ c.if-parts-stripe.false)
     (sym c.has_disks.ensures ∙ not-false _ c.if-not-has_disks.false) c.disks_on-run.result c.disks_on-run.ensures
 
 -- A disk of it has a small number.
 small : (c : goal.In-loop-k) → run_disk c.disks_on-run.result c.loop-k.k < 256
 small c =
     let inside = (known c.before.before).disk c.loop-k.k c.loop-k-test.true in
-    let few = disks-bound c.args.size (size_fits_lem c.args.size c.requires.0.fits) in
+    let few = disks-bound c.args.size (size_fits_lem c.args.size c.requires.numbered.fits) in
     let same = layout-disks c.args.size c.args.base in
     omega arith
 
@@ -67,28 +68,28 @@ room c =
     let l = c.loop-k in
     stripe-room a.size a.base (erasures a.map.now) (in_part a.parts.now a.name) a.stripe a.list.now a.have
     c.disks_on-run.result (known c.before.before.before.before.before) l.k l.list l.n l.invariant.2
-    (length l.list) (rw l.invariant.1 c.requires.1.1.1.1.1) c.loop-k-test.true
+    (length l.list) (rw l.invariant.1 c.requires.stripe_in_bounds) c.loop-k-test.true
     (sym (test-is c.before) ∙ c.if-leaves.true)
 
 pub returns-then-parts-stripe : goal.returns-then-parts-stripe
 returns-then-parts-stripe c =
     let a = c.args in
     let part = in_part a.parts.now a.name in
-    stripe-none a.size a.base (erasures a.map.now) part a.stripe a.list.now a.have c.requires.1.1.1.1.0
+    stripe-none a.size a.base (erasures a.map.now) part a.stripe a.list.now a.have c.requires.survivors
     (outside_none a.size a.base (erasures a.map.now) part a.stripe (ne_eqb _ _ c.if-parts-stripe.true))
 
 pub has_disks-requires : goal.has_disks-requires
-has_disks-requires c = c.requires.0
+has_disks-requires c = c.requires.numbered
 
 pub returns-then-not-has_disks : goal.returns-then-not-has_disks
 returns-then-not-has_disks c =
     let a = c.args in
     let part = in_part a.parts.now a.name in
-    stripe-none a.size a.base (erasures a.map.now) part a.stripe a.list.now a.have c.requires.1.1.1.1.0
+    stripe-none a.size a.base (erasures a.map.now) part a.stripe a.list.now a.have c.requires.survivors
     (empty_none a.size a.base (erasures a.map.now) part a.stripe (sym c.has_disks.ensures ∙ not-true _ c.if-not-has_disks.true))
 
 pub disks_on-run-requires : goal.disks_on-run-requires
-disks_on-run-requires c = c.requires.0
+disks_on-run-requires c = c.requires.numbered
 
 pub loop-k-init : goal.loop-k-init
 loop-k-init c =
@@ -96,7 +97,7 @@ loop-k-init c =
     let L = layout_of a.size a.base in
     let e = erasures a.map.now in
     let t = in_cut L e (in_part a.parts.now a.name) in
-    (search rules, refl, behind-none L e a.list.now a.have t (run_disk c.disks_on-run.result) c.requires.1.1.1.1.0)
+    (search rules, refl, behind-none L e a.list.now a.have t (run_disk c.disks_on-run.result) c.requires.survivors)
 
 pub overflow_mul-disk : goal.overflow_mul-disk
 overflow_mul-disk c = let h = small (goal.at.overflow_mul-disk c).In-loop-k in omega arith
@@ -106,7 +107,7 @@ overflow_add-disk c = let h = small (goal.at.overflow_add-disk c).In-loop-k in o
 
 pub other_at-other-requires : goal.other_at-other-requires
 other_at-other-requires c = (
-  c.requires.0,
+  c.requires.numbered,
   (
     sym c.has_disks.ensures ∙ not-false _ c.if-not-has_disks.false,
     subst (λ (run : Run). c.loop-k.k < run.count) c.disks_on-run.ensures c.loop-k-test.true,
@@ -119,7 +120,7 @@ leaves-requires-clause-disk_in_bounds c =
     let inside = r.disk c.loop-k.k c.loop-k-test.true in
     let other = r.other c.loop-k.k c.loop-k-test.true in
     let is = other-is (goal.at.leaves-requires-clause-disk_in_bounds c).After-other_at-other in
-    let long = c.requires.1.0 in
+    let long = c.requires.size_in_bounds in
     let same = layout-disks c.args.size c.args.base in
     omega arith
 
@@ -129,7 +130,7 @@ leaves-requires-clause-other_in_bounds c =
     let inside = r.disk c.loop-k.k c.loop-k-test.true in
     let other = r.other c.loop-k.k c.loop-k-test.true in
     let is = other-is (goal.at.leaves-requires-clause-other_in_bounds c).After-other_at-other in
-    let long = c.requires.1.0 in
+    let long = c.requires.size_in_bounds in
     let same = layout-disks c.args.size c.args.base in
     omega arith
 

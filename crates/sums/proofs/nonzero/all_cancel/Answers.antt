@@ -8,7 +8,7 @@ pub lowest_nonzero-requires : goal.lowest_nonzero-requires
 lowest_nonzero-requires c = c.requires
 
 pub bound-requires : goal.bound-requires
-bound-requires c = c.requires.0
+bound-requires c = c.requires.numbered
 
 pub returns : goal.returns
 returns c =

@@ -12,11 +12,11 @@ pub lowest_row-row-requires : goal.lowest_row-row-requires
 lowest_row-row-requires c = c.requires
 
 pub down-requires : goal.down-requires
-down-requires c = c.requires.0.fits
+down-requires c = c.requires.numbered.fits
 
 pub returns-then-row-down : goal.returns-then-row-down
 returns-then-row-down c =
-    row-answer c.args.size c.args.base c.requires.0.above c.args.stretch c.args.array.now _ c.lowest_row-row.ensures
+    row-answer c.args.size c.args.base c.requires.numbered.above c.args.stretch c.args.array.now _ c.lowest_row-row.ensures
     (let h = c.if-row-down.true in let e = c.down.ensures in omega arith)
 
 pub lowest_column-requires : goal.lowest_column-requires
@@ -26,18 +26,18 @@ lowest_column-requires c =
     let row = c.lowest_row-row.ensures in
     let all = c.if-row-down.false in
     let height = c.down.ensures in
-    (c.requires.0, (c.requires.1, omega arith))
+    (c.requires.numbered, (c.requires.held, omega arith))
 
 pub overflow_add-result : goal.overflow_add-result
 overflow_add-result c =
     let size = c.args.size in
     let most = (lowest_is (across size) (λ k. nonzero size c.args.base c.args.stretch c.args.array.now (c.args.base + k))).within in
     let column = c.lowest_column.ensures in
-    let small = c.requires.0.small in
+    let small = c.requires.numbered.small in
     omega arith
 
 pub returns : goal.returns
 returns c =
-    column-answer c.args.size c.args.base c.requires.0.above c.args.stretch c.args.array.now _
+    column-answer c.args.size c.args.base c.requires.numbered.above c.args.stretch c.args.array.now _
     c.lowest_row-row.ensures
     (let h = c.if-row-down.false in let e = c.down.ensures in omega arith) _ c.lowest_column.ensures

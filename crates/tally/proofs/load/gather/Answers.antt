@@ -8,6 +8,7 @@ use lib.ListN.{length}
 use Rattle.stripes.specs.Sectors.{sector_at}
 use Rattle.tally.proofs.Scanned.{copied_next}
 use Rattle.tally.proofs.Column.{byte_inside, column_is}
+use Rattle.tally.proofs.load.gather.Goals.{In-loop-i}
 use Rattle.tally.proofs.load.gather.Goals as goal
 
 pub loop-i-init : goal.loop-i-init

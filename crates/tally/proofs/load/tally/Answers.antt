@@ -16,11 +16,12 @@ use Rattle.tally.specs.Tally.{Passed}
 use Rattle.tally.proofs.Scanned.{next_passed, next_erased_lem}
 use Rattle.tally.proofs.Counted.{Crossed, crossed}
 use Rattle.tally.proofs.Loaded.{Loaded, loaded_none, loaded_over, loaded_few, low-room, high-room, loaded_next, loaded_all}
+use Rattle.tally.proofs.load.tally.Goals.{After-next_erased-d, After-stripes_of-pair, Else-work-d}
 use Rattle.tally.proofs.load.tally.Goals as goal
 
 pub loop-size-init : goal.loop-size-init
 loop-size-init c =
-    let few = stripes_few c.requires.0 in
+    let few = stripes_few c.requires.numbered in
     (search rules, search rules, rw c.wipe.ensures (loaded_none _ _ _ _ (search rules)), omega arith)
 
 -- Where the code began.
@@ -54,10 +55,15 @@ returns-then-work-d-clause-tallied c =
 erased : (c : goal.Else-work-d) → erasures (start c.before.before).args.work.now c.next_erased-d.result ≡ true
 erased c = next_erased_lem _ _ c.next_erased-d.ensures (search rules)
 
-pub stripes_of-pair-requires : goal.stripes_of-pair-requires
-stripes_of-pair-requires c =
+pub stripes_of-pair-requires-clause-numbered : goal.stripes_of-pair-requires-clause-numbered
+stripes_of-pair-requires-clause-numbered c =
     let s = start c.before.before in
-    (s.pre.0, is_inside _ (erasures s.args.work.now) s.pre.1.1.0 _ (erased (goal.at.stripes_of-pair-requires c).Else-work-d))
+    s.pre.0
+
+pub stripes_of-pair-requires-clause-disk_bound : goal.stripes_of-pair-requires-clause-disk_bound
+stripes_of-pair-requires-clause-disk_bound c =
+    let s = start c.before.before in
+    is_inside _ (erasures s.args.work.now) s.pre.1.1.0 _ (erased (goal.at.stripes_of-pair-requires-clause-disk_bound c).Else-work-d)
 
 -- Its stripes, and its place in the table.
 pair : (c : goal.After-stripes_of-pair) →
@@ -66,7 +72,7 @@ pair : (c : goal.After-stripes_of-pair) →
 pair c =
     let s = start c.before.before.before in
     let same = layout-disks s.args.size s.args.base in
-    let inside = (stripes-of-requires c.before tt).1 in
+    let inside = (stripes_of-pair-requires c.before tt).1 in
     crossed (numbered_two s.pre.0) (omega arith) c.stripes_of-pair.ensures
 
 place : (c : goal.Else-work-d) → 2 * c.next_erased-d.result + 1 < length c.loop-size.stripes

@@ -7,9 +7,9 @@ use Rattle.tally.proofs.Counted.{erased-inside, table-place}
 use Rattle.tally.proofs.table.stripes_of.Goals as goal
 
 pub read-requires : goal.read-requires
-read-requires c = let p = c.requires in table-place p.0 _ p.1
+read-requires c = let p = c.requires in table-place p.table _ p.disk_value
 
 pub returns : goal.returns
 returns c =
-    c.requires.0.listed c.args.disk (erased-inside c.requires.0 _ c.requires.1) c.requires.1
-    ∙ sym (ap₂ (λ (a b : ℕ). a ∷ b ∷ []) c.read.ensures.0 c.read.ensures.1)
+    c.requires.table.listed c.args.disk (erased-inside c.requires.table _ c.requires.disk_value) c.requires.disk_value
+    ∙ sym (ap₂ (λ (a b : ℕ). a ∷ b ∷ []) c.read.ensures.low c.read.ensures.high)

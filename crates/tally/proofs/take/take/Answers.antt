@@ -5,36 +5,44 @@ use Rattle.stripes.specs.Erased.{erasures}
 use Rattle.model.specs.Grid.{layout_of}
 use Rattle.tally.proofs.Counted.{Crossed, erased_crossed, can_lower, can_lower_next, tallied_less}
 use Rattle.layout.proofs.Runs.{numbered_two}
+use Rattle.tally.proofs.take.take.Goals.{After-stripes_of-pair}
 use Rattle.tally.proofs.take.take.Goals as goal
 
-pub stripes_of-pair-requires : goal.stripes_of-pair-requires
-stripes_of-pair-requires c = let p = c.requires in (p.1.0.table, p.1.1)
+pub stripes_of-pair-requires-clause-table : goal.stripes_of-pair-requires-clause-table
+stripes_of-pair-requires-clause-table c =
+    let p = c.requires in
+    p.tallied_2.table
+
+pub stripes_of-pair-requires-clause-disk_value : goal.stripes_of-pair-requires-clause-disk_value
+stripes_of-pair-requires-clause-disk_value c =
+    let p = c.requires in
+    p.disk_value
 
 -- The disk with its stripes.
 pair : (c : goal.After-stripes_of-pair) →
     let a = c.args in
     Crossed (layout_of a.size a.base) a.disk c.stripes_of-pair.result.low c.stripes_of-pair.result.high
 pair c =
-    erased_crossed c.requires.1.0.table _ c.requires.1.1 (numbered_two c.requires.0) c.stripes_of-pair.ensures
+    erased_crossed c.requires.tallied_2.table _ c.requires.disk_value (numbered_two c.requires.numbered) c.stripes_of-pair.ensures
 
 pub bounds-work-disk : goal.bounds-work-disk
-bounds-work-disk c = omega (arith, (pair (goal.at.bounds-work-disk c).After-stripes_of-pair).disk, c.requires.1.0.table.disks_fit)
+bounds-work-disk c = omega (arith, (pair (goal.at.bounds-work-disk c).After-stripes_of-pair).disk, c.requires.tallied_2.table.disks_fit)
 
 pub lower-requires : goal.lower-requires
 lower-requires c =
-    can_lower (pair (goal.at.lower-requires c).After-stripes_of-pair) (erasures c.args.work.now) c.requires.1.1 c.requires.1.0.counted
+    can_lower (pair (goal.at.lower-requires c).After-stripes_of-pair) (erasures c.args.work.now) c.requires.disk_value c.requires.tallied_2.counted
 
 pub lower-requires-2 : goal.lower-requires-2
 lower-requires-2 c =
-    can_lower_next (pair (goal.at.lower-requires-2 c).After-stripes_of-pair) (erasures c.args.work.now) c.requires.1.1 c.requires.1.0.counted
+    can_lower_next (pair (goal.at.lower-requires-2 c).After-stripes_of-pair) (erasures c.args.work.now) c.requires.disk_value c.requires.tallied_2.counted
     c.lower.ensures
 
 pub returns-clause-erased : goal.returns-clause-erased
 returns-clause-erased c =
-    let t = tallied_less (pair (goal.at.returns-clause-erased c).After-stripes_of-pair) c.requires.1.0 c.requires.1.1 c.lower.ensures c.lower-2.ensures in
+    let t = tallied_less (pair (goal.at.returns-clause-erased c).After-stripes_of-pair) c.requires.tallied_2 c.requires.disk_value c.lower.ensures c.lower-2.ensures in
     t.0
 
 pub returns-clause-tallied : goal.returns-clause-tallied
 returns-clause-tallied c =
-    let t = tallied_less (pair (goal.at.returns-clause-tallied c).After-stripes_of-pair) c.requires.1.0 c.requires.1.1 c.lower.ensures c.lower-2.ensures in
+    let t = tallied_less (pair (goal.at.returns-clause-tallied c).After-stripes_of-pair) c.requires.tallied_2 c.requires.disk_value c.lower.ensures c.lower-2.ensures in
     t.1

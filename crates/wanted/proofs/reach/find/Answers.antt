@@ -8,20 +8,20 @@ use Rattle.solve.proofs.Memory.{room-made}
 use Rattle.wanted.proofs.reach.find.Goals as goal
 
 pub slice_bounds-others-end : goal.slice_bounds-others-end
-slice_bounds-others-end c = let p = c.requires in map-few _ _ p.0 _ p.1.0
+slice_bounds-others-end c = let p = c.requires in map-few _ _ p.numbered _ p.map_value
 
 pub slice_bounds-find_in-end : goal.slice_bounds-find_in-end
-slice_bounds-find_in-end c = sym (length-take-le _ _ (array-borrow-prefix-others c.before))
+slice_bounds-find_in-end c = sym (length-take-le _ _ (slice_bounds-others-end c.before))
 
 pub slice_bounds-work-end : goal.slice_bounds-work-end
-slice_bounds-work-end c = let p = c.requires in map-few _ _ p.0 _ p.1.0
+slice_bounds-work-end c = let p = c.requires in map-few _ _ p.numbered _ p.map_value
 
 pub slice_bounds-find_in-end-3 : goal.slice_bounds-find_in-end-3
-slice_bounds-find_in-end-3 c = sym (length-take-le _ _ (array-borrow-prefix-work c.before))
+slice_bounds-find_in-end-3 c = sym (length-take-le _ _ (slice_bounds-work-end c.before))
 
 pub find_in-requires : goal.find_in-requires
 find_in-requires c =
     let p = c.requires in
-    let work = slice-aggregate-find-in-3 c.before.before.before in
-    let others = slice-aggregate-find-in c.before.before.before.before.before in
-    (p.0, (p.1.0, (p.1.1.0, (stripes_few p.0, (room-made _ _ p.0 _ p.1.0 work refl refl p.1.1.1, sym others ∙ work)))))
+    let work = slice_bounds-find_in-end-3 c.before.before.before in
+    let others = slice_bounds-find_in-end c.before.before.before.before.before in
+    (p.numbered, (p.map_value, (p.disk_value, (stripes_few p.numbered, (room-made _ _ p.numbered _ p.map_value work refl refl p.capacity_in_bounds, sym others ∙ work)))))

@@ -15,6 +15,7 @@ use Rattle.layout.proofs.Runs.{numbered_two}
 use Rattle.tally.proofs.Counted.{Crossed, crossed}
 use Rattle.solve.proofs.Memory.{map-disks, same-room}
 use Rattle.wanted.proofs.Reached.{listed-on, listed-lower, listed-higher, side_number, tried_at, found_first, found_second}
+use Rattle.wanted.proofs.reach.find_in.Goals.{After-stripes_of-pair, Start}
 use Rattle.wanted.proofs.reach.find_in.Goals as goal
 
 -- The disk is one of the map.
@@ -23,18 +24,24 @@ inside s = is_inside (length s.args.map.now) (erasures s.args.map.now) (past_end
 
 pub load_others-requires : goal.load_others-requires
 load_others-requires c =
-    let room = c.requires.1.1.1.1.0 in
-    let same = c.requires.1.1.1.1.1 in
+    let room = c.requires.room in
+    let same = c.requires.others_len in
     let a = room.disks_fit in
     let b = room.table_fits in
-    let long = map-disks _ c.args.base _ c.requires.1.0 in
-    (c.requires.0, (c.requires.1.0, (inside (goal.at.load_others-requires c).Start, (omega arith, (omega arith, (room.stripes_fit, c.requires.1.1.1.0))))))
+    let long = map-disks _ c.args.base _ c.requires.map_value in
+    (c.requires.numbered, (c.requires.map_value, (inside (goal.at.load_others-requires c).Start, (omega arith, (omega arith, (room.stripes_fit, c.requires.base_in_bounds))))))
 
-pub stripes_of-pair-requires : goal.stripes_of-pair-requires
-stripes_of-pair-requires c =
-    let l = inside (goal.at.stripes_of-pair-requires c).Start in
-    let long = map-length _ _ c.requires.1.0 in
-    (c.requires.0, omega arith)
+pub stripes_of-pair-requires-clause-numbered : goal.stripes_of-pair-requires-clause-numbered
+stripes_of-pair-requires-clause-numbered c =
+    let l = inside (goal.at.stripes_of-pair-requires-clause-numbered c).Start in
+    let long = map-length _ _ c.requires.map_value in
+    c.requires.numbered
+
+pub stripes_of-pair-requires-clause-disk_bound : goal.stripes_of-pair-requires-clause-disk_bound
+stripes_of-pair-requires-clause-disk_bound c =
+    let l = inside (goal.at.stripes_of-pair-requires-clause-disk_bound c).Start in
+    let long = map-length _ _ c.requires.map_value in
+    omega arith
 
 -- What was loaded, and where the code began.
 abbrev loaded : goal.After-stripes_of-pair → goal.After-load_others

@@ -9,18 +9,18 @@ use Rattle.wanted.proofs.reach.load_others.Goals as goal
 pub tally-requires : goal.tally-requires
 tally-requires c =
     let loaded = others_loaded c.args.map.now _ c.args.disk c.copy.ensures in
-    let long = map-length _ _ c.requires.1.0 in
-    let room = c.requires.1.1.1.0 in
-    let table = c.requires.1.1.1.1.0 in
+    let long = map-length _ _ c.requires.map_value in
+    let room = c.requires.map_in_bounds in
+    let table = c.requires.others_in_bounds in
     let same = c.copy.auto.1.0 in
-    (c.requires.0, (rw (length-set _ _ _) (omega arith), (λ d h. others_outside c.args.map.now _ c.args.disk loaded d (omega arith), (rw (length-set _ _ _) (omega arith), c.requires.1.1.1.1.1.0))))
+    (c.requires.numbered, (rw (length-set _ _ _) (omega arith), (λ d h. others_outside c.args.map.now _ c.args.disk loaded d (omega arith), (rw (length-set _ _ _) (omega arith), c.requires.stripe_limit_in_bounds))))
 
 pub join_all-requires : goal.join_all-requires
 join_all-requires c =
     let p = c.requires in
-    (p.0, (c.tally.ensures.1.table, p.1.1.1.1.1.1))
+    (p.numbered, (c.tally.ensures.tallied.table, p.base_in_bounds))
 
 pub returns : goal.returns
 returns c =
     let loaded = others_loaded c.args.map.now _ c.args.disk c.copy.ensures in
-    record { erased = loaded; table = c.tally.ensures.1.table; parted = parted-same loaded c.join_all.ensures }
+    record { erased = loaded; table = c.tally.ensures.tallied.table; parted = parted-same loaded c.join_all.ensures }

@@ -13,34 +13,34 @@ use Rattle.wanted.proofs.reach.try_both.Goals as goal
 pub try_stripe-count-requires : goal.try_stripe-count-requires
 try_stripe-count-requires c =
     let p = c.requires in
-    (p.0, (p.1.0, (p.1.1.0, (p.1.1.1.0, (p.1.1.1.1.1.0, (p.1.1.1.1.1.1.0, p.1.1.1.1.1.1.1))))))
+    (p.numbered, (p.map_value, (p.disk_value, (p.first_value, (p.others, (p.room, p.others_len))))))
 
 pub returns-then-count-ne0 : goal.returns-then-count-ne0
 returns-then-count-ne0 c =
-    tried_first (numbered_two c.requires.0) (erasures c.args.map.now) c.args.disk c.requires.1.1.0 c.args.first c.args.second c.try_stripe-count.ensures c.if-count-ne0.true
+    tried_first (numbered_two c.requires.numbered) (erasures c.args.map.now) c.args.disk c.requires.disk_value c.args.first c.args.second c.try_stripe-count.ensures c.if-count-ne0.true
 
 pub tally-requires : goal.tally-requires
 tally-requires c =
-    let o = c.requires.1.1.1.1.1.0 in
-    let room = c.requires.1.1.1.1.1.1.0 in
+    let o = c.requires.others in
+    let room = c.requires.room in
     let a = o.table.disks_fit in
     let b = room.table_fits in
     let d = room.stripes_fit in
-    let same = c.requires.1.1.1.1.1.1.1 in
+    let same = c.requires.others_len in
     let few = layout-disks c.args.size c.args.base in
-    let long = map-length _ _ c.requires.1.0 in
+    let long = map-length _ _ c.requires.map_value in
     let stripes = c.try_stripe-count.auto.1.1.1.1.1.1.1.1.0 in
     let counts = c.try_stripe-count.auto.1.1.1.1.1.1.1.1.1.0 in
-    (c.requires.0, (omega arith, (λ i h. others_outside c.args.map.now _ c.args.disk o.erased i (omega arith), (omega arith, omega arith))))
+    (c.requires.numbered, (omega arith, (λ i h. others_outside c.args.map.now _ c.args.disk o.erased i (omega arith), (omega arith, omega arith))))
 
 pub try_stripe-requires : goal.try_stripe-requires
 try_stripe-requires c =
     let p = c.requires in
-    let o = p.1.1.1.1.1.0 in
+    let o = p.others in
     let k = c.try_stripe-count.auto in
     let m = c.tally.auto in
-    (p.0, (p.1.0, (p.1.1.0, (p.1.1.1.1.0, (record { erased = o.erased; table = c.tally.ensures.1.table; parted = o.parted }, (same-room p.1.1.1.1.1.1.0 k.1.1.1.1.1.1.1.0 (m.1.1.1.0 ∙ k.1.1.1.1.1.1.1.1.0) (m.1.1.1.1.0 ∙ k.1.1.1.1.1.1.1.1.1.0) k.1.1.1.1.1.1.1.1.1.1.0, p.1.1.1.1.1.1.1 ∙ sym k.1.1.1.1.1.1.1.0))))))
+    (p.numbered, (p.map_value, (p.disk_value, (p.second_value, (record { erased = o.erased; table = c.tally.ensures.tallied.table; parted = o.parted }, (same-room p.room k.1.1.1.1.1.1.1.0 (m.1.1.1.0 ∙ k.1.1.1.1.1.1.1.1.0) (m.1.1.1.1.0 ∙ k.1.1.1.1.1.1.1.1.1.0) k.1.1.1.1.1.1.1.1.1.1.0, p.others_len ∙ sym k.1.1.1.1.1.1.1.0))))))
 
 pub returns : goal.returns
 returns c =
-    tried_second (numbered_two c.requires.0) (erasures c.args.map.now) c.args.disk c.requires.1.1.0 c.args.first c.args.second _ c.try_stripe-count.ensures c.if-count-ne0.false c.try_stripe.ensures
+    tried_second (numbered_two c.requires.numbered) (erasures c.args.map.now) c.args.disk c.requires.disk_value c.args.first c.args.second _ c.try_stripe-count.ensures c.if-count-ne0.false c.try_stripe.ensures

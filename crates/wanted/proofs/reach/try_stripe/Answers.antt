@@ -17,6 +17,7 @@ use Rattle.entries.specs.Listed.{capacity}
 use Rattle.wanted.proofs.Loaded.{side_outside}
 use Rattle.wanted.proofs.Near.{sideWith}
 use Rattle.wanted.proofs.Reached.{loaded_side, held-few, tried_none, tried_list}
+use Rattle.wanted.proofs.reach.try_stripe.Goals.{After-peel-made, Start}
 use Rattle.wanted.proofs.reach.try_stripe.Goals as goal
 
 -- The disk is one of the grid, and its stripe has a place in every table.
@@ -32,33 +33,33 @@ bound s = on-bound _ (numbered_two s.requires.0) _ (inside s) _ s.requires.1.1.1
 pub bounds-parts-stripe : goal.bounds-parts-stripe
 bounds-parts-stripe c =
     let low = bound (goal.at.bounds-parts-stripe c).Start in
-    let fit = c.requires.1.1.1.1.0.parted.stripes_fit in
+    let fit = c.requires.others.parted.stripes_fit in
     omega arith
 
 pub load-requires : goal.load-requires
 load-requires c =
-    let o = c.requires.1.1.1.1.0 in
-    let room = c.requires.1.1.1.1.1.0.disks_fit in
-    let same = c.requires.1.1.1.1.1.1 in
-    let long = map-disks _ c.args.base _ c.requires.1.0 in
-    (c.requires.0, (o.table, (o.parted.stripes_fit, (omega arith, (omega arith, λ i h. without_sub _ c.args.disk i (sym (ap (λ (f : ℕ → Bool). f i) o.erased) ∙ h))))))
+    let o = c.requires.others in
+    let room = c.requires.room.disks_fit in
+    let same = c.requires.others_len in
+    let long = map-disks _ c.args.base _ c.requires.map_value in
+    (c.requires.numbered, (o.table, (o.parted.stripes_fit, (omega arith, (omega arith, λ i h. without_sub _ c.args.disk i (sym (ap (λ (f : ℕ → Bool). f i) o.erased) ∙ h))))))
 
 pub tally-erased-requires : goal.tally-erased-requires
 tally-erased-requires c =
-    let o = c.requires.1.1.1.1.0 in
-    let room = c.requires.1.1.1.1.1.0 in
+    let o = c.requires.others in
+    let room = c.requires.room in
     let a = room.disks_fit in
     let b = room.table_fits in
     let few = layout-disks c.args.size c.args.base in
-    let long = map-length _ _ c.requires.1.0 in
+    let long = map-length _ _ c.requires.map_value in
     let same = c.load.auto.1.1.1.1.1.1.1.0 in
-    (c.requires.0, (omega arith, (λ d h. side_outside (layout_of c.args.size c.args.base) c.args.map.now c.args.others.now c.args.parts.now _ c.args.disk o.erased _ c.load.ensures d (omega arith), (omega arith, room.stripes_fit))))
+    (c.requires.numbered, (omega arith, (λ d h. side_outside (layout_of c.args.size c.args.base) c.args.map.now c.args.others.now c.args.parts.now _ c.args.disk o.erased _ c.load.ensures d (omega arith), (omega arith, room.stripes_fit))))
 
 pub peel-made-requires : goal.peel-made-requires
 peel-made-requires c =
     let p = c.requires in
     let (number, tallied) = c.tally-erased.ensures in
-    (p.0, (number, (tallied, p.1.1.1.1.1.0.list_fits)))
+    (p.numbered, (number, (tallied, p.room.list_fits)))
 
 -- Where the code began, and what was done since.
 abbrev tallied : goal.After-peel-made → goal.After-tally-erased

@@ -8,6 +8,7 @@ use Rattle.model.specs.Grid.{layout_of}
 use Rattle.layout.proofs.Runs.{numbered_two}
 use Rattle.tally.proofs.Counted.{Crossed, erased_crossed}
 use Rattle.parts.proofs.Parted.{crossed_places, lower_crossed}
+use Rattle.wanted.proofs.side.is_in.Goals.{After-stripes_of-pair}
 use Rattle.wanted.proofs.side.is_in.Goals as goal
 
 -- Where the code began.

@@ -13,10 +13,11 @@ use Rattle.model.specs.Grid.{layout_of}
 use Rattle.tally.specs.Tally.{Passed}
 use Rattle.tally.proofs.Scanned.{next_passed, next_erased_lem}
 use Rattle.wanted.proofs.Sided.{Sided, sided_none, sided_over, sided_next, sided_all}
+use Rattle.wanted.proofs.side.load.Goals.{After-next_erased-d, At-loop-size, Else-others-d, Joined-not-is_in}
 use Rattle.wanted.proofs.side.load.Goals as goal
 
 pub copy-requires : goal.copy-requires
-copy-requires c = c.requires.1.1.1.0
+copy-requires c = c.requires.map_in_bounds
 
 pub loop-size-init : goal.loop-size-init
 loop-size-init c = (sided_none _ _ _ _ _ c.copy.ensures, omega arith, refl)

@@ -15,6 +15,7 @@ use Rattle.tally.proofs.Scanned.{next_passed, next_erased_lem}
 use Rattle.tally.proofs.Counted.{erased-inside}
 use Rattle.wanted.specs.Side.{other_in}
 use Rattle.wanted.proofs.Sided.{Told, told_none, told_few, told_next, told_over, told_all}
+use Rattle.wanted.proofs.side.number.Goals.{After-next_erased-d, Else-others-d}
 use Rattle.wanted.proofs.side.number.Goals as goal
 
 pub loop-size-init : goal.loop-size-init

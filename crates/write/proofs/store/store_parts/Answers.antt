@@ -7,6 +7,7 @@ use borrow.Author.Rules.{rules}
 use Rattle.xor.proofs.Parts.{upto}
 use Rattle.write.specs.Store.{parts}
 use Rattle.write.proofs.Turns.{part_is, parts_next}
+use Rattle.write.proofs.store.store_parts.Goals.{In-loop-i}
 use Rattle.write.proofs.store.store_parts.Goals as goal
 
 -- The bytes of the turns up to this one.
@@ -40,20 +41,26 @@ add-requires-clause-w_in_bounds c =
 pub overflow_add-row : goal.overflow_add-row
 overflow_add-row c = let u = reach (goal.at.overflow_add-row c).In-loop-i in omega arith
 
-pub add-requires-in-loop-i : goal.add-requires-in-loop-i
-add-requires-in-loop-i c = let u = reach (goal.at.add-requires-in-loop-i c).In-loop-i in (search rules, omega arith)
+pub add-requires-in-loop-i-clause-w_in_bounds : goal.add-requires-in-loop-i-clause-w_in_bounds
+add-requires-in-loop-i-clause-w_in_bounds c =
+    let u = reach (goal.at.add-requires-in-loop-i-clause-w_in_bounds c).In-loop-i in
+    omega arith
 
 pub overflow_add-column : goal.overflow_add-column
 overflow_add-column c = let u = reach (goal.at.overflow_add-column c).In-loop-i in omega arith
 
-pub add-requires-in-loop-i-2 : goal.add-requires-in-loop-i-2
-add-requires-in-loop-i-2 c = let u = reach (goal.at.add-requires-in-loop-i-2 c).In-loop-i in (search rules, omega arith)
+pub add-requires-in-loop-i-2-clause-w_in_bounds : goal.add-requires-in-loop-i-2-clause-w_in_bounds
+add-requires-in-loop-i-2-clause-w_in_bounds c =
+    let u = reach (goal.at.add-requires-in-loop-i-2-clause-w_in_bounds c).In-loop-i in
+    omega arith
 
 pub overflow_add-corner : goal.overflow_add-corner
 overflow_add-corner c = let u = reach (goal.at.overflow_add-corner c).In-loop-i in omega arith
 
-pub add-requires-in-loop-i-3 : goal.add-requires-in-loop-i-3
-add-requires-in-loop-i-3 c = let u = reach (goal.at.add-requires-in-loop-i-3 c).In-loop-i in (search rules, omega arith)
+pub add-requires-in-loop-i-3-clause-w_in_bounds : goal.add-requires-in-loop-i-3-clause-w_in_bounds
+add-requires-in-loop-i-3-clause-w_in_bounds c =
+    let u = reach (goal.at.add-requires-in-loop-i-3-clause-w_in_bounds c).In-loop-i in
+    omega arith
 
 pub loop-i-preserved : goal.loop-i-preserved
 loop-i-preserved c =
@@ -66,7 +73,7 @@ loop-i-preserved c =
     let s = c.add-in-loop-i-3 in (
       omega (arith, c.loop-i-test.true),
       omega arith,
-      part_is a.at a.«data».now a.w l.array (a.from + a.w * l.i) v.result o.new.0 p.new.0 q.new.0 s.new.0 v.ensures o.ensures p.ensures q.ensures s.ensures
+      part_is a.at a.«data».now a.w l.array (a.from + a.w * l.i) v.result o.new.a p.new.a q.new.a s.new.a v.ensures o.ensures p.ensures q.ensures s.ensures
           ∙ parts_next a.at a.«data».now a.w a.from a.array.now l.array l.i l.invariant.2,
     )
 

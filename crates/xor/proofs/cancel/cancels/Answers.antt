@@ -9,6 +9,7 @@ use borrow.Author.Rules.{rules}
 use borrow.Author.Tests.{not-true, not-false}
 use Rattle.xor.specs.Strided.{strided, cancelled}
 use Rattle.xor.proofs.Parts.{zero-after, zero_fails}
+use Rattle.xor.proofs.cancel.cancels.Goals.{Else-not-parts_cancel-3}
 use Rattle.xor.proofs.cancel.cancels.Goals as goal
 
 -- What has passed after the parts of 128 bytes, after those of 32, and after those of 16.
@@ -41,7 +42,7 @@ returns-then-len-lt16 c =
     c.few_cancel.ensures
 
 pub parts_cancel-requires : goal.parts_cancel-requires
-parts_cancel-requires c = (search rules, (λ k h. omega (arith, c.requires.0 k h), omega arith))
+parts_cancel-requires c = (search rules, (λ k h. omega (arith, c.requires.within k h), omega arith))
 
 pub returns-then-not-parts_cancel : goal.returns-then-not-parts_cancel
 unfolding cancelled
@@ -51,7 +52,7 @@ returns-then-not-parts_cancel c =
     (sym c.parts_cancel.ensures ∙ not-true _ c.if-not-parts_cancel.true)
 
 pub parts_cancel-requires-2 : goal.parts_cancel-requires-2
-parts_cancel-requires-2 c = (search rules, (λ k h. omega (arith, c.requires.0 k h), omega arith))
+parts_cancel-requires-2 c = (search rules, (λ k h. omega (arith, c.requires.within k h), omega arith))
 
 pub returns-then-not-parts_cancel-2 : goal.returns-then-not-parts_cancel-2
 unfolding cancelled
@@ -61,7 +62,7 @@ returns-then-not-parts_cancel-2 c =
     (sym c.parts_cancel-2.ensures ∙ not-true _ c.if-not-parts_cancel-2.true)
 
 pub parts_cancel-requires-3 : goal.parts_cancel-requires-3
-parts_cancel-requires-3 c = (search rules, (λ k h. omega (arith, c.requires.0 k h), omega arith))
+parts_cancel-requires-3 c = (search rules, (λ k h. omega (arith, c.requires.within k h), omega arith))
 
 pub returns-then-not-parts_cancel-3 : goal.returns-then-not-parts_cancel-3
 unfolding cancelled
@@ -76,7 +77,7 @@ returns-then-len-eq0 c =
     sym (narrow (goal.at.returns-then-len-eq0 c).Else-not-parts_cancel-3) ∙ ap (λ (n : ℕ). cancelled n a.a.now a.first a.step a.count a.skip) (omega arith)
 
 pub parts_cancel-requires-4 : goal.parts_cancel-requires-4
-parts_cancel-requires-4 c = (search rules, (λ k h. omega (arith, c.requires.0 k h), omega arith))
+parts_cancel-requires-4 c = (search rules, (λ k h. omega (arith, c.requires.within k h), omega arith))
 
 pub returns : goal.returns
 unfolding cancelled

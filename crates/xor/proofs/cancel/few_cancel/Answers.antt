@@ -10,7 +10,7 @@ use Rattle.xor.proofs.Parts.{zero-after, zero_fails}
 use Rattle.xor.proofs.cancel.few_cancel.Goals as goal
 
 pub parts_cancel-requires : goal.parts_cancel-requires
-parts_cancel-requires c = (search rules, (λ k h. omega (arith, c.requires.0 k h), omega arith))
+parts_cancel-requires c = (search rules, (λ k h. omega (arith, c.requires.within k h), omega arith))
 
 pub returns-then-not-parts_cancel : goal.returns-then-not-parts_cancel
 unfolding cancelled
@@ -20,7 +20,7 @@ returns-then-not-parts_cancel c =
     (sym c.parts_cancel.ensures ∙ not-true _ c.if-not-parts_cancel.true)
 
 pub parts_cancel-requires-2 : goal.parts_cancel-requires-2
-parts_cancel-requires-2 c = (search rules, (λ k h. omega (arith, c.requires.0 k h), omega arith))
+parts_cancel-requires-2 c = (search rules, (λ k h. omega (arith, c.requires.within k h), omega arith))
 
 pub returns : goal.returns
 unfolding cancelled

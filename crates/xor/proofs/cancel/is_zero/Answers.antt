@@ -17,9 +17,9 @@ loop-i-init c = (search rules, refl)
 pub loop-i-preserved : goal.loop-i-preserved
 loop-i-preserved c =
     let l = c.loop-i in
-    (search rules, zero-next (λ j. get_or c.args.t1 j 0) l.i l.any l.invariant.1)
+    (search rules, zero-next (λ j. get_or c.args.v j 0) l.i l.any l.invariant.1)
 
 pub returns : goal.returns
 returns c =
     let l = c.loop-i in
-    l.invariant.1 ∙ ap (λ (n : ℕ). every n (zero_at c.args.t1)) (omega arith)
+    l.invariant.1 ∙ ap (λ (n : ℕ). every n (zero_at c.args.v)) (omega arith)

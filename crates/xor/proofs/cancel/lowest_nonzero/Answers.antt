@@ -15,16 +15,16 @@ pub loop-i-init : goal.loop-i-init
 loop-i-init c = (search rules, λ k h. absurd (not-suc-le-zero h))
 
 pub overflow_mul-i : goal.overflow_mul-i
-overflow_mul-i c = omega (arith, c.requires.1 c.loop-i.i (omega arith))
+overflow_mul-i c = omega (arith, c.requires.by_index_2 c.loop-i.i (omega arith))
 
 pub overflow_add-first : goal.overflow_add-first
-overflow_add-first c = omega (arith, c.requires.1 c.loop-i.i (omega arith))
+overflow_add-first c = omega (arith, c.requires.by_index_2 c.loop-i.i (omega arith))
 
 pub cancels-requires-clause-within : goal.cancels-requires-clause-within
-cancels-requires-clause-within c = c.requires.0 c.loop-i.i (omega arith)
+cancels-requires-clause-within c = c.requires.by_index c.loop-i.i (omega arith)
 
 pub cancels-requires-clause-len_in_bounds : goal.cancels-requires-clause-len_in_bounds
-cancels-requires-clause-len_in_bounds c = c.requires.1 c.loop-i.i (omega arith)
+cancels-requires-clause-len_in_bounds c = c.requires.by_index_2 c.loop-i.i (omega arith)
 
 pub returns-then-not-cancels : goal.returns-then-not-cancels
 returns-then-not-cancels c =

@@ -7,6 +7,7 @@ use native.Mathlib.Omega.{arith}
 use Rattle.xor.specs.Strided.{filled}
 use Rattle.xor.proofs.Parts.{filled_then}
 use Rattle.xor.proofs.Strided.{spaced_aside, spaced_later}
+use Rattle.xor.proofs.fill.fill.Goals.{After-fill_parts-3}
 use Rattle.xor.proofs.fill.fill.Goals as goal
 
 -- What is filled after the parts of 32 bytes, and after those of 16.

@@ -7,6 +7,7 @@ use borrow.Author.Rules.{rules}
 use Rattle.xor.specs.Strided.{strided, filled}
 use Rattle.xor.proofs.Parts.{filled_none, Turn, turn, turned}
 use Rattle.xor.proofs.Strided.{spaced_aside}
+use Rattle.xor.proofs.fill.fill_parts.Goals.{In-loop-i}
 use Rattle.xor.proofs.fill.fill_parts.Goals as goal
 
 -- What a turn may rely on.
@@ -14,14 +15,14 @@ reach : (c : goal.In-loop-i)
     → let a = c.args in Turn a.w a.parts a.a.now (a.first + a.skip * a.step) c.loop-i.i c.loop-i.a
 unfolding filled
 reach c =
-    turn c.args.w c.args.parts (spaced_aside c.requires.1)
+    turn c.args.w c.args.parts (spaced_aside c.requires.spaced)
     c.loop-i.i c.loop-i-test.true c.loop-i.a c.loop-i.invariant.1
 
 pub overflow_mul-target : goal.overflow_mul-target
-overflow_mul-target c = omega (arith, c.requires.1.within c.args.skip c.requires.1.one)
+overflow_mul-target c = omega (arith, c.requires.spaced.within c.args.skip c.requires.spaced.one)
 
 pub overflow_add-target : goal.overflow_add-target
-overflow_add-target c = omega (arith, c.requires.1.within c.args.skip c.requires.1.one)
+overflow_add-target c = omega (arith, c.requires.spaced.within c.args.skip c.requires.spaced.one)
 
 pub loop-i-init : goal.loop-i-init
 unfolding filled
@@ -35,10 +36,10 @@ overflow_mul-w c = let t = reach (goal.at.overflow_mul-w c).In-loop-i in omega a
 pub overflow_add-first : goal.overflow_add-first
 overflow_add-first c = let t = reach (goal.at.overflow_add-first c).In-loop-i in omega arith
 
-pub sum-v-requires : goal.sum-v-requires
-sum-v-requires c =
-    let t = reach (goal.at.sum-v-requires c).In-loop-i in
-    (search rules, λ k h. omega (arith, c.requires.1.within k h))
+pub sum-v-requires-clause-within : goal.sum-v-requires-clause-within
+sum-v-requires-clause-within c =
+    let t = reach (goal.at.sum-v-requires-clause-within c).In-loop-i in
+    λ k h. omega (arith, c.requires.spaced.within k h)
 
 pub overflow_mul-w-in-loop-i : goal.overflow_mul-w-in-loop-i
 overflow_mul-w-in-loop-i c = let t = reach (goal.at.overflow_mul-w-in-loop-i c).In-loop-i in omega arith
@@ -56,9 +57,9 @@ loop-i-preserved c =
     let v = c.sum-v in
     let p = c.put in (
       search rules,
-      turned c.args.w c.args.parts (spaced_aside c.requires.1) l.i
+      turned c.args.w c.args.parts (spaced_aside c.requires.spaced) l.i
           c.loop-i-test.true l.a
-          l.invariant.1 v.result p.new.0 v.ensures p.ensures,
+          l.invariant.1 v.result p.new.a v.ensures p.ensures,
     )
 
 pub returns : goal.returns

@@ -10,6 +10,7 @@ use borrow.Author.Tests.{not-true, not-false}
 use Rattle.xor.specs.Picked.{picked, picked_cancelled}
 use Rattle.xor.proofs.Parts.{zero-after, zero_fails}
 use Rattle.xor.proofs.Listed.{chosen_later}
+use Rattle.xor.proofs.picked.cancels.Goals.{Else-not-parts_cancel-3}
 use Rattle.xor.proofs.picked.cancels.Goals as goal
 
 -- What has passed after the parts of 128 bytes, after those of 32, and after those of 16.
@@ -42,7 +43,7 @@ returns-then-len-lt16 c =
     c.few_cancel.ensures
 
 pub parts_cancel-requires : goal.parts_cancel-requires
-parts_cancel-requires c = (search rules, (chosen_later 0 c.requires.0 (omega arith) refl (omega arith), omega arith))
+parts_cancel-requires c = (search rules, (chosen_later 0 c.requires.chosen (omega arith) refl (omega arith), omega arith))
 
 pub returns-then-not-parts_cancel : goal.returns-then-not-parts_cancel
 unfolding picked_cancelled
@@ -53,7 +54,7 @@ returns-then-not-parts_cancel c =
 
 pub parts_cancel-requires-2 : goal.parts_cancel-requires-2
 parts_cancel-requires-2 c =
-    (search rules, (chosen_later (128 * (c.args.len / 128)) c.requires.0 (omega arith) refl refl, omega arith))
+    (search rules, (chosen_later (128 * (c.args.len / 128)) c.requires.chosen (omega arith) refl refl, omega arith))
 
 pub returns-then-not-parts_cancel-2 : goal.returns-then-not-parts_cancel-2
 unfolding picked_cancelled
@@ -64,7 +65,7 @@ returns-then-not-parts_cancel-2 c =
 
 pub parts_cancel-requires-3 : goal.parts_cancel-requires-3
 parts_cancel-requires-3 c =
-    (search rules, (chosen_later (c.args.len - c.args.len % 32) c.requires.0 (omega arith) refl refl, omega arith))
+    (search rules, (chosen_later (c.args.len - c.args.len % 32) c.requires.chosen (omega arith) refl refl, omega arith))
 
 pub returns-then-not-parts_cancel-3 : goal.returns-then-not-parts_cancel-3
 unfolding picked_cancelled
@@ -80,7 +81,7 @@ returns-then-len-eq0 c =
 
 pub parts_cancel-requires-4 : goal.parts_cancel-requires-4
 parts_cancel-requires-4 c =
-    (search rules, (chosen_later (c.args.len - 16) c.requires.0 (omega arith) refl refl, omega arith))
+    (search rules, (chosen_later (c.args.len - 16) c.requires.chosen (omega arith) refl refl, omega arith))
 
 pub returns : goal.returns
 unfolding picked_cancelled

@@ -12,7 +12,7 @@ use Rattle.xor.proofs.Listed.{chosen_later}
 use Rattle.xor.proofs.picked.few_cancel.Goals as goal
 
 pub parts_cancel-requires : goal.parts_cancel-requires
-parts_cancel-requires c = (search rules, (chosen_later 0 c.requires.0 (omega arith) refl (omega arith), omega arith))
+parts_cancel-requires c = (search rules, (chosen_later 0 c.requires.chosen (omega arith) refl (omega arith), omega arith))
 
 pub returns-then-not-parts_cancel : goal.returns-then-not-parts_cancel
 unfolding picked_cancelled
@@ -23,7 +23,7 @@ returns-then-not-parts_cancel c =
 
 pub parts_cancel-requires-2 : goal.parts_cancel-requires-2
 parts_cancel-requires-2 c =
-    (search rules, (chosen_later (8 * (c.args.len / 8)) c.requires.0 (omega arith) refl refl, omega arith))
+    (search rules, (chosen_later (8 * (c.args.len / 8)) c.requires.chosen (omega arith) refl refl, omega arith))
 
 pub returns : goal.returns
 unfolding picked_cancelled

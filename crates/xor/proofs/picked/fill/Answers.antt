@@ -7,6 +7,7 @@ use native.Mathlib.Omega.{arith}
 use Rattle.xor.specs.Picked.{picked_filled}
 use Rattle.xor.proofs.Parts.{filled_then}
 use Rattle.xor.proofs.Listed.{beside_aside, beside_later}
+use Rattle.xor.proofs.picked.fill.Goals.{After-fill_parts-3}
 use Rattle.xor.proofs.picked.fill.Goals as goal
 
 -- What is picked_filled after the parts of 32 bytes, and after those of 16.

@@ -20,10 +20,10 @@ overflow_mul-w c = omega (arith, upto c.args.w c.loop-i-test.true)
 pub overflow_add-first : goal.overflow_add-first
 overflow_add-first c = omega (arith, upto c.args.w c.loop-i-test.true)
 
-pub sum-v-requires : goal.sum-v-requires
-sum-v-requires c =
+pub sum-v-requires-clause-chosen : goal.sum-v-requires-clause-chosen
+sum-v-requires-clause-chosen c =
     let u = upto c.args.w c.loop-i-test.true in
-    (search rules, record { listed = c.requires.1.0.listed; within = λ k h. omega (arith, c.requires.1.0.within k h) })
+    record { listed = c.requires.chosen.listed; within = λ k h. omega (arith, c.requires.chosen.within k h) }
 
 pub returns-then-not-is_zero : goal.returns-then-not-is_zero
 unfolding picked_cancelled

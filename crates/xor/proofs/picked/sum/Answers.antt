@@ -16,22 +16,22 @@ unfolding picked xsum
 loop-k-init c = let a = c.args in (search rules, holds_none a.w a.first 128 (omega arith) _ (λ j. refl))
 
 pub offset_bounds-list-k : goal.offset_bounds-list-k
-offset_bounds-list-k c = let h = c.requires.1.listed in omega arith
+offset_bounds-list-k c = let h = c.requires.chosen.listed in omega arith
 
 pub bounds-list-k : goal.bounds-list-k
-bounds-list-k c = let h = c.requires.1.listed in omega arith
+bounds-list-k c = let h = c.requires.chosen.listed in omega arith
 
 pub overflow_cast-number : goal.overflow_cast-number
 overflow_cast-number c = omega (arith, c.shared_slice_known-in-loop-k-1.given c.loop-k.k)
 
 pub overflow_mul-number : goal.overflow_mul-number
-overflow_mul-number c = omega (arith, c.requires.1.within c.loop-k.k (omega arith))
+overflow_mul-number c = omega (arith, c.requires.chosen.within c.loop-k.k (omega arith))
 
 pub overflow_add-first : goal.overflow_add-first
-overflow_add-first c = omega (arith, c.requires.1.within c.loop-k.k (omega arith))
+overflow_add-first c = omega (arith, c.requires.chosen.within c.loop-k.k (omega arith))
 
-pub mix-more-requires : goal.mix-more-requires
-mix-more-requires c = (search rules, c.requires.1.within c.loop-k.k (omega arith))
+pub mix-more-requires-clause-w_in_bounds : goal.mix-more-requires-clause-w_in_bounds
+mix-more-requires-clause-w_in_bounds c = c.requires.chosen.within c.loop-k.k (omega arith)
 
 pub loop-k-preserved : goal.loop-k-preserved
 loop-k-preserved c =

@@ -18,9 +18,9 @@ unfolding ◌⊕◌
 loop-i-preserved c =
     let a = c.args in
     let l = c.loop-i in
-    (search rules, simp length-set l.invariant.1, added_next a.a.now a.at (λ j. get_or a.t3 j 0) l.i l.a l.invariant.2 (omega arith))
+    (search rules, simp length-set l.invariant.1, added_next a.a.now a.at (λ j. get_or a.v j 0) l.i l.a l.invariant.2 (omega arith))
 
 pub returns : goal.returns
 returns c =
     let a = c.args in
-    c.loop-i.invariant.2 ∙ ap (λ (n : ℕ). added a.a.now a.at n (λ j. get_or a.t3 j 0)) (omega arith)
+    c.loop-i.invariant.2 ∙ ap (λ (n : ℕ). added a.a.now a.at n (λ j. get_or a.v j 0)) (omega arith)

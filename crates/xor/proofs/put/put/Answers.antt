@@ -17,9 +17,9 @@ pub loop-i-preserved : goal.loop-i-preserved
 loop-i-preserved c =
     let a = c.args in
     let l = c.loop-i in
-    (search rules, simp length-set l.invariant.1, ap (λ (x : List ℕ). set x (a.at + l.i) (get_or a.t3 l.i 0)) l.invariant.2 ∙ stored_next a.a.now a.at l.i (λ j. get_or a.t3 j 0) _ refl (omega arith))
+    (search rules, simp length-set l.invariant.1, ap (λ (x : List ℕ). set x (a.at + l.i) (get_or a.v l.i 0)) l.invariant.2 ∙ stored_next a.a.now a.at l.i (λ j. get_or a.v j 0) _ refl (omega arith))
 
 pub returns : goal.returns
 returns c =
     let a = c.args in
-    c.loop-i.invariant.2 ∙ ap (λ (n : ℕ). stored a.a.now a.at n (λ j. get_or a.t3 j 0)) (omega arith)
+    c.loop-i.invariant.2 ∙ ap (λ (n : ℕ). stored a.a.now a.at n (λ j. get_or a.v j 0)) (omega arith)

@@ -16,13 +16,13 @@ unfolding strided xsum
 loop-k-init c = let a = c.args in (search rules, holds_none a.w a.first 128 (omega arith) _ (λ j. refl))
 
 pub overflow_mul-k : goal.overflow_mul-k
-overflow_mul-k c = omega (arith, c.requires.1 c.loop-k.k (omega arith))
+overflow_mul-k c = omega (arith, c.requires.within c.loop-k.k (omega arith))
 
 pub overflow_add-first : goal.overflow_add-first
-overflow_add-first c = omega (arith, c.requires.1 c.loop-k.k (omega arith))
+overflow_add-first c = omega (arith, c.requires.within c.loop-k.k (omega arith))
 
-pub mix-more-requires : goal.mix-more-requires
-mix-more-requires c = (search rules, c.requires.1 c.loop-k.k (omega arith))
+pub mix-more-requires-clause-w_in_bounds : goal.mix-more-requires-clause-w_in_bounds
+mix-more-requires-clause-w_in_bounds c = c.requires.within c.loop-k.k (omega arith)
 
 pub loop-k-preserved : goal.loop-k-preserved
 loop-k-preserved c =
