@@ -1,0 +1,137 @@
+-- What the plan for a disk answers, and the sheet after it, in each case.
+-- Assumes nothing.
+use mathlib.Core.Path.{◌≡◌, refl, sym, ◌∙◌, ap}
+use mathlib.Core.Bool.{Bool, true, false}
+use mathlib.Core.List.{List, [], ◌∷◌}
+use Prim.Native.Nat.{ℕ, ◌≤◌, ◌<◌}
+use native.Mathlib.Omega.{arith}
+use borrow.Author.Tests.{le-ltb, lt-ltb, ltb-true}
+use lib.Dec.{eqb, ltb}
+use lib.ListN.{length, get_or, length-append}
+use Rattle.stripes.specs.System.{Layout}
+use Rattle.stripes.specs.Erased.{erasures}
+use Rattle.stripes.specs.Repair.{repairs, residual, fatal}
+use Rattle.stripes.specs.Wanted.{side_repairs, wanted_stripe, wanted_repairs}
+use Rattle.stripes.proofs.Fold.{by_cases, and_left, and_right}
+use Rattle.stripes.proofs.Peel.{is_fatal, repairs_peels}
+use Rattle.stripes.proofs.Wanted.{reached_of, wanted_is}
+use Rattle.stripes.proofs.Positions.{one-fatal}
+use Rattle.model.specs.Grid.{disks, size_fits, map_fits}
+use Rattle.model.specs.Refusal.{refusal}
+use Rattle.model.specs.Sheet.{narrow, sheet_of}
+use Rattle.model.specs.Plan.{sheet_tests, one_tests, sheet_layout, loss_outcome, loss_sheets}
+use Rattle.model.specs.PlanDisk.{can_be_wanted, plan_disk_tests, disk_outcome, disk_sheet, plan_disk_outcome, plan_disk_sheet}
+use Rattle.model.specs.declared.Size.{Size}
+use Rattle.model.specs.declared.Outcome.{Outcome}
+use Rattle.model.specs.declared.Outcome.TheVariants.{Repairs, Refused}
+use Rattle.model.proofs.Grid.{layout-disks, layout-two, map-length, rows-below}
+use Rattle.model.proofs.Refusal.{fails, passes, no_tests}
+use Rattle.model.proofs.Accept.{one-fits, one_passed}
+use Rattle.model.proofs.PlanDisk.{disk-first, disk_refused, disk_given}
+use Rattle.model.proofs.Limits.{peels_fitting}
+use Rattle.entries.specs.Listed.{listed}
+use Rattle.sheet.proofs.Fitting.{Small, listed-fits}
+use Rattle.plan.specs.Drafted.{draft_sheets}
+use Rattle.wanted.specs.Found.{Found}
+
+-- ---- the test of the disk, where the map is as long as the grid has disks
+module _ (z : Size) (m : List ℕ) (d : ℕ) where
+  pub outside : map_fits (disks z) m ≡ true → length m ≤ d → false ≡ can_be_wanted z m d
+  unfolding can_be_wanted
+  outside fits out = let long = map-length (disks z) m fits in rw (le-ltb d (disks z) (omega arith))
+
+  pub inside : map_fits (disks z) m ≡ true → d < length m → eqb (get_or m d 0) 1 ≡ can_be_wanted z m d
+  unfolding can_be_wanted erasures
+  inside fits l = let long = map-length (disks z) m fits in rw (lt-ltb d (disks z) (omega arith))
+
+  pub is-wanted : can_be_wanted z m d ≡ true → (d < (sheet_layout z).disks) × (erasures m d ≡ true)
+  unfolding can_be_wanted
+  is-wanted can =
+      let all = layout-disks z narrow.base in
+      let l = ltb-true d (disks z) (and_left (ltb d (disks z)) _ can) in
+      (omega arith, and_right (ltb d (disks z)) _ can)
+
+-- ---- what was found
+module _ (L : Layout) (e : ℕ → Bool) (d : ℕ) {count : ℕ} {list : List ℕ} (f : Found L e d count list) where
+  -- A list for a disk has the disk at least, so none was found exactly if plan's order leaves the disk.
+  none_left : count ≡ 0 → residual L e d ≡ true
+  unfolding wanted_repairs
+  none_left none =
+      by_cases (λ (b : Bool). b ≡ true) (residual L e d) (λ q. refl)
+      (λ q.
+      let long = length-append (side_repairs L e d (wanted_stripe L e d)) (record { disk = d; stripe = wanted_stripe L e d } ∷ []) in
+      let is : count ≡ length (wanted_repairs L e d) = f.number ∙ (rw q) in
+      absurd (omega arith))
+
+  some-reached : (count ≡ 0 → ⊥) → residual L e d ≡ false
+  some-reached some =
+      by_cases (λ (b : Bool). b ≡ false) (residual L e d) (λ q. absurd (some (f.number ∙ (rw q)))) (λ q. refl)
+
+-- ---- the tests of plan's arguments at one position
+module _ (z : Size) (m : List ℕ) (len : ℕ) where
+  pub size-first : size_fits z ≡ false → refusal (one_tests z m len) ≡ 1
+  unfolding one_tests
+  size-first size = fails 1 _ _ size
+
+  pub size-passed : size_fits z ≡ true → refusal (one_tests z m len) ≡ refusal (sheet_tests z 1 m len)
+  unfolding one_tests
+  size-passed size = passes 1 _ _ size
+
+-- ---- the call
+module _ (z : Size) (m sheet : List ℕ) (d : ℕ) where
+  -- The answer and the sheet are those of the definitions.
+  abbrev pub Answers : Outcome → (after : List ℕ) → Type 0
+  Answers answer after = (answer ≡ plan_disk_outcome z m sheet d) × (after ≡ plan_disk_sheet z m sheet d)
+
+  -- Refusals keep the sheet: those by plan's tests, and 15.
+  refused : (k : ℕ) → refusal (plan_disk_tests z m (length sheet) d) ≡ k → (k ≡ 0 → ⊥) → Answers (Refused k) sheet
+  refused k e n =
+      let (answer, left) = disk_refused z m sheet d (λ q. n (sym e ∙ q)) in (sym (answer ∙ ap Refused e), sym left)
+
+  pub refused-plan : (k : ℕ) → refusal (one_tests z m (length sheet)) ≡ k → (k ≡ 0 → ⊥) → Answers (Refused k) sheet
+  refused-plan k e n = refused k (disk-first z m (length sheet) d (λ q. n (sym e ∙ q)) ∙ e) n
+
+  module _ (ok : refusal (one_tests z m (length sheet)) ≡ 0) where
+    pub refused-disk : can_be_wanted z m d ≡ false → Answers (Refused 15) sheet
+    unfolding plan_disk_tests
+    refused-disk unfit = refused 15 (one_passed z m (length sheet) ok _ ∙ fails 15 _ _ unfit) (λ q. omega arith)
+
+    module _ (can : can_be_wanted z m d ≡ true) where
+      accepted : refusal (plan_disk_tests z m (length sheet) d) ≡ 0
+      unfolding plan_disk_tests
+      accepted = one_passed z m (length sheet) ok _ ∙ passes 15 _ _ can ∙ no_tests
+
+      module _ {count : ℕ} {list : List ℕ} (f : Found (sheet_layout z) (erasures m) d count list) where
+        -- Where no list was found, the loss is fatal, and plan's draft decides, whatever its limit.
+        pub unreached : count ≡ 0 → (k : ℕ) (answer : Outcome) (after : List ℕ) → answer ≡ loss_outcome 1 (sheet_layout z) (erasures m)
+            → after ≡ draft_sheets 1 (sheet_layout z) narrow (erasures m) k → Answers answer after
+        unfolding disk_outcome disk_sheet loss_sheets draft_sheets
+        unreached none k answer after outcome written =
+            let (l, erased) = is-wanted z m d can in
+            let left = none_left (sheet_layout z) (erasures m) d f none in
+            let lossy : fatal (sheet_layout z) (erasures m) ≡ true = (is_fatal (sheet_layout z) (erasures m)).1 (d, l, left) in
+            let same : draft_sheets 1 (sheet_layout z) narrow (erasures m) k ≡ disk_sheet (sheet_layout z) narrow (erasures m) d =
+            rw (left, one-fatal (sheet_layout z) (erasures m), lossy) in
+            let (gives, shows) = disk_given z m sheet d accepted in
+            (outcome ∙ sym (gives ∙ (rw left)), written ∙ same ∙ sym shows)
+
+        -- Otherwise its repairs fit a sheet, and are what is asked for.
+        pub small : (count ≡ 0 → ⊥) → Small list count
+        unfolding residual
+        small some =
+            let left = some-reached (sheet_layout z) (erasures m) d f some in
+            let (l, erased) = is-wanted z m d can in
+            let (size, map, long) = one-fits z m (length sheet) ok in
+            let reached = reached_of (sheet_layout z) d (repairs (sheet_layout z) (erasures m)) (erasures m) (repairs_peels (sheet_layout z) (erasures m)) erased left in
+            let w = wanted_is (sheet_layout z) (layout-two z narrow.base (rows-below z size)) (erasures m) d reached in
+            listed-fits (peels_fitting z size (erasures m) _ w.allowed_all) list count (f.entries left)
+
+        pub reaches : (count ≡ 0 → ⊥) → (after : List ℕ) → after ≡ sheet_of narrow 1 (listed list count) → Answers (Repairs count) after
+        unfolding disk_outcome disk_sheet
+        reaches some after written =
+            let left = some-reached (sheet_layout z) (erasures m) d f some in
+            let number : count ≡ length (wanted_repairs (sheet_layout z) (erasures m) d) = f.number ∙ (rw left) in
+            let (gives, shows) = disk_given z m sheet d accepted in (
+              ap Repairs number ∙ sym (gives ∙ (rw left)),
+              written ∙ ap (sheet_of narrow 1) (f.entries left) ∙ sym (shows ∙ (rw left)),
+            )
