@@ -79,7 +79,7 @@ loop-k-smaller c = let h = begun (goal.at.loop-k-smaller c).In-loop-k in omega a
 pub loop-k-preserved : goal.loop-k-preserved
 loop-k-preserved c =
     let (low, room) = begun (goal.at.loop-k-preserved c).In-loop-k in (
-      c.put.auto.0 ∙ c.loop-k.invariant.0,
+      c.put.auto.list ∙ c.loop-k.invariant.0,
       turn_next (given (start c.before.before.before.before.before.before.before.before.before.before)) c.loop-k.invariant.1 low room c.put.ensures c.partner-disk.ensures
           (λ e. c.if-disk-start.false (e ∙ sym c.next_erased-start.ensures)) _ c.stripes_of.ensures c.other_of-stripe.ensures,
     )

@@ -30,7 +30,7 @@ inside : (c : goal.In-loop-k) → get_or (start c.before).args.sheet.now (c.loop
 inside c =
     let low = noted-inside _ _ (start c.before).requires.1.1 (few c.before) c.loop-k.k c.loop-k-test.true in
     let same = c.loop-k.invariant.1 in
-    let kept = c.wipe.auto.0 in
+    let kept = c.wipe.auto.a in
     omega arith
 
 pub overflow_add-disk : goal.overflow_add-disk
@@ -58,6 +58,6 @@ loop-k-preserved c =
 pub returns : goal.returns
 returns c = λ yes.
     let (most, same, binary, marked) = c.loop-k.invariant in
-    let kept = c.wipe.auto.0 in
+    let kept = c.wipe.auto.a in
     subst (λ (N : ℕ). Loads N (start c.before).args.sheet.now c.loop-k.work) kept
     (marked_all _ _ c.loop-k.work same (few (goal.at.returns c).At-loop-k) c.loop-k.k marked binary c.loop-k-test.false)

@@ -23,7 +23,7 @@ use Rattle.notes.proofs.note_all.Goals as goal
 
 pub loop-sectors-init : goal.loop-sectors-init
 loop-sectors-init c =
-    (omega arith, c.zero_all.auto.0 ∙ c.requires.sheets_len, noted-none _ _ c.zero_all.ensures)
+    (omega arith, c.zero_all.auto.sheets ∙ c.requires.sheets_len, noted-none _ _ c.zero_all.ensures)
 
 -- Where the code began.
 abbrev start : goal.At-loop-sectors → goal.Start
@@ -110,7 +110,7 @@ loop-sectors-preserved c =
     let note = c.note in
     let below = c.if-map-i.false in
     let own = part_sheet narrow (i % (start c.before.before.before.before.before.before).args.sectors) c.loop-sectors.sheets in
-    let size : length note.new.sheet ≡ 98 = note.auto.0 ∙ ap length own ∙ part_length (goal.at.loop-sectors-preserved c).Else-map-i in (
+    let size : length note.new.sheet ≡ 98 = note.auto.sheet ∙ ap length own ∙ part_length (goal.at.loop-sectors-preserved c).Else-map-i in (
       omega arith,
       put_length _ c.loop-sectors.sheets c.loop-sectors.invariant.1 _ (at (goal.at.loop-sectors-preserved c).Else-map-i) note.new.sheet size,
       noted-next _ _ (some (goal.at.loop-sectors-preserved c).At-loop-sectors) c.loop-sectors.sheets c.loop-sectors.invariant.1 i (next_erased_lem _ _ c.next_erased-i.ensures below) _

@@ -11,7 +11,7 @@ use Rattle.reach.proofs.levels.Goals as goal
 pub loop-level-init : goal.loop-level-init
 loop-level-init c =
     let filled = c.fill in
-    let long = filled.auto.0 ∙ c.requires.levels_len in
+    let long = filled.auto.levels ∙ c.requires.levels_len in
     (omega arith, searched_none _ _ _ c.one-done.ensures, levelled-none _ _ _ filled.new.levels long c.requires.from_lt_word_stripes filled.ensures)
 
 pub returns-then-front-eq0 : goal.returns-then-front-eq0
@@ -32,7 +32,7 @@ loop-level-preserved c =
     let (few, searched, levelled) = c.loop-level.invariant in (
       omega arith,
       searched_next searched _ c.fresh-front.ensures,
-      levelled-next levelled turn searched _ c.fresh-front.ensures _ mark.auto.0 mark.ensures,
+      levelled-next levelled turn searched _ c.fresh-front.ensures _ mark.auto.levels mark.ensures,
     )
 
 pub returns : goal.returns

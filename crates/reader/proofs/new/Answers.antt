@@ -2,7 +2,7 @@
 -- A `&[u8]` is Copy, so what it owns is had twice: once for sheet at exit, and once inside the result, beside the facts of number.
 -- Assumes nothing.
 use mathlib.Core.Path.{refl}
-use mathlib.Core.List.{◌∷◌}
+use mathlib.Core.List.{[], ◌∷◌}
 use seplogic.Ra.Ura.{Ura}
 use base.Logic.{SProp}
 use prog.Memory.{Memory}

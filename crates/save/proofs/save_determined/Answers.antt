@@ -22,7 +22,7 @@ repair_all-requires c =
     let allowed = peels a.size a.base c.requires.numbered e list p.result number entries in
     let few = made-few a.size a.base c.requires.numbered e list p.result number entries in
     let room = c.requires.capacity_in_bounds in
-    let kept = p.auto.1.1.1.1.1.1.1.0 in (
+    let kept = p.auto.counts.1.1.1.1.1.1.0 in (
       c.requires.numbered,
       (
         c.requires.held,

@@ -1,7 +1,7 @@
 -- `series::rebuild_in_turns` meets its contract: each turn goes on from what those before it left.
 -- Assumes nothing.
 use mathlib.Core.Path.{◌≡◌, ap, ap₂}
-use mathlib.Core.List.{List, ◌++◌}
+use mathlib.Core.List.{List, [], ◌++◌}
 use Prim.Native.Nat.{ℕ, ◌+◌, ◌*◌, ◌-◌, ◌/◌, ◌≤◌}
 use native.Mathlib.Omega.{arith}
 use borrow.Rule.Slice.PartMut.{Post-is}

@@ -1,7 +1,7 @@
 -- `layout::stripe::stripes_of` meets its contract: the row and the column of the disk.
 -- Assumes nothing.
 use mathlib.Core.Path.{ap, sym}
-use mathlib.Core.List.{◌∷◌}
+use mathlib.Core.List.{[], ◌∷◌}
 use Prim.Native.Nat.{ℕ, ◌+◌, ◌/◌, ◌%◌, ◌<◌}
 use native.Mathlib.Nat.{mod-lt}
 use native.Mathlib.Omega.{arith}

@@ -30,7 +30,7 @@ start-requires-clause-bound_bound c =
 
 pub loop-size-init : goal.loop-size-init
 loop-size-init c =
-    let same = c.start.auto.0 in
+    let same = c.start.auto.parts in
     (parted-none _ (omega (arith, c.requires.base_in_bounds)) c.bound-bound.ensures c.start.ensures, omega arith, refl)
 
 -- Where the code began.
@@ -82,7 +82,7 @@ loop-size-smaller c = omega (arith, c.if-work-d.false, (passed (goal.at.loop-siz
 pub loop-size-preserved : goal.loop-size-preserved
 loop-size-preserved c =
     let unite = c.unite in (
-      parted-next (erased (goal.at.loop-size-preserved c).Else-work-d) (pair (goal.at.loop-size-preserved c).After-stripes_of-pair) (over (goal.at.loop-size-preserved c).After-next_erased-d) unite.auto.0 c.bound-bound.ensures unite.ensures,
+      parted-next (erased (goal.at.loop-size-preserved c).Else-work-d) (pair (goal.at.loop-size-preserved c).After-stripes_of-pair) (over (goal.at.loop-size-preserved c).After-next_erased-d) unite.auto.parts c.bound-bound.ensures unite.ensures,
       omega (arith, c.if-work-d.false),
       search rules,
     )

@@ -98,7 +98,7 @@ returns c =
     let unite = c.unite in
     let extend = c.extend in
     let bound = c.bound-bound.ensures in (
-      parted-next e.1.1.0 (pair (goal.at.returns c).After-stripes_of-pair) parted unite.auto.0 bound unite.ensures,
+      parted-next e.1.1.0 (pair (goal.at.returns c).After-stripes_of-pair) parted unite.auto.parts bound unite.ensures,
       (
         walked_next e.1.1.0 (pair (goal.at.returns c).After-stripes_of-pair) parted walked apart extend.auto.1.0 bound c.alone-own.ensures extend.ensures,
         answer_link e.1.1.0 (pair (goal.at.returns c).After-stripes_of-pair) parted walked apart,

@@ -33,8 +33,8 @@ clear-requires c =
 
 pub loop-size-init : goal.loop-size-init
 loop-size-init c =
-    let parts = c.start.auto.0 in
-    let ways = c.clear.auto.0 in
+    let parts = c.start.auto.parts in
+    let ways = c.clear.auto.ways in
     let is = c.bound-bound.ensures in (
       linking_none (parted-none _ (omega (arith, c.requires.base_in_bounds)) is c.start.ensures)
           (walked_none _ (omega (arith, c.requires.base_in_bounds_2)) is c.clear.ensures) refl,

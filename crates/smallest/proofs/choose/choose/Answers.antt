@@ -66,7 +66,7 @@ loop-d-init c =
     let wipe = c.wipe in
     over (goal.at.loop-d-init c).After-begin-ends
     (choosing_start (layout c.before.before.before.before.before.before.before.before.before.before.before) (numbered_two s.pre.0) (stripes_few s.pre.0) s.pre.1.1.0 (ends (goal.at.loop-d-init c).After-begin-ends) c.begin-ends.ensures.measured
-    c.begin-ends.ensures.left (ap erasures wipe.ensures ∙ wiped_all _) (wipe.auto.0 ∙ s.pre.1.1.1.1 ∙ sym c.begin-ends.auto.1.1.0))
+    c.begin-ends.ensures.left (ap erasures wipe.ensures ∙ wiped_all _) (wipe.auto.a ∙ s.pre.1.1.1.1 ∙ sym c.begin-ends.auto.near.1.0))
     c.next_erased-d.ensures
 
 abbrev begun : goal.At-loop-d → goal.After-begin-ends

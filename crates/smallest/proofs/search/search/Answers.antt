@@ -66,7 +66,7 @@ toggle-requires c =
 pub distance-steps-requires : goal.distance-steps-requires
 distance-steps-requires c =
     let h = c.loop-others.invariant.0 in
-    let same = c.toggle.auto.0 in
+    let same = c.toggle.auto.near in
     (omega (arith, h.table.room), ((places (goal.at.distance-steps-requires c).After-stripes_of-pair).0, ((places (goal.at.distance-steps-requires c).After-stripes_of-pair).1, omega (arith, h.few, c.loop-others-test.true))))
 
 pub overflow_add-from : goal.overflow_add-from

@@ -27,7 +27,7 @@ trace-requires c =
     let few = layout-disks s.args.size s.args.base in
     let low = shown_lowest _ two w (set c.before.before.before.before.before.before) lossy is in
     let same = s.pre.1.1.1.0 in
-    let kept = c.find.auto.1.1.1.1.0 in
+    let kept = c.find.auto.set.1.1.1.0 in
     (s.pre.0, (shown_table _ two w (set c.before.before.before.before.before.before) lossy is s.pre.1.0 (omega arith), (shown_paired _ two w (set c.before.before.before.before.before.before) lossy is, (omega arith, s.pre.1.1.1.1))))
 
 pub returns-clause-number : goal.returns-clause-number

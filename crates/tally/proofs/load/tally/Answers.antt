@@ -109,8 +109,8 @@ loop-size-preserved c =
     let enter = c.enter in
     let raise = c.raise in
     (
-      enter.auto.0 ∙ c.loop-size.invariant.0,
-      c.raise-in-loop-size.auto.0 ∙ raise.auto.0 ∙ c.loop-size.invariant.1,
+      enter.auto.stripes ∙ c.loop-size.invariant.0,
+      c.raise-in-loop-size.auto.counts ∙ raise.auto.counts ∙ c.loop-size.invariant.1,
       loaded_next (over (goal.at.loop-size-preserved c).After-next_erased-d) (erased (goal.at.loop-size-preserved c).Else-work-d) (pair (goal.at.loop-size-preserved c).After-stripes_of-pair) (held-few (start c.before.before.before.before.before.before.before.before.before.before.before.before.before.before.before).requires.0) raise.ensures (place (goal.at.loop-size-preserved c).Else-work-d) enter.ensures
           c.raise-in-loop-size.ensures,
       omega (arith, c.if-work-d.false),

@@ -1,7 +1,7 @@
 -- `tally::table::stripes_of` meets its contract: the table has the stripes of the disk.
 -- Assumes nothing.
 use mathlib.Core.Path.{sym, ◌∙◌, ap₂}
-use mathlib.Core.List.{◌∷◌}
+use mathlib.Core.List.{[], ◌∷◌}
 use Prim.Native.Nat.{ℕ}
 use Rattle.tally.proofs.Counted.{erased-inside, table-place}
 use Rattle.tally.proofs.table.stripes_of.Goals as goal

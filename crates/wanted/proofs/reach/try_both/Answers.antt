@@ -29,8 +29,8 @@ tally-requires c =
     let same = c.requires.others_len in
     let few = layout-disks c.args.size c.args.base in
     let long = map-length _ _ c.requires.map_value in
-    let stripes = c.try_stripe-count.auto.1.1.1.1.1.1.1.1.0 in
-    let counts = c.try_stripe-count.auto.1.1.1.1.1.1.1.1.1.0 in
+    let stripes = c.try_stripe-count.auto.stripes.1.1.1.1.1.1.1.0 in
+    let counts = c.try_stripe-count.auto.stripes.1.1.1.1.1.1.1.1.0 in
     (c.requires.numbered, (omega arith, (λ i h. others_outside c.args.map.now _ c.args.disk o.erased i (omega arith), (omega arith, omega arith))))
 
 pub try_stripe-requires : goal.try_stripe-requires
@@ -39,7 +39,7 @@ try_stripe-requires c =
     let o = p.others in
     let k = c.try_stripe-count.auto in
     let m = c.tally.auto in
-    (p.numbered, (p.map_value, (p.disk_value, (p.second_value, (record { erased = o.erased; table = c.tally.ensures.tallied.table; parted = o.parted }, (same-room p.room k.1.1.1.1.1.1.1.0 (m.1.1.1.0 ∙ k.1.1.1.1.1.1.1.1.0) (m.1.1.1.1.0 ∙ k.1.1.1.1.1.1.1.1.1.0) k.1.1.1.1.1.1.1.1.1.1.0, p.others_len ∙ sym k.1.1.1.1.1.1.1.0))))))
+    (p.numbered, (p.map_value, (p.disk_value, (p.second_value, (record { erased = o.erased; table = c.tally.ensures.tallied.table; parted = o.parted }, (same-room p.room k.stripes.1.1.1.1.1.1.0 (m.counts.1.1.0 ∙ k.stripes.1.1.1.1.1.1.1.0) (m.counts.1.1.1.0 ∙ k.stripes.1.1.1.1.1.1.1.1.0) k.stripes.1.1.1.1.1.1.1.1.1.0, p.others_len ∙ sym k.stripes.1.1.1.1.1.1.0))))))
 
 pub returns : goal.returns
 returns c =
