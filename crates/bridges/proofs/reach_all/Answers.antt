@@ -7,7 +7,7 @@ use Prim.Native.Nat.{◌+◌, ◌-◌, ◌≤◌}
 use native.Mathlib.Nat.{not-suc-le-zero}
 use native.Mathlib.Omega.{arith}
 use borrow.Author.Count.{below_more}
-use borrow.Author.Tests.{not-true, not-false}
+use borrow.Author.Tests.{not-false}
 use Rattle.model.specs.Grid.{layout_of}
 use Rattle.layout.proofs.Runs.{stripes_few}
 use Rattle.reach.specs.Reached.{has}
@@ -29,7 +29,13 @@ pub reach_part-more-requires : goal.reach_part-more-requires
 reach_part-more-requires c =
     let p = c.requires in
     let few = stripes_few p.numbered in
-    (p.numbered, (p.near, (c.loop-s.invariant.0, (omega (arith, c.loop-s-test.true, c.bound.ensures), sym c.has.ensures ∙ not-true _ c.if-not-has.true))))
+    record {
+      numbered = p.numbered;
+      near = p.near;
+      grown_2 = c.loop-s.invariant.0;
+      stripe_lt_word_stripes = omega (arith, c.loop-s-test.true, c.bound.ensures);
+      stripe_value = sym c.has.ensures ∙ c.if-not-has.true;
+    }
 
 pub overflow_add-s : goal.overflow_add-s
 overflow_add-s c =
@@ -50,12 +56,10 @@ loop-s-preserved c =
     (λ (if2, ways, done). rw (ways, done) (h.0, below_more _ _ h.1 (sym c.has.ensures ∙ not-false _ if2.left), most))
     c.if-not-has.branch
 
-pub returns-clause-grown : goal.returns-clause-grown
-returns-clause-grown c =
+pub returns : goal.returns
+returns c =
     let (grown, all, _) = c.loop-s.invariant in
-    grown
-
-pub returns-clause-all : goal.returns-clause-all
-returns-clause-all c =
-    let (grown, all, _) = c.loop-s.invariant in
-    λ s l. all s (omega (arith, c.loop-s-test.false, c.bound.ensures))
+    record {
+      grown = grown;
+      all = λ s l. all s (omega (arith, c.loop-s-test.false, c.bound.ensures));
+    }

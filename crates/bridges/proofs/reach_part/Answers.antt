@@ -37,7 +37,13 @@ pub reach_one-more-requires : goal.reach_one-more-requires
 reach_one-more-requires c =
     let p = (start c.before.before).pre in
     let h = c.loop-ahead.invariant in
-    (p.0, (p.1.0, (h.growing, ((out (goal.at.reach_one-more-requires c).In-loop-ahead).small, h.offered _ (out (goal.at.reach_one-more-requires c).In-loop-ahead).member))))
+    record {
+      numbered = p.0;
+      near = p.1.0;
+      growing_2 = h.growing;
+      stripe_lt_word_stripes = (out (goal.at.reach_one-more-requires c).In-loop-ahead).small;
+      beside = h.offered _ (out (goal.at.reach_one-more-requires c).In-loop-ahead).member;
+    }
 
 pub offset_bounds-near-next : goal.offset_bounds-near-next
 offset_bounds-near-next c = omega (arith, (out (goal.at.offset_bounds-near-next c).In-loop-ahead).small)
@@ -62,10 +68,9 @@ returns c =
     let s = start c.before in
     let h = c.loop-ahead.invariant in
     let p = s.pre in
-    let first = rw c.one.ensures at h.kept in (
-      spread_end _ (numbered_two p.0) (grid-apart p.0) p.1.0 h c.loop-ahead-test.false,
-      (
-        first s.args.stripe (with_u (with_one s.args.before.seen s.args.stripe)),
-        λ t k. first t (with_old (with_one s.args.before.seen s.args.stripe) t k),
-      ),
-    )
+    let first = rw c.one.ensures at h.kept in
+    record {
+      grown = spread_end _ (numbered_two p.0) (grid-apart p.0) p.1.0 h c.loop-ahead-test.false;
+      own = first s.args.stripe (with_u (with_one s.args.before.seen s.args.stripe));
+      others = λ t k. first t (with_old (with_one s.args.before.seen s.args.stripe) t k);
+    }

@@ -2,25 +2,25 @@
 -- Assumes nothing.
 use mathlib.Core.Path.{◌∙◌, ap}
 use native.Mathlib.Omega.{arith}
-use borrow.Author.Rules.{rules}
 use Rattle.entries.specs.Listed.{listed}
 use Rattle.chain.proofs.Clean.{none-marked, by_number, by_records}
 use Rattle.chain.proofs.list.Goals as goal
 
-pub read-chain-requires : goal.read-chain-requires
-read-chain-requires c = (search rules, (search rules, (omega arith, none-marked 33)))
+pub read-chain-requires-clause-records_in_bounds_2 : goal.read-chain-requires-clause-records_in_bounds_2
+read-chain-requires-clause-records_in_bounds_2 c = omega arith
+
+pub read-chain-requires-clause-by_index : goal.read-chain-requires-clause-by_index
+read-chain-requires-clause-by_index c = none-marked 33
 
 pub returns-in_default : goal.returns-in_default
 returns-in_default c =
     let refusal = by_number _ _ _ c.read-chain.ensures.chain _ c.enum_told-1.given.1 in
     absurd (refusal.1 c.requires.sheet_value)
 
-pub returns-clause-number : goal.returns-clause-number
-returns-clause-number c =
+pub returns : goal.returns
+returns c =
     let (fits, count) = by_records _ _ _ c.read-chain.ensures.chain _ c.chain-1.given.1 in
-    count
-
-pub returns-clause-list : goal.returns-clause-list
-returns-clause-list c =
-    let (fits, count) = by_records _ _ _ c.read-chain.ensures.chain _ c.chain-1.given.1 in
-    ap (listed c.read-chain.new.marks.0) count ∙ c.read-chain.ensures.list fits
+    record {
+      number = count;
+      list = ap (listed c.read-chain.new.marks.0) count ∙ c.read-chain.ensures.list fits;
+    }

@@ -1,13 +1,14 @@
 -- `chain::read_clean` meets its contract, at each of its three ends.
 -- Assumes nothing.
 use native.Mathlib.Omega.{arith}
-use borrow.Author.Rules.{rules}
-use borrow.Author.Tests.{not-true, not-false}
 use Rattle.chain.proofs.Clean.{none-marked, refused, left_over, clean}
 use Rattle.chain.proofs.read_clean.Goals as goal
 
-pub read-chain-requires : goal.read-chain-requires
-read-chain-requires c = (search rules, (search rules, (omega arith, none-marked 33)))
+pub read-chain-requires-clause-records_in_bounds_2 : goal.read-chain-requires-clause-records_in_bounds_2
+read-chain-requires-clause-records_in_bounds_2 c = omega arith
+
+pub read-chain-requires-clause-by_index : goal.read-chain-requires-clause-by_index
+read-chain-requires-clause-by_index c = none-marked 33
 
 pub returns-in_default : goal.returns-in_default
 returns-in_default c =
@@ -18,10 +19,10 @@ pub returns-then-not-rest_is_zero : goal.returns-then-not-rest_is_zero
 returns-then-not-rest_is_zero c =
     let read = c.read-chain in
     left_over _ _ _ _ _ read.ensures.chain c.chain-1.given.1 read.ensures.list read.ensures.marks _ c.rest_is_zero.ensures
-    (not-true _ c.if-not-rest_is_zero.true)
+    (c.if-not-rest_is_zero.true)
 
 pub returns : goal.returns
 returns c =
     let read = c.read-chain in
     clean _ _ _ _ _ read.ensures.chain c.chain-1.given.1 read.ensures.list read.ensures.marks _ c.rest_is_zero.ensures
-    (not-false _ c.if-not-rest_is_zero.false)
+    (c.if-not-rest_is_zero.false)

@@ -6,7 +6,7 @@ use mathlib.Core.Logic.{⊎_elim}
 use Prim.Native.Nat.{ℕ, ◌-◌}
 use native.Mathlib.Omega.{arith}
 use borrow.Author.Rules.{rules}
-use borrow.Author.Tests.{not-true, not-false}
+use borrow.Author.Tests.{not-false}
 use Rattle.stripes.specs.Fold.{every}
 use Rattle.chain.specs.Read.{in_order}
 use Rattle.chain.proofs.Groups.{group_zero, group_next, group_fails}
@@ -20,7 +20,7 @@ pub returns-then-not-group_in_order : goal.returns-then-not-group_in_order
 returns-then-not-group_in_order c =
     let l = c.loop-at in
     let a = c.args in
-    sym (group_fails a.marks.now a.sheet.now l.at (omega arith) (sym c.group_in_order.ensures ∙ not-true _ c.if-not-group_in_order.true))
+    sym (group_fails a.marks.now a.sheet.now l.at (omega arith) (sym c.group_in_order.ensures ∙ c.if-not-group_in_order.true))
 
 pub loop-at-preserved : goal.loop-at-preserved
 loop-at-preserved c =

@@ -7,15 +7,12 @@ use Rattle.model.specs.declared.Checked.{Checked}
 use Rattle.model.proofs.Demand2.{check_demand}
 use Rattle.demands.proofs.check_array.Goals as goal
 
-pub returns-clause-answer : goal.returns-clause-answer
-returns-clause-answer c =
+pub returns : goal.returns
+returns c =
     let a = c.args in
     let answer = c.check.ensures in
-    answer
-
-pub returns-clause-demand2 : goal.returns-clause-demand2
-returns-clause-demand2 c =
-    let a = c.args in
-    let answer = c.check.ensures in
-    λ ok. subst (λ (o : Checked). CheckDemand a.size a.block a.array.now (check_status o)) (sym answer)
-          (check_demand a.size a.block a.array.now ok)
+    record {
+      answer = answer;
+      demand2 = λ ok. subst (λ (o : Checked). CheckDemand a.size a.block a.array.now (check_status o)) (sym answer)
+          (check_demand a.size a.block a.array.now ok);
+    }

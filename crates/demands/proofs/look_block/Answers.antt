@@ -7,13 +7,10 @@ use Rattle.demands.proofs.look_block.Goals as goal
 pub returns : goal.returns
 returns c =
     let a = c.args in
-    let (bytes, place) = c.look.ensures in (
-      bytes,
-      (
-        place,
-        (
-          look_takes a.size a.block a.sector a.array.now a.map.now a.disk,
-          λ one. rw one (look_single a.size a.block a.array.now a.map.now a.disk),
-        ),
-      ),
-    )
+    let (bytes, place) = c.look.ensures in
+    record {
+      bytes = bytes;
+      place = place;
+      present = look_takes a.size a.block a.sector a.array.now a.map.now a.disk;
+      single = λ one. rw one (look_single a.size a.block a.array.now a.map.now a.disk);
+    }

@@ -19,33 +19,22 @@ returns c =
     let (outcome, (array, (map, sheets))) = c.rebuild.ensures in
     let t : Turn = rebuild_turn a.size a.block a.sector a.array.now a.map.now a.sheets.now a.limit in
     let is : ◌≡◌ {A = Turn} (record { answer = _; array = _; map = _; sheets = _ }) t =
-    λ i. record { answer = outcome i; array = array i; map = map i; sheets = sheets i } in (
-      outcome,
-      (
-        array,
-        (
-          map,
-          (
-            sheets,
-            (
-              λ ok b r.
+    λ i. record { answer = outcome i; array = array i; map = map i; sheets = sheets i } in
+    record {
+      outcome = outcome;
+      array = array;
+      map = map;
+      sheets = sheets;
+      keeps = λ ok b r.
                   subst (TurnKeeps (a.block / a.sector) (sheet_layout a.size) narrow a.sector a.limit b a.map.now) (sym is)
-                  (turn_keeps a.size a.block a.sector a.array.now a.map.now a.sheets.now a.limit ok b r),
-              (
-                λ one. is ∙ (rw one (rebuild_single a.size a.block a.array.now a.map.now a.sheets.now a.limit)),
-                (
-                  λ accepted.
+                  (turn_keeps a.size a.block a.sector a.array.now a.map.now a.sheets.now a.limit ok b r);
+      single = λ one. is ∙ (rw one (rebuild_single a.size a.block a.array.now a.map.now a.sheets.now a.limit));
+      read = λ accepted.
                       rw sheets
                       (turn_reads a.size a.block a.sector a.array.now a.map.now a.sheets.now a.limit
-                      (sym (ap outcome_status outcome) ∙ accepted)),
-                  λ accepted.
+                      (sym (ap outcome_status outcome) ∙ accepted));
+      alone = λ accepted.
                       rw array
                       (turn_alone a.size a.block a.sector a.array.now a.map.now a.sheets.now a.limit
-                      (sym (ap outcome_status outcome) ∙ accepted)),
-                ),
-              ),
-            ),
-          ),
-        ),
-      ),
-    )
+                      (sym (ap outcome_status outcome) ∙ accepted));
+    }

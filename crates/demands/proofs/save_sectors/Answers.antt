@@ -14,24 +14,17 @@ returns c =
     let a = c.args in
     let found = c.slice_known-1.given in
     let small : Bytes a.array.now = λ i l. omega (arith, found i) in
-    let (answer, array) = c.save.ensures in (
-      answer,
-      (
-        array,
-        (
-          λ ok. rw (answer, array) (save_demand a.size a.block a.sector a.array.now a.map.now ok small),
-          (
-            λ fine sheets long k some enough.
-                rw (answer, array) (save_as_rebuild a.size a.block a.sector a.array.now a.map.now fine small sheets long k some enough),
-            (
-              λ one.
+    let (answer, array) = c.save.ensures in
+    record {
+      answer = answer;
+      array = array;
+      demand = λ ok. rw (answer, array) (save_demand a.size a.block a.sector a.array.now a.map.now ok small);
+      rebuilt = λ fine sheets long k some enough.
+                rw (answer, array) (save_as_rebuild a.size a.block a.sector a.array.now a.map.now fine small sheets long k some enough);
+      single = λ one.
                   let (same, left) = save_single a.size a.block a.array.now a.map.now in
-                  rw (answer, array, one) (same, left),
-              λ accepted.
+                  rw (answer, array, one) (same, left);
+      alone = λ accepted.
                   rw array
-                  (save_alone a.size a.block a.sector a.array.now a.map.now (sym (ap saving_status answer) ∙ accepted)),
-            ),
-          ),
-        ),
-      ),
-    )
+                  (save_alone a.size a.block a.sector a.array.now a.map.now (sym (ap saving_status answer) ∙ accepted));
+    }

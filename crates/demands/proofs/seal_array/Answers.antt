@@ -8,11 +8,10 @@ use Rattle.demands.proofs.seal_array.Goals as goal
 pub returns : goal.returns
 returns c =
     let a = c.args in
-    let (status, array) = c.seal.ensures in (
-      status,
-      (
-        array,
-        λ ok. subst (SealDemand a.size a.block a.array.now) (sym array)
-            (seal_demand a.size a.block a.array.now (sym status ∙ ok)),
-      ),
-    )
+    let (status, array) = c.seal.ensures in
+    record {
+      status = status;
+      array = array;
+      demand2 = λ ok. subst (SealDemand a.size a.block a.array.now) (sym array)
+            (seal_demand a.size a.block a.array.now (sym status ∙ ok));
+    }

@@ -17,10 +17,9 @@ returns c =
     let (outcome, array) = c.follow-followed.ensures in
     let (answer, left) =
     follow_tidied a.size a.block a.sector a.array.now a.map.now a.sheets.now _ bytes
-    (tidied_sheets narrow (a.block / a.sector) a.sheets.now) in (
-      tidied,
-      (
-        outcome ∙ ap (follow_outcome a.size a.block a.sector a.array.now a.map.now) tidied ∙ answer,
-        array ∙ ap (follow_array a.size a.block a.sector a.array.now a.map.now) tidied ∙ left,
-      ),
-    )
+    (tidied_sheets narrow (a.block / a.sector) a.sheets.now) in
+    record {
+      sheets = tidied;
+      outcome = outcome ∙ ap (follow_outcome a.size a.block a.sector a.array.now a.map.now) tidied ∙ answer;
+      array = array ∙ ap (follow_array a.size a.block a.sector a.array.now a.map.now) tidied ∙ left;
+    }

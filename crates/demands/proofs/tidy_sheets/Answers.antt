@@ -13,17 +13,14 @@ returns c =
     let one : Bytes a.one.now = λ i l. omega (arith, c.slice_known-1.given i) in
     let other : Bytes a.other.now = λ i l. omega (arith, c.slice_known-2-1.given i) in
     let (status, sheet) = c.tidy-first.ensures in
-    let (status₂, sheet₂) = c.tidy-second.ensures in (
-      (status, status₂),
-      (
-        (sheet, sheet₂),
-        (
-          (
+    let (status₂, sheet₂) = c.tidy-second.ensures in
+    record {
+      statuses = (status, status₂);
+      sheets = (sheet, sheet₂);
+      demand = (
             λ taken. rw sheet (tidy_demand narrow (omega arith) (omega arith) _ one (sym status ∙ taken)),
             λ taken. rw sheet₂ (tidy_demand narrow (omega arith) (omega arith) _ other (sym status₂ ∙ taken)),
-          ),
-          λ taken taken₂.
-              rw (sheet, sheet₂) (same-form narrow (omega arith) (omega arith) _ _ one other (sym status ∙ taken) (sym status₂ ∙ taken₂)),
-        ),
-      ),
-    )
+          );
+      same = λ taken taken₂.
+              rw (sheet, sheet₂) (same-form narrow (omega arith) (omega arith) _ _ one other (sym status ∙ taken) (sym status₂ ∙ taken₂));
+    }

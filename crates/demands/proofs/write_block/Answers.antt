@@ -8,11 +8,10 @@ use Rattle.demands.proofs.write_block.Goals as goal
 pub returns : goal.returns
 returns c =
     let a = c.args in
-    let (status, array) = c.write.ensures in (
-      status,
-      (
-        array,
-        λ ok. subst (WriteDemand a.size a.block a.array.now a.disk a.«data».now) (sym array)
-            (write_demand a.size a.block a.array.now a.disk a.«data».now (sym status ∙ ok)),
-      ),
-    )
+    let (status, array) = c.write.ensures in
+    record {
+      status = status;
+      array = array;
+      demand2 = λ ok. subst (WriteDemand a.size a.block a.array.now a.disk a.«data».now) (sym array)
+            (write_demand a.size a.block a.array.now a.disk a.«data».now (sym status ∙ ok));
+    }

@@ -30,16 +30,28 @@ returns-in-Record c =
     let is = found_says a.sheet.now a.number _ c.record_at-arg-1.given.0 (sym c.found-1.given.1 ∙ c.record_at-found.ensures) in
     let same = sym is.2 in
     let of : (v : ℕ) → v ≡ if_record narrow a.number v = λ v. field a.number v is.0 is.1 in
-    (ap (λ (e : Entry). e.disk) same ∙ of _, (ap (λ (e : Entry). e.stripe) same ∙ of _, sym is.3 ∙ of _))
+    record {
+      disk = ap (λ (e : Entry). e.disk) same ∙ of _;
+      stripe = ap (λ (e : Entry). e.stripe) same ∙ of _;
+      next = sym is.3 ∙ of _;
+    }
 
 pub returns-in-End : goal.returns-in-End
 returns-in-End c =
     let a = c.args in
     let is = found_says a.sheet.now a.number End c.record_at-arg-1.given.0 (sym c.enum_told-1.given.1 ∙ c.record_at-found.ensures) in
-    (none _ _ is, (none _ _ is, none _ _ is))
+    record {
+      disk = none _ _ is;
+      stripe = none _ _ is;
+      next = none _ _ is;
+    }
 
 pub returns-in-Outside : goal.returns-in-Outside
 returns-in-Outside c =
     let a = c.args in
     let is = found_says a.sheet.now a.number Outside c.record_at-arg-1.given.0 (sym c.enum_told-in-Outside-1.given.1 ∙ c.record_at-found.ensures) in
-    (beyond _ _ is, (beyond _ _ is, beyond _ _ is))
+    record {
+      disk = beyond _ _ is;
+      stripe = beyond _ _ is;
+      next = beyond _ _ is;
+    }

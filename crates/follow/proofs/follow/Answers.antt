@@ -3,7 +3,6 @@
 use mathlib.Core.Path.{◌≡◌, ◌∙◌, sym}
 use mathlib.Core.Bool.{true}
 use Prim.Native.Nat.{◌/◌}
-use borrow.Author.Tests.{not-true, not-false}
 use lib.ListN.{length}
 use Rattle.stripes.specs.Erased.{erasures}
 use Rattle.stripes.specs.Repair.{clears}
@@ -54,7 +53,7 @@ held c = let f = fit c in record { block = f.array.block; sector = f.sector; siz
 -- Every step is allowed, and nothing is left erased.
 cleared : (c : goal.Else-not-all_clear) → let a = (start c.before.before.before.before.before.before).args in
     clears (sectors a.size a.block a.sector) (erasures a.map.now) (listed a.block a.sector a.sheets.now) ≡ true
-cleared c = sym c.all_clear.ensures ∙ not-false _ c.if-not-all_clear.false
+cleared c = sym c.all_clear.ensures ∙ c.if-not-all_clear.false
 
 pub returns-then-of_array-ne0 : goal.returns-then-of_array-ne0
 returns-then-of_array-ne0 c =
@@ -67,15 +66,13 @@ nonzero_div-sectors c =
     let a = c.args in
     sector-some a.block a.sector (sector_fits_lem a.size a.block (length a.array.now) a.sector (sized (goal.at.nonzero_div-sectors c).Else-of_array-ne0)).1
 
-pub sheet_refusal-of_sheets-requires-clause-size_value : goal.sheet_refusal-of_sheets-requires-clause-size_value
-sheet_refusal-of_sheets-requires-clause-size_value c =
+pub sheet_refusal-of_sheets-requires : goal.sheet_refusal-of_sheets-requires
+sheet_refusal-of_sheets-requires c =
     let a = c.args in
-    (sector_fits_lem a.size a.block (length a.array.now) a.sector (sized (goal.at.sheet_refusal-of_sheets-requires-clause-size_value c).Else-of_array-ne0)).0.size
-
-pub sheet_refusal-of_sheets-requires-clause-sectors_value : goal.sheet_refusal-of_sheets-requires-clause-sectors_value
-sheet_refusal-of_sheets-requires-clause-sectors_value c =
-    let a = c.args in
-    some-sectors (goal.at.sheet_refusal-of_sheets-requires-clause-sectors_value c).Else-of_array-ne0
+    record {
+      size_value = (sector_fits_lem a.size a.block (length a.array.now) a.sector (sized (goal.at.sheet_refusal-of_sheets-requires c).Else-of_array-ne0)).0.size;
+      sectors_value = some-sectors (goal.at.sheet_refusal-of_sheets-requires c).Else-of_array-ne0;
+    }
 
 pub returns-then-of_sheets-ne0 : goal.returns-then-of_sheets-ne0
 returns-then-of_sheets-ne0 c =
@@ -96,45 +93,39 @@ returns-in-Refused c =
 -- The chain of each sheet fits.
 pub all_clear-requires : goal.all_clear-requires
 all_clear-requires c =
-    let f = fit (goal.at.all_clear-requires c).Else-of_sheets-ne0 in (
-      numbered (start c.before.before.before.before).args.size f.array.size,
-      (
-        some-sectors (goal.at.all_clear-requires c).Else-of_array-ne0,
-        (f.map, (f.long, chains-fit _ _ _ _ _ _ (passed (goal.at.all_clear-requires c).Else-of_sheets-ne0) _ c.read_all-chains.ensures _ c.chains-1.given.1)),
-      ),
-    )
+    let f = fit (goal.at.all_clear-requires c).Else-of_sheets-ne0 in
+    record {
+      numbered = numbered (start c.before.before.before.before).args.size f.array.size;
+      sectors_value = some-sectors (goal.at.all_clear-requires c).Else-of_array-ne0;
+      map_value = f.map;
+      sheets_len = f.long;
+      by_index = chains-fit _ _ _ _ _ _ (passed (goal.at.all_clear-requires c).Else-of_sheets-ne0) _ c.read_all-chains.ensures _ c.chains-1.given.1;
+    }
 
 pub returns-then-not-all_clear : goal.returns-then-not-all_clear
 returns-then-not-all_clear c =
     steps-refused _ _ _ _ _ _ (passed (goal.at.returns-then-not-all_clear c).Else-of_sheets-ne0) _ c.read_all-chains.ensures _ c.chains-1.given.1
-    (sym c.all_clear.ensures ∙ not-true _ c.if-not-all_clear.true)
+    (sym c.all_clear.ensures ∙ c.if-not-all_clear.true)
 
 pub restore-requires : goal.restore-requires
 restore-requires c =
     let a = (start c.before.before.before.before.before.before.before).args in
-    let f = fit (goal.at.restore-requires c).Else-of_sheets-ne0 in (
-      numbered a.size f.array.size,
-      (
-        held (goal.at.restore-requires c).Else-of_sheets-ne0,
-        (
-          f.map,
-          (
-            f.long,
-            (
-              chains-fit _ _ _ _ _ _ (passed (goal.at.restore-requires c).Else-of_sheets-ne0) _ c.read_all-chains.ensures _ c.chains-1.given.1,
-              clears_peels (sectors a.size a.block a.sector) (erasures a.map.now) _ (cleared (goal.at.restore-requires c).Else-not-all_clear),
-            ),
-          ),
-        ),
-      ),
-    )
+    let f = fit (goal.at.restore-requires c).Else-of_sheets-ne0 in
+    record {
+      numbered = numbered a.size f.array.size;
+      sectored = held (goal.at.restore-requires c).Else-of_sheets-ne0;
+      map_value = f.map;
+      sheets_len = f.long;
+      by_index = chains-fit _ _ _ _ _ _ (passed (goal.at.restore-requires c).Else-of_sheets-ne0) _ c.read_all-chains.ensures _ c.chains-1.given.1;
+      peels = clears_peels (sectors a.size a.block a.sector) (erasures a.map.now) _ (cleared (goal.at.restore-requires c).Else-not-all_clear);
+    }
 
 pub returns-then-not-restore : goal.returns-then-not-restore
 returns-then-not-restore c =
     contradicted _ _ _ _ _ _ (passed (goal.at.returns-then-not-restore c).Else-of_sheets-ne0) _ c.read_all-chains.ensures _ c.chains-1.given.1 (cleared (goal.at.returns-then-not-restore c).Else-not-all_clear)
-    _ c.restore.ensures.array (sym c.restore.ensures.answer ∙ not-true _ c.if-not-restore.true)
+    _ c.restore.ensures.array (sym c.restore.ensures.answer ∙ c.if-not-restore.true)
 
 pub returns : goal.returns
 returns c =
     agreed _ _ _ _ _ _ (passed (goal.at.returns c).Else-of_sheets-ne0) _ c.read_all-chains.ensures _ c.chains-1.given.1 (cleared (goal.at.returns c).Else-not-all_clear)
-    _ c.restore.ensures.array (sym c.restore.ensures.answer ∙ not-false _ c.if-not-restore.false)
+    _ c.restore.ensures.array (sym c.restore.ensures.answer ∙ c.if-not-restore.false)

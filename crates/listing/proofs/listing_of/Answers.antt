@@ -11,4 +11,9 @@ returns c =
     let text = ap₂ reported c.type_size.ensures c.map_of.ensures ∙ input-reported _ in
     let written = written_as text c.report-len.ensures in
     let (all, rest, within) = written-alone 320 written in
-    (all, (rest, (within, same-room written)))
+    record {
+      text = all;
+      rest = rest;
+      within = within;
+      size = same-room written;
+    }

@@ -5,7 +5,6 @@ use mathlib.Core.Bool.{true≢false}
 use Prim.Native.Nat.{◌/◌, ◌<◌}
 use native.Mathlib.Omega.{arith}
 use borrow.Author.Rules.{rules}
-use borrow.Author.Tests.{not-true, not-false}
 use Rattle.model.specs.Grid.{disks, map_bytes}
 use Rattle.model.proofs.Refusal.{sector_fits_lem}
 use Rattle.model.proofs.Grid.{sector-some, sectors-some, map-length, block_within}
@@ -20,9 +19,9 @@ passed : (c : goal.Else-not-all_present) → let a = c.args in
 passed c =
     (
       sym c.sector_refusal.ensures ∙ c.if-sector_refusal-ne0.false,
-      sym c.map_fits.ensures ∙ not-false _ c.if-not-map_fits.false,
+      sym c.map_fits.ensures ∙ c.if-not-map_fits.false,
       (let e = c.disks.ensures in let h = c.if-disks-disk.false in omega arith),
-      sym c.all_present.ensures ∙ not-false _ c.if-not-all_present.false,
+      sym c.all_present.ensures ∙ c.if-not-all_present.false,
     )
 
 pub returns-then-sector_refusal-ne0 : goal.returns-then-sector_refusal-ne0
@@ -34,19 +33,17 @@ nonzero_div-sectors c =
     let some = sector-some _ _ sector in
     search rules
 
-pub map_fits-requires-clause-size_value : goal.map_fits-requires-clause-size_value
-map_fits-requires-clause-size_value c =
+pub map_fits-requires : goal.map_fits-requires
+map_fits-requires c =
     let (array, sector) = sector_fits_lem _ _ _ _ (sym c.sector_refusal.ensures ∙ c.if-sector_refusal-ne0.false) in
-    array.size
-
-pub map_fits-requires-clause-sectors_value : goal.map_fits-requires-clause-sectors_value
-map_fits-requires-clause-sectors_value c =
-    let (array, sector) = sector_fits_lem _ _ _ _ (sym c.sector_refusal.ensures ∙ c.if-sector_refusal-ne0.false) in
-    sectors-some _ _ array.block sector
+    record {
+      size_value = array.size;
+      sectors_value = sectors-some _ _ array.block sector;
+    }
 
 pub returns-then-not-map_fits : goal.returns-then-not-map_fits
 returns-then-not-map_fits c =
-    look_nothing _ _ _ _ _ _ (λ (ok, mapped, inside, present). true≢false (sym mapped ∙ sym c.map_fits.ensures ∙ not-true _ c.if-not-map_fits.true)) _
+    look_nothing _ _ _ _ _ _ (λ (ok, mapped, inside, present). true≢false (sym mapped ∙ sym c.map_fits.ensures ∙ c.if-not-map_fits.true)) _
 
 pub disks-requires : goal.disks-requires
 disks-requires c =
@@ -62,14 +59,14 @@ all_present-requires c =
     let e = c.disks.ensures in
     let h = c.if-disks-disk.false in
     let a = c.args in
-    let long = map-length _ _ (sym c.map_fits.ensures ∙ not-false _ c.if-not-map_fits.false) in
+    let long = map-length _ _ (sym c.map_fits.ensures ∙ c.if-not-map_fits.false) in
     let inside : a.disk < disks a.size = omega arith in
     let end = block-before (a.block / a.sector) inside in
     omega arith
 
 pub returns-then-not-all_present : goal.returns-then-not-all_present
 returns-then-not-all_present c =
-    look_nothing _ _ _ _ _ _ (λ (ok, mapped, inside, present). true≢false (sym present ∙ sym c.all_present.ensures ∙ not-true _ c.if-not-all_present.true)) _
+    look_nothing _ _ _ _ _ _ (λ (ok, mapped, inside, present). true≢false (sym present ∙ sym c.all_present.ensures ∙ c.if-not-all_present.true)) _
 
 pub slice_bounds-result-end-2 : goal.slice_bounds-result-end-2
 slice_bounds-result-end-2 c =

@@ -58,7 +58,11 @@ pair c =
 pub toggle-requires : goal.toggle-requires
 toggle-requires c =
     let few = stripes_few (start c.before.before.before.before).requires.0 in
-    (c.loop-size.invariant.0.room, (omega (arith, (pair (goal.at.toggle-requires c).After-stripes_of).low_bound), omega (arith, (pair (goal.at.toggle-requires c).After-stripes_of).high_bound)))
+    record {
+      near_len = c.loop-size.invariant.0.room;
+      low_lt_word_stripes = omega (arith, (pair (goal.at.toggle-requires c).After-stripes_of).low_bound);
+      high_lt_word_stripes = omega (arith, (pair (goal.at.toggle-requires c).After-stripes_of).high_bound);
+    }
 
 pub overflow_add-from : goal.overflow_add-from
 overflow_add-from c = omega (arith, c.if-work-d.false)

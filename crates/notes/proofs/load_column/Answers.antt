@@ -10,38 +10,26 @@ use Rattle.tally.proofs.Column.{position_fits, position_erased, position_inside}
 use Rattle.notes.specs.Notes.{Notes, Loads}
 use Rattle.notes.proofs.load_column.Goals as goal
 
-pub load-requires-clause-sheet_len : goal.load-requires-clause-sheet_len
-load-requires-clause-sheet_len c =
+pub load-requires : goal.load-requires
+load-requires c =
     let a = c.args in
     let e : ℕ → Bool = at_position a.sectors a.position (erasures a.map.now) in
-    c.requires.sheet_len
+    (c.requires.sheet_len, (e, subst (λ (N : ℕ). Notes N e a.sheet.now) (sym c.requires.located.room) c.requires.notes))
 
-pub load-requires-clause-by_index : goal.load-requires-clause-by_index
-load-requires-clause-by_index c =
-    let a = c.args in
-    let e : ℕ → Bool = at_position a.sectors a.position (erasures a.map.now) in
-    (e, subst (λ (N : ℕ). Notes N e a.sheet.now) (sym c.requires.located.room) c.requires.notes)
-
-pub returns-then-load-clause-fits : goal.returns-then-load-clause-fits
-returns-then-load-clause-fits c =
+pub returns-then-load : goal.returns-then-load
+returns-then-load c =
     let a = c.args in
     let e : ℕ → Bool = at_position a.sectors a.position (erasures a.map.now) in
     let loads = subst (λ (N : ℕ). Loads N a.sheet.now c.load.new.1.0) c.requires.located.room (c.load.ensures c.if-load.true) in
-    loads.fits
+    record {
+      fits = loads.fits;
+      erased = loads.erased e c.requires.notes ∙ below_all _ e (position_inside c.requires.located.positioned);
+    }
 
-pub returns-then-load-clause-erased : goal.returns-then-load-clause-erased
-returns-then-load-clause-erased c =
-    let a = c.args in
-    let e : ℕ → Bool = at_position a.sectors a.position (erasures a.map.now) in
-    let loads = subst (λ (N : ℕ). Loads N a.sheet.now c.load.new.1.0) c.requires.located.room (c.load.ensures c.if-load.true) in
-    loads.erased e c.requires.notes ∙ below_all _ e (position_inside c.requires.located.positioned)
-
-pub returns-clause-fits : goal.returns-clause-fits
-returns-clause-fits c =
+pub returns : goal.returns
+returns c =
     let p = c.requires.located.positioned in
-    rw c.gather.ensures (position_fits p)
-
-pub returns-clause-erased : goal.returns-clause-erased
-returns-clause-erased c =
-    let p = c.requires.located.positioned in
-    ap erasures c.gather.ensures ∙ position_erased p
+    record {
+      fits = rw c.gather.ensures (position_fits p);
+      erased = ap erasures c.gather.ensures ∙ position_erased p;
+    }

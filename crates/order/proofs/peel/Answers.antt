@@ -73,9 +73,14 @@ small c =
     let few = stripes_few s.pre.0 in
     (omega (arith, a.disk), omega (arith, on-bound (layout c.before.before.before.before.before.before) (numbered_two s.pre.0) _ a.disk _ a.here))
 
-pub take-requires : goal.take-requires
-take-requires c =
-    ((start c.before.before.before.before.before.before.before.before.before).requires.0, (c.loop-k.invariant.0.tallied, (may (goal.at.take-requires c).In-Repair-2).erased))
+pub take-requires-clause-numbered : goal.take-requires-clause-numbered
+take-requires-clause-numbered c = (start c.before.before.before.before.before.before.before.before.before).requires.0
+
+pub take-requires-clause-tallied_2 : goal.take-requires-clause-tallied_2
+take-requires-clause-tallied_2 c = c.loop-k.invariant.0.tallied
+
+pub take-requires-clause-disk_value : goal.take-requires-clause-disk_value
+take-requires-clause-disk_value c = (may (goal.at.take-requires-clause-disk_value c).In-Repair-2).erased
 
 pub put-requires : goal.put-requires
 put-requires c = ((room (goal.at.put-requires c).At-loop-k).1, small (goal.at.put-requires c).In-Repair-2)

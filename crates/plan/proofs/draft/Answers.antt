@@ -15,26 +15,31 @@ pub draft_column-requires : goal.draft_column-requires
 draft_column-requires c =
     let p = c.requires in
     let one = c.if-sectors-eq1.true in
-    let long = p.sheets_len in (
-      p.size_value,
-      (one-fits {p = 0} (record { size = p.size_value; sectors = p.sectors_value; place = omega arith; map = p.map_value }) one, omega arith),
-    )
+    let long = p.sheets_len in
+    record {
+      size_value = p.size_value;
+      column_value = one-fits {p = 0} (record { size = p.size_value; sectors = p.sectors_value; place = omega arith; map = p.map_value }) one;
+      sheet_len = omega arith;
+    }
 
-pub returns-then-sectors-eq1-clause-outcome : goal.returns-then-sectors-eq1-clause-outcome
-returns-then-sectors-eq1-clause-outcome c =
+pub returns-then-sectors-eq1 : goal.returns-then-sectors-eq1
+returns-then-sectors-eq1 c =
     let one = c.if-sectors-eq1.true in
     let a = c.args in
-    c.draft_column.ensures.outcome ∙ one-outcome (sheet_layout a.size) (erasures a.map.now)
-          ∙ ap (λ (n : ℕ). loss_outcome n (sheet_layout a.size) (erasures a.map.now)) (sym one)
-
-pub returns-then-sectors-eq1-clause-sheets : goal.returns-then-sectors-eq1-clause-sheets
-returns-then-sectors-eq1-clause-sheets c =
-    let one = c.if-sectors-eq1.true in
-    let a = c.args in
-    c.draft_column.ensures.sheet ∙ one-draft (sheet_layout a.size) (erasures a.map.now) a.limit
-          ∙ ap (λ (n : ℕ). draft_sheets n (sheet_layout a.size) narrow (erasures a.map.now) a.limit) (sym one)
+    record {
+      outcome = c.draft_column.ensures.outcome ∙ one-outcome (sheet_layout a.size) (erasures a.map.now)
+          ∙ ap (λ (n : ℕ). loss_outcome n (sheet_layout a.size) (erasures a.map.now)) (sym one);
+      sheets = c.draft_column.ensures.sheet ∙ one-draft (sheet_layout a.size) (erasures a.map.now) a.limit
+          ∙ ap (λ (n : ℕ). draft_sheets n (sheet_layout a.size) narrow (erasures a.map.now) a.limit) (sym one);
+    }
 
 pub draft_all-requires : goal.draft_all-requires
 draft_all-requires c =
     let p = c.requires in
-    (p.size_value, (p.sectors_value, (p.map_value, (c.note_all.auto.1.1.1.0 ∙ p.sheets_len, c.note_all.ensures))))
+    record {
+      size_value = p.size_value;
+      sectors_value = p.sectors_value;
+      map_value = p.map_value;
+      sheets_len = c.note_all.auto.1.1.1.0 ∙ p.sheets_len;
+      each_notes = c.note_all.ensures;
+    }

@@ -48,18 +48,22 @@ slice_bounds-own-end c = let long = c.loop-p.invariant.0.long in omega arith
 
 pub draft_noted-answer-requires : goal.draft_noted-answer-requires
 draft_noted-answer-requires c =
-    let place = c.loop-p-test.true in (
-      record { size = c.requires.size_value; sectors = c.requires.sectors_value; place = place; map = c.requires.map_value },
-      (
-        ap length (part_sheet narrow c.loop-p.p c.loop-p.sheets)
-            ∙ length-sheet_at narrow c.args.sectors c.loop-p.sheets c.loop-p.invariant.0.long c.loop-p.p place,
-        rw (part_sheet narrow c.loop-p.p c.loop-p.sheets) (c.loop-p.invariant.1 c.loop-p.p (le_refl _) place),
-      ),
-    )
+    let place = c.loop-p-test.true in
+    record {
+      positioned = record { size = c.requires.size_value; sectors = c.requires.sectors_value; place = place; map = c.requires.map_value };
+      sheet_len = ap length (part_sheet narrow c.loop-p.p c.loop-p.sheets)
+            ∙ length-sheet_at narrow c.args.sectors c.loop-p.sheets c.loop-p.invariant.0.long c.loop-p.p place;
+      notes = rw (part_sheet narrow c.loop-p.p c.loop-p.sheets) (c.loop-p.invariant.1 c.loop-p.p (le_refl _) place);
+    }
 
-pub zero_others-requires : goal.zero_others-requires
-zero_others-requires c =
-    (c.loop-p-test.true, ((sectors-bound _ (start c.before.before.before.before).requires.1.0).1, kept (goal.at.zero_others-requires c).After-draft_noted-answer))
+pub zero_others-requires-clause-own_lt_number : goal.zero_others-requires-clause-own_lt_number
+zero_others-requires-clause-own_lt_number c = c.loop-p-test.true
+
+pub zero_others-requires-clause-number_bound : goal.zero_others-requires-clause-number_bound
+zero_others-requires-clause-number_bound c = (sectors-bound _ (start c.before.before.before.before).requires.1.0).1
+
+pub zero_others-requires-clause-sheets_len : goal.zero_others-requires-clause-sheets_len
+zero_others-requires-clause-sheets_len c = kept (goal.at.zero_others-requires-clause-sheets_len c).After-draft_noted-answer
 
 pub returns-in_default : goal.returns-in_default
 returns-in_default c =

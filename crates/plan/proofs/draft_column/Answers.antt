@@ -41,7 +41,11 @@ lossy c = subst (Found c.before.before.before) c.answer-in-Cycle-1.given.1 c.sol
 pub solve-answer-requires : goal.solve-answer-requires
 solve-answer-requires c =
     let p = c.requires in
-    (numbered _ p.size_value, (p.column_value, search rules))
+    record {
+      numbered = numbered _ p.size_value;
+      map_value = p.column_value;
+      capacity_in_bounds = search rules;
+    }
 
 pub write-requires : goal.write-requires
 write-requires c =
@@ -49,13 +53,23 @@ write-requires c =
     let few = small.few in
     let long = room (goal.at.write-requires c).After-solve-answer in
     let made = c.at_most.ensures in
-    ((start c.before.before.before.before.before.before.before).requires.1.1, (omega arith, (omega arith, λ i h. small.stripe i (omega arith))))
+    record {
+      sheet_len = (start c.before.before.before.before.before.before.before).requires.1.1;
+      count_le_records = omega arith;
+      count_in_bounds = omega arith;
+      by_index = λ i h. small.stripe i (omega arith);
+    }
 
 pub write-requires-in-Cycle : goal.write-requires-in-Cycle
 write-requires-in-Cycle c =
     let small = listed-fits (cycle-fits _ (start c.before.before.before.before.before.before).requires.0 _ (lossy (goal.at.write-requires-in-Cycle c).In-Cycle-2).lossy) _ _ (lossy (goal.at.write-requires-in-Cycle c).In-Cycle-2).entries in
     let long = room (goal.at.write-requires-in-Cycle c).After-solve-answer in
-    ((start c.before.before.before.before.before.before).requires.1.1, (small.few, (omega arith, small.stripe)))
+    record {
+      sheet_len = (start c.before.before.before.before.before.before).requires.1.1;
+      count_le_records = small.few;
+      count_in_bounds = omega arith;
+      by_index = small.stripe;
+    }
 
 pub returns-in-Repairs : goal.returns-in-Repairs
 returns-in-Repairs c =

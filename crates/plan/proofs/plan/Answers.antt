@@ -3,7 +3,6 @@
 use mathlib.Core.Path.{◌≡◌, sym, ◌∙◌}
 use mathlib.Core.Bool.{true}
 use native.Mathlib.Omega.{arith}
-use borrow.Author.Tests.{not-true, not-false}
 use lib.ListN.{length}
 use Rattle.stripes.specs.Erased.{erasures}
 use Rattle.model.specs.Grid.{size_fits, sectors_fit}
@@ -18,20 +17,20 @@ use Rattle.plan.proofs.plan.Goals as goal
 
 -- What each test that was passed has shown.
 sized : (c : goal.Else-not-size_fits) → size_fits c.args.size ≡ true
-sized c = sym c.size_fits_lem.ensures ∙ not-false _ c.if-not-size_fits.false
+sized c = sym c.size_fits_lem.ensures ∙ c.if-not-size_fits.false
 
 cut : (c : goal.Else-not-sectors_fit) → sectors_fit c.args.sectors ≡ true
-cut c = sym c.sectors_fit.ensures ∙ not-false _ c.if-not-sectors_fit.false
+cut c = sym c.sectors_fit.ensures ∙ c.if-not-sectors_fit.false
 
 tested : (c : goal.Else-status-ne0) → let a = c.args in
     refusal (sheet_tests a.size a.sectors a.map.now (length a.sheets.now)) ≡ 0
 tested c = sym c.sheet_refusal-status.ensures ∙ c.if-status-ne0.false
 
 pub returns-then-not-size_fits : goal.returns-then-not-size_fits
-returns-then-not-size_fits c = refused-size _ _ _ _ (sym c.size_fits_lem.ensures ∙ not-true _ c.if-not-size_fits.true)
+returns-then-not-size_fits c = refused-size _ _ _ _ (sym c.size_fits_lem.ensures ∙ c.if-not-size_fits.true)
 
 pub returns-then-not-sectors_fit : goal.returns-then-not-sectors_fit
-returns-then-not-sectors_fit c = refused-sectors _ _ _ _ (sized (goal.at.returns-then-not-sectors_fit c).Else-not-size_fits) (sym c.sectors_fit.ensures ∙ not-true _ c.if-not-sectors_fit.true)
+returns-then-not-sectors_fit c = refused-sectors _ _ _ _ (sized (goal.at.returns-then-not-sectors_fit c).Else-not-size_fits) (sym c.sectors_fit.ensures ∙ c.if-not-sectors_fit.true)
 
 pub sheet_refusal-status-requires-clause-size_value : goal.sheet_refusal-status-requires-clause-size_value
 sheet_refusal-status-requires-clause-size_value c = sized (goal.at.sheet_refusal-status-requires-clause-size_value c).Else-not-size_fits
@@ -49,7 +48,12 @@ overflow_mul-sectors c = let few = (sectors-bound _ (cut (goal.at.overflow_mul-s
 pub draft-requires : goal.draft-requires
 draft-requires c =
     let (map, long) = sheet_fits _ _ _ _ (tested (goal.at.draft-requires c).Else-status-ne0) in
-    (sized (goal.at.draft-requires c).Else-not-size_fits, (cut (goal.at.draft-requires c).Else-not-sectors_fit, (map, long)))
+    record {
+      size_value = sized (goal.at.draft-requires c).Else-not-size_fits;
+      sectors_value = cut (goal.at.draft-requires c).Else-not-sectors_fit;
+      map_value = map;
+      sheets_len = long;
+    }
 
 pub returns : goal.returns
 returns c =

@@ -18,19 +18,15 @@ found : (c : goal.Else-len-eq0) → let a = c.args in Found (rectangle a.rows a.
 unfolding rectangle
 found c = let a = c.args in look_some (rectangle a.rows a.columns) a.block a.sector a.array.now a.map.now a.disk (λ e. c.if-len-eq0.false (part_is c.before ∙ sym e))
 
-pub returns-then-len-eq0-clause-length : goal.returns-then-len-eq0-clause-length
+pub returns-then-len-eq0 : goal.returns-then-len-eq0
 unfolding rectangle
-returns-then-len-eq0-clause-length c =
+returns-then-len-eq0 c =
     let a = c.args in
-    let e = sym c.if-len-eq0.true ∙ part_is (goal.at.returns-then-len-eq0-clause-length c).After-look-part in
-    e
-
-pub returns-then-len-eq0-clause-offset : goal.returns-then-len-eq0-clause-offset
-unfolding rectangle
-returns-then-len-eq0-clause-offset c =
-    let a = c.args in
-    let e = sym c.if-len-eq0.true ∙ part_is (goal.at.returns-then-len-eq0-clause-offset c).After-look-part in
-    look_none (rectangle a.rows a.columns) a.block a.sector a.array.now a.map.now a.disk e a.offset.now
+    let e = sym c.if-len-eq0.true ∙ part_is (goal.at.returns-then-len-eq0 c).After-look-part in
+    record {
+      length = e;
+      offset = look_none (rectangle a.rows a.columns) a.block a.sector a.array.now a.map.now a.disk e a.offset.now;
+    }
 
 pub overflow_mul-offset : goal.overflow_mul-offset
 unfolding rectangle

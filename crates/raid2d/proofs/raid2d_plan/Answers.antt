@@ -11,13 +11,10 @@ unfolding rectangle
 returns c =
     let (outcome, sheets) = c.plan-answer.ensures in
     let (status, (count, position)) = c.report.ensures in
-    let a = c.args in (
-      status ∙ ap outcome_status outcome,
-      (
-        sheets,
-        (
-          count ∙ ap (λ (o : Outcome). outcome_count o a.count.now) outcome,
-          position ∙ ap (λ (o : Outcome). outcome_position o a.position.now) outcome,
-        ),
-      ),
-    )
+    let a = c.args in
+    record {
+      status = status ∙ ap outcome_status outcome;
+      sheets = sheets;
+      count = count ∙ ap (λ (o : Outcome). outcome_count o a.count.now) outcome;
+      position = position ∙ ap (λ (o : Outcome). outcome_position o a.position.now) outcome;
+    }

@@ -12,4 +12,8 @@ returns c =
     let (outcome, sheet) = c.plan_disk-answer.ensures in
     let (status, count) = c.report_one.ensures in
     let before = c.args.count.now in
-    (status ∙ ap outcome_status outcome, (sheet, count ∙ ap (λ (o : Outcome). outcome_count o before) outcome))
+    record {
+      status = status ∙ ap outcome_status outcome;
+      sheet = sheet;
+      count = count ∙ ap (λ (o : Outcome). outcome_count o before) outcome;
+    }

@@ -11,19 +11,12 @@ unfolding rectangle
 returns c =
     let (outcome, (array, (map, sheets))) = c.rebuild-answer.ensures in
     let (status, (count, position)) = c.report.ensures in
-    let a = c.args in (
-      status ∙ ap outcome_status outcome,
-      (
-        array,
-        (
-          map,
-          (
-            sheets,
-            (
-              count ∙ ap (λ (o : Outcome). outcome_count o a.count.now) outcome,
-              position ∙ ap (λ (o : Outcome). outcome_position o a.position.now) outcome,
-            ),
-          ),
-        ),
-      ),
-    )
+    let a = c.args in
+    record {
+      status = status ∙ ap outcome_status outcome;
+      array = array;
+      map = map;
+      sheets = sheets;
+      count = count ∙ ap (λ (o : Outcome). outcome_count o a.count.now) outcome;
+      position = position ∙ ap (λ (o : Outcome). outcome_position o a.position.now) outcome;
+    }

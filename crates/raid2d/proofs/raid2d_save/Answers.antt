@@ -12,4 +12,8 @@ returns c =
     let (answer, array) = c.save-answer.ensures in
     let (status, count) = c.report_saving.ensures in
     let before = c.args.count.now in
-    (status ∙ ap saving_status answer, (array, count ∙ ap (λ (r : Saving). saving_count r before) answer))
+    record {
+      status = status ∙ ap saving_status answer;
+      array = array;
+      count = count ∙ ap (λ (r : Saving). saving_count r before) answer;
+    }

@@ -4,7 +4,6 @@ use mathlib.Core.Path.{◌≡◌, ◌∙◌, sym}
 use mathlib.Core.Bool.{true}
 use Prim.Native.Nat.{◌/◌}
 use native.Mathlib.Omega.{arith}
-use borrow.Author.Tests.{not-true, not-false}
 use lib.ListN.{length}
 use Rattle.model.specs.Grid.{sectors_fit}
 use Rattle.model.specs.Refusal.{refusal, sector_tests}
@@ -64,15 +63,13 @@ nonzero_div-sectors c =
     let a = c.args in
     sector-some a.block a.sector (sector_fits_lem a.size a.block (length a.array.now) a.sector (array_ok (goal.at.nonzero_div-sectors c).Else-of_array-ne0)).1
 
-pub sheet_refusal-of_sheets-requires-clause-size_value : goal.sheet_refusal-of_sheets-requires-clause-size_value
-sheet_refusal-of_sheets-requires-clause-size_value c =
+pub sheet_refusal-of_sheets-requires : goal.sheet_refusal-of_sheets-requires
+sheet_refusal-of_sheets-requires c =
     let a = c.args in
-    (sector_fits_lem a.size a.block (length a.array.now) a.sector (array_ok (goal.at.sheet_refusal-of_sheets-requires-clause-size_value c).Else-of_array-ne0)).0.size
-
-pub sheet_refusal-of_sheets-requires-clause-sectors_value : goal.sheet_refusal-of_sheets-requires-clause-sectors_value
-sheet_refusal-of_sheets-requires-clause-sectors_value c =
-    let a = c.args in
-    some-sectors (goal.at.sheet_refusal-of_sheets-requires-clause-sectors_value c).Else-of_array-ne0
+    record {
+      size_value = (sector_fits_lem a.size a.block (length a.array.now) a.sector (array_ok (goal.at.sheet_refusal-of_sheets-requires c).Else-of_array-ne0)).0.size;
+      sectors_value = some-sectors (goal.at.sheet_refusal-of_sheets-requires c).Else-of_array-ne0;
+    }
 
 pub returns-then-of_sheets-ne0 : goal.returns-then-of_sheets-ne0
 returns-then-of_sheets-ne0 c =
@@ -89,7 +86,12 @@ returns-then-limit-eq0 c =
 pub draft-answer-requires : goal.draft-answer-requires
 draft-answer-requires c =
     let f = fitting (passed (goal.at.draft-answer-requires c).Else-limit-eq0) in
-    (f.array.size, (some-sectors (goal.at.draft-answer-requires c).Else-of_array-ne0, (f.map, f.long)))
+    record {
+      size_value = f.array.size;
+      sectors_value = some-sectors (goal.at.draft-answer-requires c).Else-of_array-ne0;
+      map_value = f.map;
+      sheets_len = f.long;
+    }
 
 pub returns-in_default : goal.returns-in_default
 returns-in_default c =
@@ -99,20 +101,25 @@ pub make-requires : goal.make-requires
 make-requires c =
     let a = (start (tests (draft c.before.before.before))).args in
     let p = drafted (goal.at.make-requires c).After-at_most-made in
-    let f = fitting p.tests in (
-      numbered a.size f.array.size,
-      (
-        held p.tests,
-        (f.map, (sheets-long p, (chains-fit p, (peels p, (made-is p, (made-few p, count-is p)))))),
-      ),
-    )
+    let f = fitting p.tests in
+    record {
+      numbered = numbered a.size f.array.size;
+      sectored = held p.tests;
+      map_value = f.map;
+      sheets_len = sheets-long p;
+      by_index = chains-fit p;
+      peels = peels p;
+      made_value = made-is p;
+      made_le_count = made-few p;
+      count_value = count-is p;
+    }
 
 pub zero_all-requires : goal.zero_all-requires
 zero_all-requires c = sheets-long (drafted (goal.at.zero_all-requires c).After-at_most-made)
 
 pub returns-then-not-make : goal.returns-then-not-make
 returns-then-not-make c =
-    contradicted (drafted (goal.at.returns-then-not-make c).After-at_most-made) _ c.make.ensures.answer (not-true _ c.if-not-make.true)
+    contradicted (drafted (goal.at.returns-then-not-make c).After-at_most-made) _ c.make.ensures.answer (c.if-not-make.true)
     _ _ c.make.ensures.array c.zero_all.ensures
 
 pub mark_present-requires : goal.mark_present-requires
@@ -120,9 +127,14 @@ mark_present-requires c =
     let p = drafted (goal.at.mark_present-requires c).After-at_most-made in
     let t = tests (draft c.before.before.before.before.before.before.before.before.before) in
     let a = (start t).args in
-    ((sectors-bound (a.block / a.sector) (some-sectors t.before.before.before.before)).1, (sheets-long p, (chains-fit p, in_map p)))
+    record {
+      sectors_bound = (sectors-bound (a.block / a.sector) (some-sectors t.before.before.before.before)).1;
+      sheets_len = sheets-long p;
+      by_index = chains-fit p;
+      within = in_map p;
+    }
 
 pub returns : goal.returns
 returns c =
     made-them (drafted (goal.at.returns c).After-at_most-made) _ c.make.ensures.answer
-    (not-false _ c.if-not-make.false) _ _ c.make.ensures.array c.mark_present.ensures
+    (c.if-not-make.false) _ _ c.make.ensures.array c.mark_present.ensures

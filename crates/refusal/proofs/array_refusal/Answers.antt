@@ -1,26 +1,26 @@
 -- `refusal::array_refusal` meets its contract: each return is the first test that fails.
 -- Assumes nothing.
 use mathlib.Core.Path.{◌∙◌, sym}
-use borrow.Author.Tests.{not-true, not-false, ne_eqb}
+use borrow.Author.Tests.{ne_eqb}
 use Rattle.model.specs.Refusal.{array_tests}
 use Rattle.model.proofs.Refusal.{fails, passes, array-accepted}
 use Rattle.refusal.proofs.array_refusal.Goals as goal
 
 pub returns-then-not-size_fits : goal.returns-then-not-size_fits
 unfolding array_tests
-returns-then-not-size_fits c = sym (fails 1 _ _ (sym c.size_fits_lem.ensures ∙ not-true _ c.if-not-size_fits.true))
+returns-then-not-size_fits c = sym (fails 1 _ _ (sym c.size_fits_lem.ensures ∙ c.if-not-size_fits.true))
 
 pub returns-then-not-block_fits : goal.returns-then-not-block_fits
 unfolding array_tests
 returns-then-not-block_fits c =
-    let size = sym c.size_fits_lem.ensures ∙ not-false _ c.if-not-size_fits.false in
-    sym (passes 1 _ _ size ∙ fails 2 _ _ (sym c.block_fits.ensures ∙ not-true _ c.if-not-block_fits.true))
+    let size = sym c.size_fits_lem.ensures ∙ c.if-not-size_fits.false in
+    sym (passes 1 _ _ size ∙ fails 2 _ _ (sym c.block_fits.ensures ∙ c.if-not-block_fits.true))
 
 pub array_bytes-requires-clause-size_value : goal.array_bytes-requires-clause-size_value
-array_bytes-requires-clause-size_value c = sym c.size_fits_lem.ensures ∙ not-false _ c.if-not-size_fits.false
+array_bytes-requires-clause-size_value c = sym c.size_fits_lem.ensures ∙ c.if-not-size_fits.false
 
 pub array_bytes-requires-clause-block_value : goal.array_bytes-requires-clause-block_value
-array_bytes-requires-clause-block_value c = sym c.block_fits.ensures ∙ not-false _ c.if-not-block_fits.false
+array_bytes-requires-clause-block_value c = sym c.block_fits.ensures ∙ c.if-not-block_fits.false
 
 pub returns-then-len-array_bytes : goal.returns-then-len-array_bytes
 unfolding array_tests

@@ -5,7 +5,6 @@ use mathlib.Core.Bool.{true}
 use Prim.Native.Nat.{ℕ, ◌-◌}
 use native.Mathlib.Omega.{arith}
 use borrow.Author.Rules.{rules}
-use borrow.Author.Tests.{not-true, not-false}
 use Rattle.stripes.specs.Erased.{erasures}
 use Rattle.stripes.specs.Repair.{allowed, all_allowed}
 use Rattle.stripes.proofs.Peel.{allowed_is}
@@ -31,16 +30,21 @@ allowed-requires-clause-tallied c = c.loop-k.invariant.3.tallied
 pub returns-then-not-allowed : goal.returns-then-not-allowed
 returns-then-not-allowed c =
     replayed_refused c.loop-k.invariant.3 _ _ c.disk_of-disk.ensures c.stripe_of-stripe.ensures
-    (sym c.allowed.ensures ∙ not-true _ c.if-not-allowed.true) _ c.loop-k-test.true
+    (sym c.allowed.ensures ∙ c.if-not-allowed.true) _ c.loop-k-test.true
 
 -- The entry is a repair that is allowed.
 may : (c : goal.Else-not-allowed) →
     allowed (layout_of (start c.before.before.before.before.before.before.before).args.size (start c.before.before.before.before.before.before.before).args.base) (erasures c.loop-k.work) c.disk_of-disk.result c.stripe_of-stripe.result ≡ true
-may c = sym c.allowed.ensures ∙ not-false _ c.if-not-allowed.false
+may c = sym c.allowed.ensures ∙ c.if-not-allowed.false
 
-pub take-requires : goal.take-requires
-take-requires c =
-    ((start c.before.before.before.before.before.before.before.before.before).requires.0, (c.loop-k.invariant.3.tallied, (allowed_is _ _ _ _ (may (goal.at.take-requires c).Else-not-allowed)).erased))
+pub take-requires-clause-numbered : goal.take-requires-clause-numbered
+take-requires-clause-numbered c = (start c.before.before.before.before.before.before.before.before.before).requires.0
+
+pub take-requires-clause-tallied_2 : goal.take-requires-clause-tallied_2
+take-requires-clause-tallied_2 c = c.loop-k.invariant.3.tallied
+
+pub take-requires-clause-disk_value : goal.take-requires-clause-disk_value
+take-requires-clause-disk_value c = (allowed_is _ _ _ _ (may (goal.at.take-requires-clause-disk_value c).Else-not-allowed)).erased
 
 pub loop-k-preserved : goal.loop-k-preserved
 loop-k-preserved c =

@@ -20,4 +20,10 @@ clears_in-requires c =
     let p = c.requires in
     let few = slice_bounds-work-end c.before.before.before in
     let long = sym (slice_bounds-clears_in-end c.before.before) in
-    (p.numbered, (record { positioned = p.positioned; room = long ∙ c.disks-disks.ensures }, (p.count_in_bounds, (omega arith, omega arith))))
+    record {
+      numbered = p.numbered;
+      located = record { positioned = p.positioned; room = long ∙ c.disks-disks.ensures };
+      count_in_bounds = p.count_in_bounds;
+      work_in_bounds = omega arith;
+      stripe_limit_in_bounds = omega arith;
+    }

@@ -4,7 +4,6 @@ use mathlib.Core.Path.{◌≡◌, sym, ◌∙◌, ap, ap₂}
 use mathlib.Core.Bool.{Bool}
 use Prim.Native.Nat.{ℕ}
 use native.Mathlib.Omega.{arith}
-use borrow.Author.Tests.{not-true, not-false}
 use Rattle.stripes.specs.Fold.{count}
 use Rattle.stripes.specs.Erased.{erasures}
 use Rattle.stripes.specs.Repair.{all_allowed}
@@ -27,7 +26,13 @@ tally-erased-requires c =
     let room = p.1.0.room in
     let same = c.load_position.auto.1.1.1.1.0 in
     let past = position_inside p.1.0.positioned in
-    (p.0, (omega arith, (λ d l. ap (λ (e : ℕ → Bool). e d) c.load_position.ensures ∙ past d l, (omega arith, omega arith))))
+    record {
+      numbered = p.0;
+      size_in_bounds = omega arith;
+      by_index = λ d l. ap (λ (e : ℕ → Bool). e d) c.load_position.ensures ∙ past d l;
+      work_in_bounds = omega arith;
+      stripe_limit_in_bounds = omega arith;
+    }
 
 -- Where the position was loaded, from the judgement on; and what is found is so of the position.
 abbrev loaded : goal.After-all_allowed → goal.After-load_position
@@ -44,10 +49,10 @@ judged c =
 
 pub returns-then-not-all_allowed : goal.returns-then-not-all_allowed
 returns-then-not-all_allowed c =
-    clears-not _ _ _ _ (sym (judged (goal.at.returns-then-not-all_allowed c).After-all_allowed) ∙ not-true _ c.if-not-all_allowed.true)
+    clears-not _ _ _ _ (sym (judged (goal.at.returns-then-not-all_allowed c).After-all_allowed) ∙ c.if-not-all_allowed.true)
 
 pub returns : goal.returns
 returns c =
     let a = (start (loaded c.before.before.before.before.before)).args in
-    clears_all _ _ _ _ (sym (judged (goal.at.returns c).After-all_allowed) ∙ not-false _ c.if-not-all_allowed.false) _
+    clears_all _ _ _ _ (sym (judged (goal.at.returns c).After-all_allowed) ∙ c.if-not-all_allowed.false) _
     (c.tally-erased.ensures.number ∙ ap₂ count (sym (layout-disks a.size a.base)) (loaded c.before.before.before.before.before).load-position.ensures)

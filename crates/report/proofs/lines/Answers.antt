@@ -28,7 +28,11 @@ pair-next-requires c =
     let small₂ = l.invariant.0.stripe l.k turn in
     let disk = c.disk_of-disk.ensures in
     let stripe = c.stripe_of-stripe.ensures in
-    (omega arith, (omega arith, omega arith))
+    record {
+      at_in_bounds = omega arith;
+      first_bound = omega arith;
+      second_bound = omega arith;
+    }
 
 pub overflow_add-k : goal.overflow_add-k
 overflow_add-k c = omega arith

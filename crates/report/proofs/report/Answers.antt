@@ -5,7 +5,6 @@ use mathlib.Core.Bool.{true}
 use mathlib.Core.List.{List}
 use Prim.Native.Nat.{ℕ, ◌≤◌}
 use native.Mathlib.Omega.{arith}
-use borrow.Author.Tests.{not-true, not-false}
 use lib.ListN.{length}
 use Rattle.stripes.specs.Erased.{erasures}
 use Rattle.model.specs.Grid.{size_fits, sectors_fit, map_bytes, map_fits}
@@ -23,13 +22,13 @@ use Rattle.report.proofs.report.Goals as goal
 
 -- What each test that was passed has shown.
 sized : (c : goal.Else-not-size_fits) → size_fits c.args.size ≡ true
-sized c = sym c.size_fits_lem.ensures ∙ not-false _ c.if-not-size_fits.false
+sized c = sym c.size_fits_lem.ensures ∙ c.if-not-size_fits.false
 
 abbrev start : goal.Else-not-map_fits → goal.Start
 start c = c.before.before.before.before.before.before
 
 mapped : (c : goal.Else-not-map_fits) → let a = (start c).args in map_fits (map_bytes a.size 1) a.map.now ≡ true
-mapped c = sym c.map_fits.ensures ∙ not-false _ c.if-not-map_fits.false
+mapped c = sym c.map_fits.ensures ∙ c.if-not-map_fits.false
 
 -- The list after it was solved.
 abbrev after : goal.After-solve-answer → List ℕ
@@ -50,7 +49,7 @@ lossy c = subst (Found c.before.before.before) c.answer-in-Cycle-1.given.1 c.sol
 
 pub returns-then-not-size_fits : goal.returns-then-not-size_fits
 returns-then-not-size_fits c =
-    written_as (size_refused _ _ (sym c.size_fits_lem.ensures ∙ not-true _ c.if-not-size_fits.true))
+    written_as (size_refused _ _ (sym c.size_fits_lem.ensures ∙ c.if-not-size_fits.true))
     c.refused.ensures
 
 pub map_fits-requires-clause-size_value : goal.map_fits-requires-clause-size_value
@@ -63,20 +62,34 @@ map_fits-requires-clause-sectors_value c = refl
 
 pub returns-then-not-map_fits : goal.returns-then-not-map_fits
 returns-then-not-map_fits c =
-    written_as (map-refused _ _ (sized (goal.at.returns-then-not-map_fits c).Else-not-size_fits) (sym c.map_fits.ensures ∙ not-true _ c.if-not-map_fits.true)) c.refused-then-not-map_fits.ensures
+    written_as (map-refused _ _ (sized (goal.at.returns-then-not-map_fits c).Else-not-size_fits) (sym c.map_fits.ensures ∙ c.if-not-map_fits.true)) c.refused-then-not-map_fits.ensures
 
 pub solve-answer-requires : goal.solve-answer-requires
 solve-answer-requires c =
     let a = (start c.before).args in
-    (numbered _ (sized (goal.at.solve-answer-requires c).Else-not-size_fits), (ap (λ (k : ℕ). map_fits k a.map.now) (sym (one_byte a.size)) ∙ mapped (goal.at.solve-answer-requires c).Else-not-map_fits, omega arith))
+    record {
+      numbered = numbered _ (sized (goal.at.solve-answer-requires c).Else-not-size_fits);
+      map_value = ap (λ (k : ℕ). map_fits k a.map.now) (sym (one_byte a.size)) ∙ mapped (goal.at.solve-answer-requires c).Else-not-map_fits;
+      capacity_in_bounds = omega arith;
+    }
 
-pub listed-requires : goal.listed-requires
-listed-requires c =
-    (omega arith, (repairs-printable _ _ (sized (goal.at.listed-requires c).Else-not-size_fits) (fine (goal.at.listed-requires c).In-Repairs-2) (room (goal.at.listed-requires c).After-solve-answer), (start c.before.before.before.before.before.before.before.before.before).requires))
+pub listed-requires-clause-word_len_bound : goal.listed-requires-clause-word_len_bound
+listed-requires-clause-word_len_bound c = omega arith
 
-pub listed-requires-in-Cycle : goal.listed-requires-in-Cycle
-listed-requires-in-Cycle c =
-    (omega arith, (cycle-printable _ _ (sized (goal.at.listed-requires-in-Cycle c).Else-not-size_fits) (lossy (goal.at.listed-requires-in-Cycle c).In-Cycle-2) (room (goal.at.listed-requires-in-Cycle c).After-solve-answer), (start c.before.before.before.before.before.before.before.before.before).requires))
+pub listed-requires-clause-printable : goal.listed-requires-clause-printable
+listed-requires-clause-printable c = repairs-printable _ _ (sized (goal.at.listed-requires-clause-printable c).Else-not-size_fits) (fine (goal.at.listed-requires-clause-printable c).In-Repairs-2) (room (goal.at.listed-requires-clause-printable c).After-solve-answer)
+
+pub listed-requires-clause-out_len : goal.listed-requires-clause-out_len
+listed-requires-clause-out_len c = (start c.before.before.before.before.before.before.before.before.before).requires
+
+pub listed-requires-in-Cycle-clause-word_len_bound : goal.listed-requires-in-Cycle-clause-word_len_bound
+listed-requires-in-Cycle-clause-word_len_bound c = omega arith
+
+pub listed-requires-in-Cycle-clause-printable : goal.listed-requires-in-Cycle-clause-printable
+listed-requires-in-Cycle-clause-printable c = cycle-printable _ _ (sized (goal.at.listed-requires-in-Cycle-clause-printable c).Else-not-size_fits) (lossy (goal.at.listed-requires-in-Cycle-clause-printable c).In-Cycle-2) (room (goal.at.listed-requires-in-Cycle-clause-printable c).After-solve-answer)
+
+pub listed-requires-in-Cycle-clause-out_len : goal.listed-requires-in-Cycle-clause-out_len
+listed-requires-in-Cycle-clause-out_len c = (start c.before.before.before.before.before.before.before.before.before).requires
 
 pub returns-in-Repairs : goal.returns-in-Repairs
 unfolding repair_word

@@ -13,19 +13,16 @@ returns-then-all_cancel c =
     all_restored a.size a.base a.block a.sector a.array.now c.requires.sectored (erasures a.map.now) _ c.requires.peels
     _ c.repair_positions.ensures (sym c.all_cancel.ensures ∙ c.if-all_cancel.true)
 
-pub zero_erased-requires-clause-array_len : goal.zero_erased-requires-clause-array_len
-zero_erased-requires-clause-array_len c =
+pub zero_erased-requires : goal.zero_erased-requires
+zero_erased-requires c =
     let a = c.args in
     let e = erasures a.map.now in
-    map-sized a.size a.base a.block a.sector a.array.now c.requires.sectored e _ c.requires.peels _
-          c.repair_positions.ensures a.map.now c.requires.map_value
-
-pub zero_erased-requires-clause-array_len_bound : goal.zero_erased-requires-clause-array_len_bound
-zero_erased-requires-clause-array_len_bound c =
-    let a = c.args in
-    let e = erasures a.map.now in
-    few_bytes a.size a.base a.block a.sector a.array.now c.requires.sectored e _ c.requires.peels _
-          c.repair_positions.ensures c.requires.numbered.fits
+    record {
+      array_len = map-sized a.size a.base a.block a.sector a.array.now c.requires.sectored e _ c.requires.peels _
+          c.repair_positions.ensures a.map.now c.requires.map_value;
+      array_len_bound = few_bytes a.size a.base a.block a.sector a.array.now c.requires.sectored e _ c.requires.peels _
+          c.repair_positions.ensures c.requires.numbered.fits;
+    }
 
 pub returns : goal.returns
 unfolding whole

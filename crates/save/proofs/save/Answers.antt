@@ -3,7 +3,6 @@
 use mathlib.Core.Path.{◌≡◌, sym, ◌∙◌}
 use mathlib.Core.Bool.{true}
 use Prim.Native.Nat.{◌/◌}
-use borrow.Author.Tests.{not-true, not-false}
 use lib.ListN.{length}
 use Rattle.model.specs.Grid.{map_bytes, map_fits}
 use Rattle.model.specs.Refusal.{refusal, sector_tests}
@@ -25,70 +24,66 @@ accepted c = sym c.sector_refusal-status.ensures ∙ c.if-status-ne0.false
 fitting : (c : goal.Else-not-map_fits) →
     let a = c.args in
     map_fits (map_bytes a.size (a.block / a.sector)) a.map.now ≡ true
-fitting c = sym c.map_fits.ensures ∙ not-false _ c.if-not-map_fits.false
+fitting c = sym c.map_fits.ensures ∙ c.if-not-map_fits.false
 
 pub nonzero_div-block : goal.nonzero_div-block
 nonzero_div-block c = let a = c.args in some_bytes a.size a.block a.sector a.array.now a.map.now (accepted (goal.at.nonzero_div-block c).Else-status-ne0)
 
-pub map_fits-requires-clause-size_value : goal.map_fits-requires-clause-size_value
-map_fits-requires-clause-size_value c =
+pub map_fits-requires : goal.map_fits-requires
+map_fits-requires c =
     let a = c.args in
-    let ok = accepted (goal.at.map_fits-requires-clause-size_value c).Else-status-ne0 in
-    (is-numbered a.size a.block a.sector a.array.now a.map.now ok).fits
-
-pub map_fits-requires-clause-sectors_value : goal.map_fits-requires-clause-sectors_value
-map_fits-requires-clause-sectors_value c =
-    let a = c.args in
-    let ok = accepted (goal.at.map_fits-requires-clause-sectors_value c).Else-status-ne0 in
-    sectors-fit a.size a.block a.sector a.array.now a.map.now ok
+    let ok = accepted (goal.at.map_fits-requires c).Else-status-ne0 in
+    record {
+      size_value = (is-numbered a.size a.block a.sector a.array.now a.map.now ok).fits;
+      sectors_value = sectors-fit a.size a.block a.sector a.array.now a.map.now ok;
+    }
 
 pub returns-then-not-map_fits : goal.returns-then-not-map_fits
 returns-then-not-map_fits c =
     let a = c.args in
     refused-map a.size a.block a.sector a.array.now a.map.now (accepted (goal.at.returns-then-not-map_fits c).Else-status-ne0)
-    (sym c.map_fits.ensures ∙ not-true _ c.if-not-map_fits.true)
+    (sym c.map_fits.ensures ∙ c.if-not-map_fits.true)
 
 pub all_fit-requires : goal.all_fit-requires
 all_fit-requires c =
     let a = c.args in
-    let ok = accepted (goal.at.all_fit-requires c).Else-status-ne0 in (
-      is-numbered a.size a.block a.sector a.array.now a.map.now ok,
-      (is-sectored a.size a.block a.sector a.array.now a.map.now ok, fitting (goal.at.all_fit-requires c).Else-not-map_fits),
-    )
+    let ok = accepted (goal.at.all_fit-requires c).Else-status-ne0 in
+    record {
+      numbered = is-numbered a.size a.block a.sector a.array.now a.map.now ok;
+      sectored = is-sectored a.size a.block a.sector a.array.now a.map.now ok;
+      map_value = fitting (goal.at.all_fit-requires c).Else-not-map_fits;
+    }
 
-pub zero_erased-requires-clause-array_len : goal.zero_erased-requires-clause-array_len
-zero_erased-requires-clause-array_len c =
+pub zero_erased-requires : goal.zero_erased-requires
+zero_erased-requires c =
     let a = c.args in
-    let ok = accepted (goal.at.zero_erased-requires-clause-array_len c).Else-status-ne0 in
-    byte-each a.size a.block a.sector a.array.now a.map.now ok (fitting (goal.at.zero_erased-requires-clause-array_len c).Else-not-map_fits)
-
-pub zero_erased-requires-clause-array_len_bound : goal.zero_erased-requires-clause-array_len_bound
-zero_erased-requires-clause-array_len_bound c =
-    let a = c.args in
-    let ok = accepted (goal.at.zero_erased-requires-clause-array_len_bound c).Else-status-ne0 in
-    array-few a.size a.block a.sector a.array.now a.map.now ok
+    let ok = accepted (goal.at.zero_erased-requires c).Else-status-ne0 in
+    record {
+      array_len = byte-each a.size a.block a.sector a.array.now a.map.now ok (fitting (goal.at.zero_erased-requires c).Else-not-map_fits);
+      array_len_bound = array-few a.size a.block a.sector a.array.now a.map.now ok;
+    }
 
 pub returns-then-not-all_fit : goal.returns-then-not-all_fit
 returns-then-not-all_fit c =
     let a = c.args in
     contradicted a.size a.block a.sector a.array.now a.map.now (accepted (goal.at.returns-then-not-all_fit c).Else-status-ne0) (fitting (goal.at.returns-then-not-all_fit c).Else-not-map_fits)
-    (sym c.all_fit.ensures ∙ not-true _ c.if-not-all_fit.true)
+    (sym c.all_fit.ensures ∙ c.if-not-all_fit.true)
     c.zero_erased.ensures
 
 pub save_all-number-requires : goal.save_all-number-requires
 save_all-number-requires c =
     let a = c.args in
-    let ok = accepted (goal.at.save_all-number-requires c).Else-status-ne0 in (
-      is-numbered a.size a.block a.sector a.array.now a.map.now ok,
-      (
-        is-sectored a.size a.block a.sector a.array.now a.map.now ok,
-        (fitting (goal.at.save_all-number-requires c).Else-not-map_fits, sym c.all_fit.ensures ∙ not-false _ c.if-not-all_fit.false),
-      ),
-    )
+    let ok = accepted (goal.at.save_all-number-requires c).Else-status-ne0 in
+    record {
+      numbered = is-numbered a.size a.block a.sector a.array.now a.map.now ok;
+      sectored = is-sectored a.size a.block a.sector a.array.now a.map.now ok;
+      map_value = fitting (goal.at.save_all-number-requires c).Else-not-map_fits;
+      array_value = sym c.all_fit.ensures ∙ c.if-not-all_fit.false;
+    }
 
 pub returns : goal.returns
 returns c =
     let a = c.args in
     let (number, array) = c.save_all-number.ensures in
     determined-saved a.size a.block a.sector a.array.now a.map.now (accepted (goal.at.returns c).Else-status-ne0) (fitting (goal.at.returns c).Else-not-map_fits)
-    (sym c.all_fit.ensures ∙ not-false _ c.if-not-all_fit.false) number array
+    (sym c.all_fit.ensures ∙ c.if-not-all_fit.false) number array

@@ -27,13 +27,13 @@ save_position-number-requires c =
     let m = c.args.map.now in
     let place = c.loop-p-test.true in
     let (numbered, (held, (fits, fit))) = c.requires in
-    let to = c.loop-p.invariant.0 in (
-      numbered,
-      (
-        held_at numbered held m place (saved-length numbered held m to),
-        (positioned numbered held m place fits, still_fits numbered held m to place fit),
-      ),
-    )
+    let to = c.loop-p.invariant.0 in
+    record {
+      numbered = numbered;
+      held = held_at numbered held m place (saved-length numbered held m to);
+      positioned = positioned numbered held m place fits;
+      array_value = still_fits numbered held m to place fit;
+    }
 
 pub overflow_add-number : goal.overflow_add-number
 overflow_add-number c =

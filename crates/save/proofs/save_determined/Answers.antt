@@ -10,7 +10,14 @@ use Rattle.save.proofs.Answers.{peels, made-few, number-few, all_saved}
 use Rattle.save.proofs.save_determined.Goals as goal
 
 pub peel-made-requires : goal.peel-made-requires
-peel-made-requires c = let p = c.requires in (p.numbered, (p.erased_value, (p.tallied, p.capacity_in_bounds)))
+peel-made-requires c =
+    let p = c.requires in
+    record {
+      numbered = p.numbered;
+      erased_value = p.erased_value;
+      tallied_2 = p.tallied;
+      capacity_in_bounds = p.capacity_in_bounds;
+    }
 
 pub repair_all-requires : goal.repair_all-requires
 repair_all-requires c =
@@ -22,19 +29,14 @@ repair_all-requires c =
     let allowed = peels a.size a.base c.requires.numbered e list p.result number entries in
     let few = made-few a.size a.base c.requires.numbered e list p.result number entries in
     let room = c.requires.capacity_in_bounds in
-    let kept = p.auto.counts.1.1.1.1.1.1.0 in (
-      c.requires.numbered,
-      (
-        c.requires.held,
-        (
-          omega arith,
-          (
-            on-disks a.size a.base e list p.result allowed,
-            on_stripes a.size a.base e list p.result allowed,
-          ),
-        ),
-      ),
-    )
+    let kept = p.auto.counts.1.1.1.1.1.1.0 in
+    record {
+      numbered = c.requires.numbered;
+      held = c.requires.held;
+      count_in_bounds = omega arith;
+      by_index = on-disks a.size a.base e list p.result allowed;
+      by_index_2 = on_stripes a.size a.base e list p.result allowed;
+    }
 
 pub sum_rest-requires : goal.sum_rest-requires
 sum_rest-requires c =
@@ -43,13 +45,12 @@ sum_rest-requires c =
     let e = erasures a.work.now in
     let list = p.new.counts.1.1.1.1.1.1.0 in
     let (number, (left, (entries, tallied))) = none-held c.requires.tallied.table.disks_fit _ _ p.ensures in
-    let allowed = peels a.size a.base c.requires.numbered e list p.result number entries in (
-      c.requires.numbered,
-      (
-        still_held a.size a.base e list p.result allowed a.stretch a.array.now c.requires.held _ c.repair_all.ensures,
-        tallied.table,
-      ),
-    )
+    let allowed = peels a.size a.base c.requires.numbered e list p.result number entries in
+    record {
+      numbered = c.requires.numbered;
+      held = still_held a.size a.base e list p.result allowed a.stretch a.array.now c.requires.held _ c.repair_all.ensures;
+      table = tallied.table;
+    }
 
 pub overflow_add-result : goal.overflow_add-result
 overflow_add-result c =

@@ -12,14 +12,27 @@ tally-erased-requires c =
     let room = p.room in
     let table = room.table_fits in
     let kept = c.load_position.auto.1.1.1.1.0 in
-    (p.numbered, (omega arith, (loaded_inside located.positioned _ c.load_position.ensures, (omega arith, room.stripes_fit))))
+    record {
+      numbered = p.numbered;
+      size_in_bounds = omega arith;
+      by_index = loaded_inside located.positioned _ c.load_position.ensures;
+      work_in_bounds = omega arith;
+      stripe_limit_in_bounds = room.stripes_fit;
+    }
 
 pub save_determined-requires : goal.save_determined-requires
 save_determined-requires c =
     let p = c.requires in
     let (number, tallied) = c.tally-erased.ensures in
     let fit = rw (← c.load_position.ensures) at p.array_value in
-    (p.numbered, (p.held, (number, (tallied, (p.room.list_fits, fit)))))
+    record {
+      numbered = p.numbered;
+      held = p.held;
+      erased_value = number;
+      tallied = tallied;
+      capacity_in_bounds = p.room.list_fits;
+      array_value = fit;
+    }
 
 pub returns : goal.returns
 returns c =

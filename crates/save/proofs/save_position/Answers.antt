@@ -20,13 +20,11 @@ slice_bounds-save_in-end c = sym (length-take-le _ _ (slice_bounds-work-end c.be
 pub save_in-requires : goal.save_in-requires
 save_in-requires c =
     let (numbered, (held, (positioned, fit))) = c.requires in
-    let long = sym (slice_bounds-save_in-end c.before.before.before) ∙ c.disks-disks.ensures in (
-      numbered,
-      (
-        held,
-        (
-          record { positioned = positioned; room = long },
-          (position_room positioned c.args.base long refl refl (search rules), fit),
-        ),
-      ),
-    )
+    let long = sym (slice_bounds-save_in-end c.before.before.before) ∙ c.disks-disks.ensures in
+    record {
+      numbered = numbered;
+      held = held;
+      located = record { positioned = positioned; room = long };
+      room = position_room positioned c.args.base long refl refl (search rules);
+      array_value = fit;
+    }

@@ -23,17 +23,14 @@ returns-then-status-ne0 c =
     let status = c.array_refusal-status.ensures in
     ap Refused status ∙ sym (check_refused _ _ _ (λ e. c.if-status-ne0.true (status ∙ e)))
 
-pub lowest_nonzero-lowest-requires-clause-numbered : goal.lowest_nonzero-lowest-requires-clause-numbered
+pub lowest_nonzero-lowest-requires : goal.lowest_nonzero-lowest-requires
 unfolding whole
-lowest_nonzero-lowest-requires-clause-numbered c =
-    let fits = array-fits _ _ _ (accepted (goal.at.lowest_nonzero-lowest-requires-clause-numbered c).Else-status-ne0) in
-    numbered _ fits.size
-
-pub lowest_nonzero-lowest-requires-clause-held : goal.lowest_nonzero-lowest-requires-clause-held
-unfolding whole
-lowest_nonzero-lowest-requires-clause-held c =
-    let fits = array-fits _ _ _ (accepted (goal.at.lowest_nonzero-lowest-requires-clause-held c).Else-status-ne0) in
-    held _ _ _ fits
+lowest_nonzero-lowest-requires c =
+    let fits = array-fits _ _ _ (accepted (goal.at.lowest_nonzero-lowest-requires c).Else-status-ne0) in
+    record {
+      numbered = numbered _ fits.size;
+      held = held _ _ _ fits;
+    }
 
 pub bound-requires : goal.bound-requires
 bound-requires c = numbered _ (array-fits _ _ _ (accepted (goal.at.bound-requires c).Else-status-ne0)).size

@@ -16,17 +16,14 @@ accepted : (c : goal.Else-status-ne0) → let a = c.args in seal_status a.size a
 unfolding seal_status
 accepted c = sym c.array_refusal-status.ensures ∙ c.if-status-ne0.false
 
-pub returns-then-status-ne0-clause-status : goal.returns-then-status-ne0-clause-status
+pub returns-then-status-ne0 : goal.returns-then-status-ne0
 unfolding seal_status
-returns-then-status-ne0-clause-status c =
+returns-then-status-ne0 c =
     let status = c.array_refusal-status.ensures in
-    status
-
-pub returns-then-status-ne0-clause-array : goal.returns-then-status-ne0-clause-array
-unfolding seal_status
-returns-then-status-ne0-clause-array c =
-    let status = c.array_refusal-status.ensures in
-    sym (seal_refused _ _ _ (λ e. c.if-status-ne0.true (status ∙ e)))
+    record {
+      status = status;
+      array = sym (seal_refused _ _ _ (λ e. c.if-status-ne0.true (status ∙ e)));
+    }
 
 pub fill_rows-requires : goal.fill_rows-requires
 fill_rows-requires c = accepted (goal.at.fill_rows-requires c).Else-status-ne0
@@ -37,13 +34,11 @@ fill_last_row-requires c =
     let a = c.args in
     ap (λ (len : ℕ). refusal (array_tests a.size a.block len)) c.fill_rows.auto.1.1.0 ∙ accepted (goal.at.fill_last_row-requires c).Else-status-ne0
 
-pub returns-clause-status : goal.returns-clause-status
-returns-clause-status c =
-    let ok = accepted (goal.at.returns-clause-status c).Else-status-ne0 in
-    sym ok
-
-pub returns-clause-array : goal.returns-clause-array
-returns-clause-array c =
-    let ok = accepted (goal.at.returns-clause-array c).Else-status-ne0 in
-    c.fill_last_row.ensures ∙ ap (last_row_filled _ _) c.fill_rows.ensures
-          ∙ halves_seal _ _ _ (seal_fits _ _ _ ok).long ∙ sym (seal_is _ _ _ ok)
+pub returns : goal.returns
+returns c =
+    let ok = accepted (goal.at.returns c).Else-status-ne0 in
+    record {
+      status = sym ok;
+      array = c.fill_last_row.ensures ∙ ap (last_row_filled _ _) c.fill_rows.ensures
+          ∙ halves_seal _ _ _ (seal_fits _ _ _ ok).long ∙ sym (seal_is _ _ _ ok);
+    }

@@ -57,7 +57,11 @@ turn-done-requires c =
     let some = c.loop-done-test.true in
     let (few, room) = ready l.invariant.1 some in
     let long = l.invariant.1.long.0 in
-    (some, (few, omega arith))
+    record {
+      left_nonzero = some;
+      made_bound = few;
+      turns_bound = omega arith;
+    }
 
 pub loop-done-smaller : goal.loop-done-smaller
 loop-done-smaller c =

@@ -6,4 +6,10 @@ pub choose-requires : goal.choose-requires
 choose-requires c =
     let p = c.requires in
     let found = c.search-found.ensures in
-    (p.numbered, (p.table, (found.nearest, (found.table, p.set_len))))
+    record {
+      numbered = p.numbered;
+      table = p.table;
+      nearest = found.nearest;
+      near = found.table;
+      set_len = p.set_len;
+    }

@@ -15,4 +15,8 @@ slice_bounds-solve_in-end c = sym (length-take-le _ _ (slice_bounds-work-end c.b
 pub solve_in-requires : goal.solve_in-requires
 solve_in-requires c =
     let p = c.requires in
-    (p.numbered, (p.map_value, room-made _ _ p.numbered _ p.map_value (slice_bounds-solve_in-end c.before.before.before) refl refl p.capacity_in_bounds))
+    record {
+      numbered = p.numbered;
+      map_value = p.map_value;
+      room = room-made _ _ p.numbered _ p.map_value (slice_bounds-solve_in-end c.before.before.before) refl refl p.capacity_in_bounds;
+    }

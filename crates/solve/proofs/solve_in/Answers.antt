@@ -19,7 +19,13 @@ show-requires c =
     let work = kept.0 in
     let list = kept.1.1.1.0 in
     let fits = c.requires.room.list_fits in
-    (c.requires.numbered, (c.peel-found.ensures.table, (left-lossy c.peel-found.ensures c.if-found-eq0.false, (omega arith, omega arith))))
+    record {
+      numbered = c.requires.numbered;
+      table = c.peel-found.ensures.table;
+      work_value = left-lossy c.peel-found.ensures c.if-found-eq0.false;
+      work_len_bound = omega arith;
+      capacity_in_bounds = omega arith;
+    }
 
 pub returns : goal.returns
 returns c =

@@ -5,7 +5,6 @@ use mathlib.Core.Bool.{true}
 use Prim.Native.Nat.{ℕ, ◌-◌, ◌/◌}
 use native.Mathlib.Omega.{arith}
 use borrow.Author.Rules.{rules}
-use borrow.Author.Tests.{not-true, not-false}
 use Rattle.stripes.specs.Fold.{every}
 use Rattle.stripes.specs.Erased.{erasures}
 use Rattle.model.specs.Grid.{layout_of}
@@ -29,12 +28,16 @@ position_fits-requires c =
     let m = c.args.map.now in
     let place = c.loop-p-test.true in
     let (numbered, (held, fits)) = c.requires in
-    (numbered, (held_at numbered held m place refl, positioned numbered held m place fits))
+    record {
+      numbered = numbered;
+      held = held_at numbered held m place refl;
+      positioned = positioned numbered held m place fits;
+    }
 
 pub returns-then-not-position_fits : goal.returns-then-not-position_fits
 returns-then-not-position_fits c =
     unfit_at c.requires.numbered c.requires.sectored c.args.map.now c.loop-p.p c.loop-p-test.true
-    (sym c.position_fits.ensures ∙ not-true _ c.if-not-position_fits.true)
+    (sym c.position_fits.ensures ∙ c.if-not-position_fits.true)
 
 pub overflow_add-p : goal.overflow_add-p
 overflow_add-p c =
@@ -45,7 +48,7 @@ pub loop-p-preserved : goal.loop-p-preserved
 loop-p-preserved c =
     let l = c.loop-p in (
       fits_next c.requires.numbered c.requires.sectored c.args.map.now l.p l.invariant.0
-          (sym c.position_fits.ensures ∙ not-false _ c.if-not-position_fits.false),
+          (sym c.position_fits.ensures ∙ c.if-not-position_fits.false),
       search rules,
     )
 

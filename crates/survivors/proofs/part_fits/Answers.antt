@@ -18,7 +18,15 @@ pub returns-then-name-stripe : goal.returns-then-name-stripe
 returns-then-name-stripe c = rw (ne_eqb _ _ c.if-name-stripe.true)
 
 pub cancels-requires : goal.cancels-requires
-cancels-requires c = let p = c.requires in (p.numbered, (p.held, (p.size_in_bounds, (p.base_in_bounds, p.size_in_bounds_2))))
+cancels-requires c =
+    let p = c.requires in
+    record {
+      numbered = p.numbered;
+      held = p.held;
+      size_in_bounds = p.size_in_bounds;
+      base_in_bounds = p.base_in_bounds;
+      size_in_bounds_2 = p.size_in_bounds_2;
+    }
 
 pub returns : goal.returns
 returns c = rw (eq-eqb _ _ c.if-name-stripe.false) c.cancels.ensures

@@ -30,7 +30,13 @@ tally-requires c =
     let all = c.disks-disks.ensures in
     let room = slice_bounds-work-end c.before.before.before.before.before.before.before in
     let kept = c.load_position.auto.1.1.1.1.0 in
-    (p.numbered, (omega arith, (loaded_inside p.positioned _ c.load_position.ensures, (omega arith, omega arith))))
+    record {
+      numbered = p.numbered;
+      size_in_bounds = omega arith;
+      by_index = loaded_inside p.positioned _ c.load_position.ensures;
+      work_in_bounds = omega arith;
+      stripe_limit_in_bounds = omega arith;
+    }
 
 pub returns : goal.returns
 returns c =

@@ -4,7 +4,6 @@ use mathlib.Core.Path.{◌≡◌, refl, subst}
 use Prim.Native.Nat.{ℕ, ◌-◌}
 use native.Mathlib.Omega.{arith}
 use borrow.Author.Rules.{rules}
-use borrow.Author.Tests.{not-true, not-false}
 use Rattle.stripes.specs.Erased.{erasures}
 use Rattle.model.specs.Grid.{layout_of}
 use Rattle.model.proofs.Grid.{layout-disks, layout-two, disks-bound, size_fits_lem}
@@ -15,7 +14,11 @@ use Rattle.survivors.proofs.survivors_fit.Goals as goal
 pub join_all-requires : goal.join_all-requires
 join_all-requires c =
     let few = stripes_few c.requires.numbered in
-    (c.requires.numbered, (c.requires.table, omega arith))
+    record {
+      numbered = c.requires.numbered;
+      table = c.requires.table;
+      base_in_bounds = omega arith;
+    }
 
 pub bound-bound-requires : goal.bound-bound-requires
 bound-bound-requires c = c.requires.numbered
@@ -33,14 +36,21 @@ part_fits-requires c =
     let same = layout-disks c.args.size c.args.base in
     let most = disks-bound c.args.size (size_fits_lem c.args.size c.requires.numbered.fits) in
     let long = c.loop-s.invariant.2 in
-    (c.requires.numbered, (c.requires.held, (omega arith, (fits, (omega arith, omega arith)))))
+    record {
+      numbered = c.requires.numbered;
+      held = c.requires.held;
+      size_in_bounds = omega arith;
+      base_in_bounds = fits;
+      stripe_in_bounds = omega arith;
+      size_in_bounds_2 = omega arith;
+    }
 
 pub returns-then-not-part_fits : goal.returns-then-not-part_fits
 returns-then-not-part_fits c =
     let is = c.bound-bound.ensures in
     let h = c.loop-s-test.true in
     one_fails (layout-two c.args.size c.args.base c.requires.numbered.above) c.args.stretch c.join_all.ensures c.args.array.now
-    c.loop-s.s (omega arith) c.part_fits.ensures (not-true _ c.if-not-part_fits.true)
+    c.loop-s.s (omega arith) c.part_fits.ensures (c.if-not-part_fits.true)
 
 pub overflow_add-s : goal.overflow_add-s
 overflow_add-s c =
@@ -56,7 +66,7 @@ loop-s-preserved c =
     let is = c.bound-bound.ensures in
     let h = c.loop-s-test.true in (
       passing_next (layout-two c.args.size c.args.base c.requires.numbered.above) c.args.stretch c.join_all.ensures c.args.array.now
-          c.loop-s.s (omega arith) c.loop-s.invariant.0 c.part_fits.ensures (not-false _ c.if-not-part_fits.false),
+          c.loop-s.s (omega arith) c.loop-s.invariant.0 c.part_fits.ensures (c.if-not-part_fits.false),
       omega arith,
       search rules,
     )

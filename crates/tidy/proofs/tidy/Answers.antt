@@ -9,8 +9,17 @@ use Rattle.tidy.proofs.tidy.Goals as goal
 pub returns-then-sheet-ne-BYTES : goal.returns-then-sheet-ne-BYTES
 returns-then-sheet-ne-BYTES c = short _ c.if-sheet-ne-BYTES.true
 
-pub read-chain-requires : goal.read-chain-requires
-read-chain-requires c = (c.if-sheet-ne-BYTES.false, (omega arith, (omega arith, none-marked 33)))
+pub read-chain-requires-clause-sheet_len : goal.read-chain-requires-clause-sheet_len
+read-chain-requires-clause-sheet_len c = c.if-sheet-ne-BYTES.false
+
+pub read-chain-requires-clause-records_in_bounds : goal.read-chain-requires-clause-records_in_bounds
+read-chain-requires-clause-records_in_bounds c = omega arith
+
+pub read-chain-requires-clause-records_in_bounds_2 : goal.read-chain-requires-clause-records_in_bounds_2
+read-chain-requires-clause-records_in_bounds_2 c = omega arith
+
+pub read-chain-requires-clause-by_index : goal.read-chain-requires-clause-by_index
+read-chain-requires-clause-by_index c = none-marked 33
 
 pub write-requires : goal.write-requires
 write-requires c =
@@ -19,7 +28,12 @@ write-requires c =
     let bytes : Bytes sheet = λ i l. omega (arith, c.slice_known-1.given i) in
     let few = small sheet c.if-sheet-ne-BYTES.false _ read.ensures.chain _ read.ensures.list _ c.chain-1.given.1 bytes in
     let most = few.few in
-    (c.if-sheet-ne-BYTES.false, (omega arith, (omega arith, λ i l. few.stripe i (omega arith))))
+    record {
+      sheet_len = c.if-sheet-ne-BYTES.false;
+      count_le_records = omega arith;
+      count_in_bounds = omega arith;
+      by_index = λ i l. few.stripe i (omega arith);
+    }
 
 pub returns-in-Records : goal.returns-in-Records
 returns-in-Records c =

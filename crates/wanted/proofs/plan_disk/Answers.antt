@@ -6,7 +6,6 @@ use mathlib.Core.Bool.{true}
 use Prim.Native.Nat.{ℕ}
 use native.Mathlib.Omega.{arith}
 use borrow.Author.Rules.{rules}
-use borrow.Author.Tests.{not-true, not-false}
 use lib.ListN.{length}
 use Rattle.model.specs.Grid.{size_fits, sectors_fit, map_fits}
 use Rattle.model.specs.Refusal.{refusal}
@@ -21,7 +20,7 @@ use Rattle.wanted.proofs.plan_disk.Goals as goal
 
 -- What each test that was passed has shown.
 sized : (c : goal.Else-not-size_fits) → size_fits c.args.size ≡ true
-sized c = sym c.size_fits_lem.ensures ∙ not-false _ c.if-not-size_fits.false
+sized c = sym c.size_fits_lem.ensures ∙ c.if-not-size_fits.false
 
 tested : (c : goal.Else-status-ne0) → let a = c.args in
     refusal (one_tests a.size a.map.now (length a.sheet.now)) ≡ 0
@@ -29,11 +28,11 @@ tested c = size-passed _ _ _ (sized c.before.before) ∙ sym c.sheet_refusal-sta
 
 can : (c : goal.Else-not-can_be_wanted) → let a = c.args in
     can_be_wanted a.size a.map.now a.disk ≡ true
-can c = sym c.can_be_wanted.ensures ∙ not-false _ c.if-not-can_be_wanted.false
+can c = sym c.can_be_wanted.ensures ∙ c.if-not-can_be_wanted.false
 
 pub returns-then-not-size_fits : goal.returns-then-not-size_fits
 returns-then-not-size_fits c =
-    refused-plan _ _ _ _ 1 (size-first _ _ _ (sym c.size_fits_lem.ensures ∙ not-true _ c.if-not-size_fits.true)) (λ q. omega arith)
+    refused-plan _ _ _ _ 1 (size-first _ _ _ (sym c.size_fits_lem.ensures ∙ c.if-not-size_fits.true)) (λ q. omega arith)
 
 pub sheet_refusal-status-requires-clause-size_value : goal.sheet_refusal-status-requires-clause-size_value
 unfolding sectors_fit
@@ -51,19 +50,29 @@ pub can_be_wanted-requires : goal.can_be_wanted-requires
 can_be_wanted-requires c = (one-fits _ _ _ (tested (goal.at.can_be_wanted-requires c).Else-status-ne0)).1
 
 pub returns-then-not-can_be_wanted : goal.returns-then-not-can_be_wanted
-returns-then-not-can_be_wanted c = refused-disk _ _ _ _ (tested (goal.at.returns-then-not-can_be_wanted c).Else-status-ne0) (sym c.can_be_wanted.ensures ∙ not-true _ c.if-not-can_be_wanted.true)
+returns-then-not-can_be_wanted c = refused-disk _ _ _ _ (tested (goal.at.returns-then-not-can_be_wanted c).Else-status-ne0) (sym c.can_be_wanted.ensures ∙ c.if-not-can_be_wanted.true)
 
 pub find-count-requires : goal.find-count-requires
 find-count-requires c =
     let (size, map, long) = one-fits _ _ _ (tested (goal.at.find-count-requires c).Else-status-ne0) in
-    (numbered _ size, (map, ((is-wanted _ _ _ (can (goal.at.find-count-requires c).Else-not-can_be_wanted)).1, search rules)))
+    record {
+      numbered = numbered _ size;
+      map_value = map;
+      disk_value = (is-wanted _ _ _ (can (goal.at.find-count-requires c).Else-not-can_be_wanted)).1;
+      capacity_in_bounds = search rules;
+    }
 
 pub draft-requires : goal.draft-requires
 unfolding sectors_fit
 draft-requires c =
     let a = c.args in
     let (size, map, long) = one-fits _ _ _ (tested (goal.at.draft-requires c).Else-status-ne0) in
-    (size, (refl, (ap (λ (k : ℕ). map_fits k a.map.now) (one_byte a.size) ∙ map, long)))
+    record {
+      size_value = size;
+      sectors_value = refl;
+      map_value = ap (λ (k : ℕ). map_fits k a.map.now) (one_byte a.size) ∙ map;
+      sheets_len = long;
+    }
 
 pub returns-then-count-eq0 : goal.returns-then-count-eq0
 returns-then-count-eq0 c =
@@ -74,7 +83,12 @@ write-requires c =
     let s = c.args.sheet.now in
     let fits = small _ _ s _ (tested (goal.at.write-requires c).Else-status-ne0) (can (goal.at.write-requires c).Else-not-can_be_wanted) c.find-count.ensures c.if-count-eq0.false in
     let few = fits.few in
-    ((one-fits _ _ _ (tested (goal.at.write-requires c).Else-status-ne0)).2, (few, (search rules, fits.stripe)))
+    record {
+      sheet_len = (one-fits _ _ _ (tested (goal.at.write-requires c).Else-status-ne0)).2;
+      count_le_records = few;
+      count_in_bounds = search rules;
+      by_index = fits.stripe;
+    }
 
 pub returns : goal.returns
 returns c =

@@ -3,7 +3,6 @@
 use mathlib.Core.Path.{◌≡◌, ◌∙◌, sym}
 use mathlib.Core.Bool.{true}
 use native.Mathlib.Omega.{arith}
-use borrow.Author.Tests.{not-true, not-false}
 use lib.ListN.{length}
 use Rattle.model.specs.Grid.{is_data}
 use Rattle.model.specs.Array.{write_status}
@@ -18,55 +17,46 @@ sized : (c : goal.Else-status-ne0) → let a = c.args in ArrayFits a.size a.bloc
 sized c = array-fits _ _ _ (sym c.array_refusal-status.ensures ∙ c.if-status-ne0.false)
 
 on-data : (c : goal.Else-not-is_data) → let a = c.args in is_data a.size a.disk ≡ true
-on-data c = sym c.is_data.ensures ∙ not-false _ c.if-not-is_data.false
+on-data c = sym c.is_data.ensures ∙ c.if-not-is_data.false
 
 accepted : (c : goal.Else-data-block) → let a = c.args in write_status a.size a.block a.array.now a.disk a.«data».now ≡ 0
 accepted c = status_none _ _ _ _ _ (sized c.before.before.before) (on-data c.before) c.if-data-block.false
 
-pub returns-then-status-ne0-clause-status : goal.returns-then-status-ne0-clause-status
-returns-then-status-ne0-clause-status c =
+pub returns-then-status-ne0 : goal.returns-then-status-ne0
+returns-then-status-ne0 c =
     let status = c.array_refusal-status.ensures in
     let e = status_first _ _ _ _ _ (λ e. c.if-status-ne0.true (status ∙ e)) in
-    status ∙ sym e
-
-pub returns-then-status-ne0-clause-array : goal.returns-then-status-ne0-clause-array
-returns-then-status-ne0-clause-array c =
-    let status = c.array_refusal-status.ensures in
-    let e = status_first _ _ _ _ _ (λ e. c.if-status-ne0.true (status ∙ e)) in
-    sym (write_refused _ _ _ _ _ (λ z. c.if-status-ne0.true (status ∙ sym e ∙ z)))
+    record {
+      status = status ∙ sym e;
+      array = sym (write_refused _ _ _ _ _ (λ z. c.if-status-ne0.true (status ∙ sym e ∙ z)));
+    }
 
 pub is_data-requires : goal.is_data-requires
 is_data-requires c = (sized (goal.at.is_data-requires c).Else-status-ne0).size
 
-pub returns-then-not-is_data-clause-status : goal.returns-then-not-is_data-clause-status
-returns-then-not-is_data-clause-status c =
-    let e = status_disk _ _ _ _ _ (sized (goal.at.returns-then-not-is_data-clause-status c).Else-status-ne0) (sym c.is_data.ensures ∙ not-true _ c.if-not-is_data.true) in
-    sym e
+pub returns-then-not-is_data : goal.returns-then-not-is_data
+returns-then-not-is_data c =
+    let e = status_disk _ _ _ _ _ (sized (goal.at.returns-then-not-is_data c).Else-status-ne0) (sym c.is_data.ensures ∙ c.if-not-is_data.true) in
+    record {
+      status = sym e;
+      array = sym (write_refused _ _ _ _ _ (λ z. omega arith));
+    }
 
-pub returns-then-not-is_data-clause-array : goal.returns-then-not-is_data-clause-array
-returns-then-not-is_data-clause-array c =
-    let e = status_disk _ _ _ _ _ (sized (goal.at.returns-then-not-is_data-clause-array c).Else-status-ne0) (sym c.is_data.ensures ∙ not-true _ c.if-not-is_data.true) in
-    sym (write_refused _ _ _ _ _ (λ z. omega arith))
-
-pub returns-then-data-block-clause-status : goal.returns-then-data-block-clause-status
-returns-then-data-block-clause-status c =
-    let e = status_length _ _ _ _ _ (sized (goal.at.returns-then-data-block-clause-status c).Else-status-ne0) (on-data (goal.at.returns-then-data-block-clause-status c).Else-not-is_data) c.if-data-block.true in
-    sym e
-
-pub returns-then-data-block-clause-array : goal.returns-then-data-block-clause-array
-returns-then-data-block-clause-array c =
-    let e = status_length _ _ _ _ _ (sized (goal.at.returns-then-data-block-clause-array c).Else-status-ne0) (on-data (goal.at.returns-then-data-block-clause-array c).Else-not-is_data) c.if-data-block.true in
-    sym (write_refused _ _ _ _ _ (λ z. omega arith))
+pub returns-then-data-block : goal.returns-then-data-block
+returns-then-data-block c =
+    let e = status_length _ _ _ _ _ (sized (goal.at.returns-then-data-block c).Else-status-ne0) (on-data (goal.at.returns-then-data-block c).Else-not-is_data) c.if-data-block.true in
+    record {
+      status = sym e;
+      array = sym (write_refused _ _ _ _ _ (λ z. omega arith));
+    }
 
 pub store-requires : goal.store-requires
 store-requires c = accepted (goal.at.store-requires c).Else-data-block
 
-pub returns-clause-status : goal.returns-clause-status
-returns-clause-status c =
-    let ok = accepted (goal.at.returns-clause-status c).Else-data-block in
-    sym ok
-
-pub returns-clause-array : goal.returns-clause-array
-returns-clause-array c =
-    let ok = accepted (goal.at.returns-clause-array c).Else-data-block in
-    c.store.ensures ∙ sym (write_is _ _ _ _ _ ok)
+pub returns : goal.returns
+returns c =
+    let ok = accepted (goal.at.returns c).Else-data-block in
+    record {
+      status = sym ok;
+      array = c.store.ensures ∙ sym (write_is _ _ _ _ _ ok);
+    }

@@ -5,7 +5,6 @@ use mathlib.Core.Bool.{true}
 use Prim.Native.Nat.{ℕ, ◌-◌}
 use native.Mathlib.Omega.{arith}
 use borrow.Author.Rules.{rules}
-use borrow.Author.Tests.{not-true, not-false}
 use Rattle.stripes.specs.Fold.{every}
 use Rattle.stripes.specs.Erased.{erasures}
 use Rattle.stripes.specs.Repair.{clears}
@@ -22,27 +21,28 @@ loop-p-init c = (search rules, search rules, none_judged _ _ _ _)
 pub list-count-requires : goal.list-count-requires
 list-count-requires c =
     let long = c.requires.sheets_len in
-    let place = c.loop-p-test.true in (
-      part-long c.args.sectors c.args.sheets.now long c.loop-p.p place,
-      (search rules, part-fits c.args.sectors c.args.sheets.now long c.loop-p.p place c.requires.by_index),
-    )
+    let place = c.loop-p-test.true in
+    record {
+      sheet_len = part-long c.args.sectors c.args.sheets.now long c.loop-p.p place;
+      records_in_bounds = search rules;
+      sheet_value = part-fits c.args.sectors c.args.sheets.now long c.loop-p.p place c.requires.by_index;
+    }
 
 pub clears-requires : goal.clears-requires
 clears-requires c =
     let place = c.loop-p-test.true in
     let most = part-few c.args.sectors c.args.sheets.now c.requires.sheets_len c.loop-p.p place c.requires.by_index _ _
-    c.list-count.ensures in (
-      c.requires.numbered,
-      (
-        record {
+    c.list-count.ensures in
+    record {
+      numbered = c.requires.numbered;
+      positioned = record {
           size = c.requires.numbered.fits;
           sectors = c.requires.sectors_value;
           place = search rules;
           map = c.requires.map_value;
-        },
-        search rules,
-      ),
-    )
+        };
+      count_in_bounds = search rules;
+    }
 
 -- What has been judged at the position.
 judged : (c : goal.After-clears) →
@@ -59,11 +59,11 @@ pub returns-then-not-clears : goal.returns-then-not-clears
 returns-then-not-clears c =
     let a = c.args in
     one_unclear a.sectors (layout_of a.size a.base) (erasures a.map.now) a.sheets.now c.loop-p.p
-    c.loop-p-test.true (sym (judged (goal.at.returns-then-not-clears c).After-clears) ∙ not-true _ c.if-not-clears.true)
+    c.loop-p-test.true (sym (judged (goal.at.returns-then-not-clears c).After-clears) ∙ c.if-not-clears.true)
 
 pub loop-p-preserved : goal.loop-p-preserved
 loop-p-preserved c =
-    (search rules, search rules, more_judged _ _ _ _ c.loop-p.p c.loop-p.invariant.2 (sym (judged (goal.at.loop-p-preserved c).After-clears) ∙ not-false _ c.if-not-clears.false))
+    (search rules, search rules, more_judged _ _ _ _ c.loop-p.p c.loop-p.invariant.2 (sym (judged (goal.at.loop-p-preserved c).After-clears) ∙ c.if-not-clears.false))
 
 pub returns : goal.returns
 returns c =

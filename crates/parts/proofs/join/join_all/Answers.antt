@@ -16,17 +16,14 @@ use Rattle.parts.proofs.Parted.{parted-none, parted_over, parted-next, parted_al
 use Rattle.parts.proofs.join.join_all.Goals.{After-next_erased-d, After-stripes_of-pair, Else-work-d}
 use Rattle.parts.proofs.join.join_all.Goals as goal
 
-pub start-requires-clause-bound_in_bounds : goal.start-requires-clause-bound_in_bounds
-start-requires-clause-bound_in_bounds c =
+pub start-requires : goal.start-requires
+start-requires c =
     let is = c.bound-bound.ensures in
     let few = stripes_few c.requires.numbered in
-    omega (arith, c.requires.base_in_bounds)
-
-pub start-requires-clause-bound_bound : goal.start-requires-clause-bound_bound
-start-requires-clause-bound_bound c =
-    let is = c.bound-bound.ensures in
-    let few = stripes_few c.requires.numbered in
-    omega arith
+    record {
+      bound_in_bounds = omega (arith, c.requires.base_in_bounds);
+      bound_bound = omega arith;
+    }
 
 pub loop-size-init : goal.loop-size-init
 loop-size-init c =
@@ -71,7 +68,11 @@ pub unite-requires : goal.unite-requires
 unite-requires c =
     let is = c.bound-bound.ensures in
     let fits = c.loop-size.invariant.0.stripes_fit in
-    (omega arith, (omega (arith, (pair (goal.at.unite-requires c).After-stripes_of-pair).low_bound), omega (arith, (pair (goal.at.unite-requires c).After-stripes_of-pair).high_bound)))
+    record {
+      bound_in_bounds = omega arith;
+      low_lt_bound = omega (arith, (pair (goal.at.unite-requires c).After-stripes_of-pair).low_bound);
+      high_lt_bound = omega (arith, (pair (goal.at.unite-requires c).After-stripes_of-pair).high_bound);
+    }
 
 pub overflow_add-from : goal.overflow_add-from
 overflow_add-from c = omega (arith, c.if-work-d.false)

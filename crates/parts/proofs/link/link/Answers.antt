@@ -47,10 +47,12 @@ unfolding ◌⊕◌
 returns-then-parts-low c =
     let e = (start c.before.before.before.before.before).requires in
     let parted = e.1.1.1.0 in
-    let walked = e.1.1.1.1 in (
-      parted-closed e.1.1.0 (pair (goal.at.returns-then-parts-low c).After-stripes_of-pair) parted walked c.if-parts-low.true,
-      (walked-closed e.1.1.0 (pair (goal.at.returns-then-parts-low c).After-stripes_of-pair) parted walked c.if-parts-low.true, answer-closed e.1.1.0 (pair (goal.at.returns-then-parts-low c).After-stripes_of-pair) parted walked c.if-parts-low.true),
-    )
+    let walked = e.1.1.1.1 in
+    record {
+      parts = parted-closed e.1.1.0 (pair (goal.at.returns-then-parts-low c).After-stripes_of-pair) parted walked c.if-parts-low.true;
+      ways = walked-closed e.1.1.0 (pair (goal.at.returns-then-parts-low c).After-stripes_of-pair) parted walked c.if-parts-low.true;
+      answer = answer-closed e.1.1.0 (pair (goal.at.returns-then-parts-low c).After-stripes_of-pair) parted walked c.if-parts-low.true;
+    }
 
 -- The name that the disk ends.
 old-small : (p : goal.After-stripes_of-pair) → get_or (start p).args.parts.now p.stripes-of.result.high 0 < 64
@@ -66,27 +68,26 @@ alone-own-requires c = old-small (goal.at.alone-own-requires c).After-stripes_of
 pub bound-bound-requires : goal.bound-bound-requires
 bound-bound-requires c = (start c.before.before.before.before.before.before).requires.0
 
-pub extend-requires-clause-bound_in_bounds : goal.extend-requires-clause-bound_in_bounds
-extend-requires-clause-bound_in_bounds c =
+pub extend-requires : goal.extend-requires
+extend-requires c =
     let e = (start c.before.before.before.before.before.before.before.before.before).requires in
     let is = c.bound-bound.ensures in
     let parts = e.1.1.1.0.stripes_fit in
     let ways = e.1.1.1.1.stripes_fit in
-    omega arith
-
-pub extend-requires-clause-bound_in_bounds_2 : goal.extend-requires-clause-bound_in_bounds_2
-extend-requires-clause-bound_in_bounds_2 c =
-    let e = (start c.before.before.before.before.before.before.before.before.before).requires in
-    let is = c.bound-bound.ensures in
-    let parts = e.1.1.1.0.stripes_fit in
-    let ways = e.1.1.1.1.stripes_fit in
-    omega arith
+    record {
+      bound_in_bounds = omega arith;
+      bound_in_bounds_2 = omega arith;
+    }
 
 pub unite-requires : goal.unite-requires
 unite-requires c =
     let is = c.bound-bound.ensures in
     let fits = (start c.before.before.before.before.before.before.before.before.before.before.before.before.before).requires.1.1.1.0.stripes_fit in
-    (omega arith, (omega (arith, (pair (goal.at.unite-requires c).After-stripes_of-pair).low_bound), omega (arith, (pair (goal.at.unite-requires c).After-stripes_of-pair).high_bound)))
+    record {
+      bound_in_bounds = omega arith;
+      low_lt_bound = omega (arith, (pair (goal.at.unite-requires c).After-stripes_of-pair).low_bound);
+      high_lt_bound = omega (arith, (pair (goal.at.unite-requires c).After-stripes_of-pair).high_bound);
+    }
 
 pub returns : goal.returns
 unfolding ◌⊕◌
@@ -97,10 +98,9 @@ returns c =
     let apart = c.if-parts-low.false in
     let unite = c.unite in
     let extend = c.extend in
-    let bound = c.bound-bound.ensures in (
-      parted-next e.1.1.0 (pair (goal.at.returns c).After-stripes_of-pair) parted unite.auto.parts bound unite.ensures,
-      (
-        walked_next e.1.1.0 (pair (goal.at.returns c).After-stripes_of-pair) parted walked apart extend.auto.1.0 bound c.alone-own.ensures extend.ensures,
-        answer_link e.1.1.0 (pair (goal.at.returns c).After-stripes_of-pair) parted walked apart,
-      ),
-    )
+    let bound = c.bound-bound.ensures in
+    record {
+      parts = parted-next e.1.1.0 (pair (goal.at.returns c).After-stripes_of-pair) parted unite.auto.parts bound unite.ensures;
+      ways = walked_next e.1.1.0 (pair (goal.at.returns c).After-stripes_of-pair) parted walked apart extend.auto.1.0 bound c.alone-own.ensures extend.ensures;
+      answer = answer_link e.1.1.0 (pair (goal.at.returns c).After-stripes_of-pair) parted walked apart;
+    }

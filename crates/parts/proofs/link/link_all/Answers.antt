@@ -14,17 +14,14 @@ use Rattle.parts.proofs.Parted.{Linking, parted-none, walked_none, linking_none,
 use Rattle.parts.proofs.link.link_all.Goals.{After-next_erased-d, Else-work-d}
 use Rattle.parts.proofs.link.link_all.Goals as goal
 
-pub start-requires-clause-bound_in_bounds : goal.start-requires-clause-bound_in_bounds
-start-requires-clause-bound_in_bounds c =
+pub start-requires : goal.start-requires
+start-requires c =
     let is = c.bound-bound.ensures in
     let few = stripes_few c.requires.numbered in
-    omega (arith, c.requires.base_in_bounds)
-
-pub start-requires-clause-bound_bound : goal.start-requires-clause-bound_bound
-start-requires-clause-bound_bound c =
-    let is = c.bound-bound.ensures in
-    let few = stripes_few c.requires.numbered in
-    omega arith
+    record {
+      bound_in_bounds = omega (arith, c.requires.base_in_bounds);
+      bound_bound = omega arith;
+    }
 
 pub clear-requires : goal.clear-requires
 clear-requires c =
@@ -59,7 +56,11 @@ over c = linking_over _ _ (passed c).after (passed c).none c.loop-size.invariant
 pub returns-then-work-d : goal.returns-then-work-d
 returns-then-work-d c =
     let l = linking_all (start c.before.before).pre.1.0 c.if-work-d.true (over (goal.at.returns-then-work-d c).After-next_erased-d) in
-    (l.parted, (l.walked, l.closed))
+    record {
+      parts = l.parted;
+      ways = l.walked;
+      answer = l.closed;
+    }
 
 -- The disk of a turn is erased.
 erased : (c : goal.Else-work-d) → erasures (start c.before.before).args.work.now c.next_erased-d.result ≡ true
@@ -69,7 +70,13 @@ pub link-closed-requires : goal.link-closed-requires
 link-closed-requires c =
     let s = start c.before.before.before.before in
     let now = over (goal.at.link-closed-requires c).After-next_erased-d in
-    (s.pre.0, (s.pre.1.0, (erased (goal.at.link-closed-requires c).Else-work-d, (now.parted, now.walked))))
+    record {
+      numbered = s.pre.0;
+      table = s.pre.1.0;
+      disk_value = erased (goal.at.link-closed-requires c).Else-work-d;
+      parted = now.parted;
+      walked = now.walked;
+    }
 
 pub overflow_add-from : goal.overflow_add-from
 overflow_add-from c = omega (arith, c.if-work-d.false)

@@ -20,7 +20,12 @@ use Rattle.parts.proofs.lost.undetermined_count.Goals as goal
 pub link_all-closed-requires : goal.link_all-closed-requires
 link_all-closed-requires c =
     let few = stripes_few c.requires.numbered in
-    (c.requires.numbered, (c.requires.table, (omega arith, omega arith)))
+    record {
+      numbered = c.requires.numbered;
+      table = c.requires.table;
+      base_in_bounds = omega arith;
+      base_in_bounds_2 = omega arith;
+    }
 
 pub loop-size-init : goal.loop-size-init
 loop-size-init c = (judged_none _ _, omega arith)
@@ -49,7 +54,13 @@ pub is_undetermined-requires : goal.is_undetermined-requires
 is_undetermined-requires c =
     let s = start c.before.before.before in
     let all = c.link_all-closed.ensures in
-    (s.pre.0, (s.pre.1, (erased (goal.at.is_undetermined-requires c).Else-work-d, (all.ways, all.answer))))
+    record {
+      numbered = s.pre.0;
+      table = s.pre.1;
+      disk_value = erased (goal.at.is_undetermined-requires c).Else-work-d;
+      walked = all.ways;
+      closed_value = all.answer;
+    }
 
 pub overflow_add-count : goal.overflow_add-count
 overflow_add-count c =

@@ -28,10 +28,12 @@ loop-p-init c = (search rules, search rules, positions-none _ _ _)
 pub list-count-requires : goal.list-count-requires
 list-count-requires c =
     let long = c.requires.sheets_len in
-    let place = c.loop-p-test.true in (
-      part-long c.args.sectors c.args.sheets.now long c.loop-p.p place,
-      (search rules, part-fits c.args.sectors c.args.sheets.now long c.loop-p.p place c.requires.by_index),
-    )
+    let place = c.loop-p-test.true in
+    record {
+      sheet_len = part-long c.args.sectors c.args.sheets.now long c.loop-p.p place;
+      records_in_bounds = search rules;
+      sheet_value = part-fits c.args.sectors c.args.sheets.now long c.loop-p.p place c.requires.by_index;
+    }
 
 -- The list has the repairs of the sheet.
 lists : (c : goal.After-list-count) →
@@ -45,21 +47,18 @@ pub mark_position-requires : goal.mark_position-requires
 unfolding sheets_entries
 mark_position-requires c =
     let place = c.loop-p-test.true in
-    let most = part-few c.args.sectors c.args.sheets.now c.requires.sheets_len c.loop-p.p place c.requires.by_index _ _ c.list-count.ensures in (
-      c.requires.sectors_bound,
-      (
-        search rules,
-        (
-          search rules,
-          λ k h.
+    let most = part-few c.args.sectors c.args.sheets.now c.requires.sheets_len c.loop-p.p place c.requires.by_index _ _ c.list-count.ensures in
+    record {
+      sectors_bound = c.requires.sectors_bound;
+      position_lt_sectors = search rules;
+      count_in_bounds = search rules;
+      by_index = λ k h.
               let (inside, disk) = named c.list-count.new.1.0 _ c.list-count.result (lists (goal.at.mark_position-requires c).After-list-count) k h in
               let there = within_at c.args.sectors (λ q. chain_entries narrow (sheet_at narrow q c.args.sheets.now))
               (length c.args.map.now) c.args.sectors c.requires.within c.loop-p.p place k inside in
               subst (λ (n : ℕ). sector_at c.args.sectors c.loop-p.p (entry_disk c.list-count.new.1.0 k) < n) (sym (kept (goal.at.mark_position-requires c).At-loop-p))
-              (subst (λ (d : ℕ). sector_at c.args.sectors c.loop-p.p d < length c.args.map.now) disk there),
-        ),
-      ),
-    )
+              (subst (λ (d : ℕ). sector_at c.args.sectors c.loop-p.p d < length c.args.map.now) disk there);
+    }
 
 pub loop-p-preserved : goal.loop-p-preserved
 loop-p-preserved c =

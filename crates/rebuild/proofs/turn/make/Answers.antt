@@ -11,39 +11,43 @@ use Rattle.rebuild.proofs.turn.make.Goals as goal
 pub repair_positions-requires : goal.repair_positions-requires
 repair_positions-requires c =
     let p = c.requires in
-    (p.numbered, (p.sectored, (p.sheets_len, (p.by_index, p.peels))))
+    record {
+      numbered = p.numbered;
+      sectored = p.sectored;
+      sheets_len = p.sheets_len;
+      by_index = p.by_index;
+      peels = p.peels;
+    }
 
-pub returns-then-made-count-clause-answer : goal.returns-then-made-count-clause-answer
-returns-then-made-count-clause-answer c =
+pub returns-then-made-count : goal.returns-then-made-count
+returns-then-made-count c =
     let a = c.args in
     let (long, (most, all)) = c.requires.1.1.1.1.1.1 in
     let less = c.if-made-count.true in
-    sym (ap not (nothing_tested _ a.map.now _ c.requires.peels (whole a.sector) a.array.now (omega arith)))
-
-pub returns-then-made-count-clause-array : goal.returns-then-made-count-clause-array
-returns-then-made-count-clause-array c =
-    let a = c.args in
-    let (long, (most, all)) = c.requires.1.1.1.1.1.1 in
-    let less = c.if-made-count.true in
-    c.repair_positions.ensures
+    record {
+      answer = sym (ap not (nothing_tested _ a.map.now _ c.requires.peels (whole a.sector) a.array.now (omega arith)));
+      array = c.repair_positions.ensures;
+    }
 
 pub restore-requires : goal.restore-requires
 restore-requires c =
     let p = c.requires in
-    (p.numbered, (p.sectored, (p.map_value, (p.sheets_len, (p.by_index, p.peels)))))
+    record {
+      numbered = p.numbered;
+      sectored = p.sectored;
+      map_value = p.map_value;
+      sheets_len = p.sheets_len;
+      by_index = p.by_index;
+      peels = p.peels;
+    }
 
-pub returns-clause-answer : goal.returns-clause-answer
-returns-clause-answer c =
+pub returns : goal.returns
+returns c =
     let a = c.args in
     let (answer, array) = c.restore.ensures in
     let (long, (most, all)) = c.requires.1.1.1.1.1.1 in
     let none = c.if-made-count.false in
-    answer ∙ sym (all_tested _ a.map.now _ c.requires.peels (whole a.sector) a.array.now (omega arith))
-
-pub returns-clause-array : goal.returns-clause-array
-returns-clause-array c =
-    let a = c.args in
-    let (answer, array) = c.restore.ensures in
-    let (long, (most, all)) = c.requires.1.1.1.1.1.1 in
-    let none = c.if-made-count.false in
-    made_array _ (whole a.sector) a.array.now (erasures a.map.now) _ _ _ answer array
+    record {
+      answer = answer ∙ sym (all_tested _ a.map.now _ c.requires.peels (whole a.sector) a.array.now (omega arith));
+      array = made_array _ (whole a.sector) a.array.now (erasures a.map.now) _ _ _ answer array;
+    }

@@ -58,10 +58,12 @@ loop-p-init c =
 pub list-count-requires : goal.list-count-requires
 list-count-requires c =
     let place = c.loop-p-test.true in
-    let is = part_sheet narrow c.loop-p.p c.args.sheets.now in (
-      ap length is ∙ length-sheet_at narrow (c.args.block / c.args.sector) c.args.sheets.now c.requires.sheets_len c.loop-p.p place,
-      (search rules, ap (chain_refusal narrow) is ∙ c.requires.by_index c.loop-p.p place),
-    )
+    let is = part_sheet narrow c.loop-p.p c.args.sheets.now in
+    record {
+      sheet_len = ap length is ∙ length-sheet_at narrow (c.args.block / c.args.sector) c.args.sheets.now c.requires.sheets_len c.loop-p.p place;
+      records_in_bounds = search rules;
+      sheet_value = ap (chain_refusal narrow) is ∙ c.requires.by_index c.loop-p.p place;
+    }
 
 pub overflow_mul-stretch : goal.overflow_mul-stretch
 overflow_mul-stretch c = let h = inside (goal.at.overflow_mul-stretch c).In-loop-p in omega arith
@@ -99,23 +101,18 @@ repair_all-requires c =
     let a = c.args in
     let r = c.list-count in
     let e = at_position (a.block / a.sector) c.loop-p.p (erasures a.map.now) in
-    let most = few (goal.at.repair_all-requires c).After-list-in-loop-p-1 in (
-      c.requires.numbered,
-      (
-        record {
+    let most = few (goal.at.repair_all-requires c).After-list-in-loop-p-1 in
+    record {
+      numbered = c.requires.numbered;
+      held = record {
           inside = inside (goal.at.repair_all-requires c).In-loop-p;
           block = c.requires.sectored.block;
           sized = kept (goal.at.repair_all-requires c).At-loop-p ∙ c.requires.sectored.sized;
-        },
-        (
-          search rules,
-          (
-            on-disks a.size a.base e r.new.1.0 r.result (allowed-there (goal.at.repair_all-requires c).After-list-in-loop-p-1),
-            on_stripes a.size a.base e r.new.1.0 r.result (allowed-there (goal.at.repair_all-requires c).After-list-in-loop-p-1),
-          ),
-        ),
-      ),
-    )
+        };
+      count_in_bounds = search rules;
+      by_index = on-disks a.size a.base e r.new.1.0 r.result (allowed-there (goal.at.repair_all-requires c).After-list-in-loop-p-1);
+      by_index_2 = on_stripes a.size a.base e r.new.1.0 r.result (allowed-there (goal.at.repair_all-requires c).After-list-in-loop-p-1);
+    }
 
 pub loop-p-preserved : goal.loop-p-preserved
 loop-p-preserved c =

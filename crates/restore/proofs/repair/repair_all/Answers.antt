@@ -32,20 +32,17 @@ repair-requires c =
     let k = c.loop-k.k in
     let more = c.loop-k-test.true in
     let disk = c.disk_of-disk.ensures in
-    let stripe = c.stripe_of-stripe.ensures in (
-      c.requires.numbered,
-      (
-        record {
+    let stripe = c.stripe_of-stripe.ensures in
+    record {
+      numbered = c.requires.numbered;
+      held = record {
           inside = c.requires.held.inside;
           block = c.requires.held.block;
           sized = kept (goal.at.repair-requires c).At-loop-k ∙ c.requires.held.sized;
-        },
-        (
-          rw disk (c.requires.by_index k more),
-          ap₂ (on (layout_of a.size a.base)) disk stripe ∙ c.requires.by_index_2 k more,
-        ),
-      ),
-    )
+        };
+      disk_bound = rw disk (c.requires.by_index k more);
+      stripe_value = ap₂ (on (layout_of a.size a.base)) disk stripe ∙ c.requires.by_index_2 k more;
+    }
 
 pub loop-k-preserved : goal.loop-k-preserved
 loop-k-preserved c =

@@ -19,31 +19,40 @@ start c = c.before.before.before.before.before.before
 pub is_undetermined-requires : goal.is_undetermined-requires
 is_undetermined-requires c =
     let p = c.requires in
-    (p.numbered, (p.table, (p.disk_value, (p.walked, p.closed_value))))
+    record {
+      numbered = p.numbered;
+      table = p.table;
+      disk_value = p.disk_value;
+      walked = p.walked;
+      closed_value = p.closed_value;
+    }
 
-pub returns-then-is_undetermined-clause-answer : goal.returns-then-is_undetermined-clause-answer
-returns-then-is_undetermined-clause-answer c =
+pub returns-then-is_undetermined : goal.returns-then-is_undetermined
+returns-then-is_undetermined c =
     let s = start c.before in
     let a = s.args in
     let L = layout_of a.size a.base in
     let e = erasures a.work.now in
-    sym (determined-not L e a.disk s.pre.1.1.1.0 ∙ ap not (sym c.is_undetermined.ensures ∙ c.if-is_undetermined.true))
-
-pub returns-then-is_undetermined-clause-array : goal.returns-then-is_undetermined-clause-array
-returns-then-is_undetermined-clause-array c =
-    let s = start c.before in
-    let a = s.args in
-    let L = layout_of a.size a.base in
-    let e = erasures a.work.now in
-    saved-not (layout-two a.size a.base s.pre.0.above) a.stretch s.pre.1.0.inside e a.array.now
-          (sized_as a.size a.base s.pre.1.0) a.disk
+    record {
+      answer = sym (determined-not L e a.disk s.pre.1.1.1.0 ∙ ap not (sym c.is_undetermined.ensures ∙ c.if-is_undetermined.true));
+      array = saved-not (layout-two a.size a.base s.pre.0.above) a.stretch s.pre.1.0.inside e a.array.now
+          (sized_as a.size a.base s.pre.1.0) a.disk;
+    }
 
 pub mark-requires : goal.mark-requires
 mark-requires c =
     let p = (start c.before.before).requires in
     let off = sym c.is_undetermined.ensures ∙ c.if-is_undetermined.false in
     let few = stripes_few p.0 in
-    (p.0, (p.1.1.0, (p.1.1.1.0, (off, (p.1.1.1.1.0, (p.1.1.1.1.1.0, omega arith))))))
+    record {
+      numbered = p.0;
+      table = p.1.1.0;
+      disk_value = p.1.1.1.0;
+      disk_value_2 = off;
+      parted = p.1.1.1.1.0;
+      walked = p.1.1.1.1.1.0;
+      base_in_bounds = omega arith;
+    }
 
 pub fill-requires : goal.fill-requires
 fill-requires c =
@@ -54,23 +63,25 @@ fill-requires c =
     let few = stripes_few s.pre.0 in
     let most = disks-bound s.args.size (size_fits_lem s.args.size s.pre.0.fits) in
     let long = c.mark.auto.1.1.1.1.1.1.1.0 in
-    (s.pre.0, (s.pre.1.0, (omega arith, (omega arith, (omega arith, (omega arith, s.pre.1.1.1.0))))))
+    record {
+      numbered = s.pre.0;
+      held = s.pre.1.0;
+      size_in_bounds = omega arith;
+      base_in_bounds = omega arith;
+      size_in_bounds_2 = omega arith;
+      disk_bound = omega arith;
+      disk_value = s.pre.1.1.1.0;
+    }
 
-pub returns-clause-answer : goal.returns-clause-answer
-returns-clause-answer c =
+pub returns : goal.returns
+returns c =
     let s = start c.before.before.before.before.before.before.before.before.before.before.before in
     let a = s.args in
     let L = layout_of a.size a.base in
     let e = erasures a.work.now in
     let off = sym c.is_undetermined.ensures ∙ c.if-is_undetermined.false in
-    sym (determined-not L e a.disk s.pre.1.1.1.0 ∙ ap not off)
-
-pub returns-clause-array : goal.returns-clause-array
-returns-clause-array c =
-    let s = start c.before.before.before.before.before.before.before.before.before.before.before in
-    let a = s.args in
-    let L = layout_of a.size a.base in
-    let e = erasures a.work.now in
-    let off = sym c.is_undetermined.ensures ∙ c.if-is_undetermined.false in
-    saved_by (layout-two a.size a.base s.pre.0.above) a.stretch s.pre.1.0.inside e a.array.now
-          (sized_as a.size a.base s.pre.1.0) a.disk c.mark.new.1.1.1.1.1.1.1.0 c.mark.ensures c.fill.ensures
+    record {
+      answer = sym (determined-not L e a.disk s.pre.1.1.1.0 ∙ ap not off);
+      array = saved_by (layout-two a.size a.base s.pre.0.above) a.stretch s.pre.1.0.inside e a.array.now
+          (sized_as a.size a.base s.pre.1.0) a.disk c.mark.new.1.1.1.1.1.1.1.0 c.mark.ensures c.fill.ensures;
+    }

@@ -21,7 +21,12 @@ use Rattle.save.proofs.rest.sum_rest.Goals as goal
 pub link_all-closed-requires : goal.link_all-closed-requires
 link_all-closed-requires c =
     let few = stripes_few c.requires.numbered in
-    (c.requires.numbered, (c.requires.table, (omega arith, omega arith)))
+    record {
+      numbered = c.requires.numbered;
+      table = c.requires.table;
+      base_in_bounds = omega arith;
+      base_in_bounds_2 = omega arith;
+    }
 
 pub loop-size-init : goal.loop-size-init
 loop-size-init c =
@@ -57,7 +62,15 @@ sum_disk-requires c =
     let held : Held s.args.size s.args.stretch c.loop-size.array =
     record { inside = s.pre.1.0.inside; block = s.pre.1.0.block; sized = c.loop-size.invariant.2 ∙ s.pre.1.0.sized } in
     let all = c.link_all-closed.ensures in
-    (s.pre.0, (held, (s.pre.1.1, (erased (goal.at.sum_disk-requires c).Else-work-d, (all.parts, (all.ways, all.answer))))))
+    record {
+      numbered = s.pre.0;
+      held = held;
+      table = s.pre.1.1;
+      disk_value = erased (goal.at.sum_disk-requires c).Else-work-d;
+      parted = all.parts;
+      walked = all.ways;
+      closed_value = all.answer;
+    }
 
 -- Its number is small.
 small : (c : goal.Else-work-d) → c.next_erased-d.result < 256

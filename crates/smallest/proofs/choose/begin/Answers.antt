@@ -25,9 +25,14 @@ left : (w : goal.After-wipe) →
     × Table (layout_of a.size a.base) w.wipe.new.0 a.stripes.now
 left w = wiped_table (start w).requires.1.0 (start w).args.found.disk w.wipe.ensures
 
-pub load-requires : goal.load-requires
-load-requires c =
-    ((start c.before.before.before.before.before.before.before).requires.0, ((left (goal.at.load-requires c).After-wipe).1, (start c.before.before.before.before.before.before.before).requires.1.1.1.0.room))
+pub load-requires-clause-numbered : goal.load-requires-clause-numbered
+load-requires-clause-numbered c = (start c.before.before.before.before.before.before.before).requires.0
+
+pub load-requires-clause-table : goal.load-requires-clause-table
+load-requires-clause-table c = (left (goal.at.load-requires-clause-table c).After-wipe).1
+
+pub load-requires-clause-near_len : goal.load-requires-clause-near_len
+load-requires-clause-near_len c = (start c.before.before.before.before.before.before.before).requires.1.1.1.0.room
 
 -- The table of neighbours is that of these disks, either way.
 neighbours : (j : goal.Joined-found) →
@@ -48,11 +53,19 @@ measure-requires c =
     let s = start c.before.before.before.before.before.before.before in
     let x = crossed (numbered_two s.pre.0) s.pre.1.1.0.disk c.stripes_of-ends.ensures in
     let few = stripes_few s.pre.0 in
-    ((neighbours (goal.at.measure-requires c).Joined-found).room, (omega (arith, x.low_bound), (omega (arith, x.high_bound), (s.pre.1.1.0.few, s.pre.1.1.1.1))))
+    record {
+      near_len = (neighbours (goal.at.measure-requires c).Joined-found).room;
+      low_lt_word_stripes = omega (arith, x.low_bound);
+      high_lt_word_stripes = omega (arith, x.high_bound);
+      others_lt_word_stripes = s.pre.1.1.0.few;
+      levels_len = s.pre.1.1.1.1;
+    }
 
-pub returns : goal.returns
-returns c =
-    (
-      c.stripes_of-ends.ensures,
-      ((left (goal.at.returns c).After-wipe).0, record { table = (left (goal.at.returns c).After-wipe).1; neighbours = neighbours (goal.at.returns c).Joined-found; levelled = c.measure.ensures }),
-    )
+pub returns-clause-stripes : goal.returns-clause-stripes
+returns-clause-stripes c = c.stripes_of-ends.ensures
+
+pub returns-clause-left : goal.returns-clause-left
+returns-clause-left c = (left (goal.at.returns-clause-left c).After-wipe).0
+
+pub returns-clause-measured : goal.returns-clause-measured
+returns-clause-measured c = record { table = (left (goal.at.returns-clause-measured c).After-wipe).1; neighbours = neighbours (goal.at.returns-clause-measured c).Joined-found; levelled = c.measure.ensures }

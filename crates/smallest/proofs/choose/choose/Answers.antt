@@ -24,7 +24,13 @@ use Rattle.smallest.proofs.choose.choose.Goals as goal
 pub begin-ends-requires : goal.begin-ends-requires
 begin-ends-requires c =
     let p = c.requires in
-    (p.numbered, (p.table, (p.nearest, (p.near, refl))))
+    record {
+      numbered = p.numbered;
+      table = p.table;
+      nearest = p.nearest;
+      near = p.near;
+      levels_len = refl;
+    }
 
 -- Where the code began.
 abbrev start : goal.After-begin-ends → goal.Start
@@ -113,13 +119,17 @@ overflow_add-chosen c =
 pub narrow-requires : goal.narrow-requires
 narrow-requires c =
     let b = begun c.before.before.before.before.before.before.before.before.before.before in
-    let now = c.loop-d.invariant.0.measured in (
-      now.neighbours.room,
-      (
-        now.levelled,
-        ((end-places b).0, ((end-places b).1, ((places (goal.at.narrow-requires c).After-stripes_of-pair).0, ((places (goal.at.narrow-requires c).After-stripes_of-pair).1, ((start b).pre.1.1.0.few, c.if-level-others.true))))),
-      ),
-    )
+    let now = c.loop-d.invariant.0.measured in
+    record {
+      near_len = now.neighbours.room;
+      levelled = now.levelled;
+      low_lt_word_stripes = (end-places b).0;
+      high_lt_word_stripes = (end-places b).1;
+      low_lt_word_stripes_2 = (places (goal.at.narrow-requires c).After-stripes_of-pair).0;
+      high_lt_word_stripes_2 = (places (goal.at.narrow-requires c).After-stripes_of-pair).1;
+      others_lt_word_stripes = (start b).pre.1.1.0.few;
+      level_lt_others = c.if-level-others.true;
+    }
 
 pub overflow_add-d : goal.overflow_add-d
 overflow_add-d c =

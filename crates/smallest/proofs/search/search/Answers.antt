@@ -59,15 +59,25 @@ places c =
     let few = stripes_few (start c.before.before.before.before).pre.0 in
     (omega (arith, (pair c).low_bound), omega (arith, (pair c).high_bound))
 
-pub toggle-requires : goal.toggle-requires
-toggle-requires c =
-    (c.loop-others.invariant.0.table.room, (omega (arith, places (goal.at.toggle-requires c).After-stripes_of-pair), omega (arith, places (goal.at.toggle-requires c).After-stripes_of-pair)))
+pub toggle-requires-clause-near_len : goal.toggle-requires-clause-near_len
+toggle-requires-clause-near_len c = c.loop-others.invariant.0.table.room
+
+pub toggle-requires-clause-low_lt_word_stripes : goal.toggle-requires-clause-low_lt_word_stripes
+toggle-requires-clause-low_lt_word_stripes c = omega (arith, places (goal.at.toggle-requires-clause-low_lt_word_stripes c).After-stripes_of-pair)
+
+pub toggle-requires-clause-high_lt_word_stripes : goal.toggle-requires-clause-high_lt_word_stripes
+toggle-requires-clause-high_lt_word_stripes c = omega (arith, places (goal.at.toggle-requires-clause-high_lt_word_stripes c).After-stripes_of-pair)
 
 pub distance-steps-requires : goal.distance-steps-requires
 distance-steps-requires c =
     let h = c.loop-others.invariant.0 in
     let same = c.toggle.auto.near in
-    (omega (arith, h.table.room), ((places (goal.at.distance-steps-requires c).After-stripes_of-pair).0, ((places (goal.at.distance-steps-requires c).After-stripes_of-pair).1, omega (arith, h.few, c.loop-others-test.true))))
+    record {
+      word_stripes_in_bounds = omega (arith, h.table.room);
+      from_lt_word_stripes = (places (goal.at.distance-steps-requires c).After-stripes_of-pair).0;
+      to_lt_word_stripes = (places (goal.at.distance-steps-requires c).After-stripes_of-pair).1;
+      limit_lt_word_stripes = omega (arith, h.few, c.loop-others-test.true);
+    }
 
 pub overflow_add-from : goal.overflow_add-from
 overflow_add-from c = omega (arith, c.if-work-d.false)
@@ -86,24 +96,19 @@ loop-others-preserved c =
       omega (arith, c.if-work-d.false),
     )
 
-pub returns-after-loop-others-clause-nearest : goal.returns-after-loop-others-clause-nearest
-returns-after-loop-others-clause-nearest c =
+pub returns-after-loop-others : goal.returns-after-loop-others
+returns-after-loop-others c =
     let s = (start c.before).pre in
     let done = c.loop-others.invariant.0 in
-    searched_end s.0 _ s.1.1.0 s.1.0.inside done (inl c.loop-others-test.false)
+    record {
+      nearest = searched_end s.0 _ s.1.1.0 s.1.0.inside done (inl c.loop-others-test.false);
+      table = done.table;
+    }
 
-pub returns-after-loop-others-clause-table : goal.returns-after-loop-others-clause-table
-returns-after-loop-others-clause-table c =
-    let s = (start c.before).pre in
-    let done = c.loop-others.invariant.0 in
-    done.table
-
-pub returns-then-work-d-clause-nearest : goal.returns-then-work-d-clause-nearest
-returns-then-work-d-clause-nearest c =
+pub returns-then-work-d : goal.returns-then-work-d
+returns-then-work-d c =
     let s = (start c.before.before.before).requires in
-    searched_end s.0 _ s.1.1.0 s.1.0.inside (over (goal.at.returns-then-work-d-clause-nearest c).After-next_erased-d) (inr (omega (arith, c.if-work-d.true, s.1.0.disks_fit)))
-
-pub returns-then-work-d-clause-table : goal.returns-then-work-d-clause-table
-returns-then-work-d-clause-table c =
-    let s = (start c.before.before.before).requires in
-    c.loop-others.invariant.0.table
+    record {
+      nearest = searched_end s.0 _ s.1.1.0 s.1.0.inside (over (goal.at.returns-then-work-d c).After-next_erased-d) (inr (omega (arith, c.if-work-d.true, s.1.0.disks_fit)));
+      table = c.loop-others.invariant.0.table;
+    }

@@ -4,7 +4,6 @@ use mathlib.Core.Path.{◌≡◌, sym, ◌∙◌}
 use mathlib.Core.Bool.{true}
 use Prim.Native.Nat.{◌+◌}
 use native.Mathlib.Omega.{arith}
-use borrow.Author.Tests.{not-false, not-true}
 use Rattle.reach.specs.Reached.{next_in}
 use Rattle.smallest.proofs.Levels.{level_absent, level_first, level_second, level_none}
 use Rattle.smallest.proofs.way.level_of.Goals.{Else-not-has}
@@ -15,12 +14,12 @@ unfolding next_in
 returns-then-not-has c =
     let a = c.args in
     level_absent a.near.now a.levels.now a.pair.low a.pair.high a.others
-    (sym c.has.ensures ∙ not-true _ c.if-not-has.true)
+    (sym c.has.ensures ∙ c.if-not-has.true)
 
 -- From here on the table has the disk.
 held : (c : goal.Else-not-has) → let a = c.args in next_in a.near.now a.pair.low a.pair.high ≡ true
 unfolding next_in
-held c = sym c.has.ensures ∙ not-false _ c.if-not-has.false
+held c = sym c.has.ensures ∙ c.if-not-has.false
 
 -- What is read is a byte.
 pub overflow_add-here : goal.overflow_add-here

@@ -15,8 +15,8 @@ first c = length-take-le 64 c.args.levels.now (search rules)
 pub slice_bounds-levels-end-2 : goal.slice_bounds-levels-end-2
 slice_bounds-levels-end-2 c = sym (first (goal.at.slice_bounds-levels-end-2 c).After-levels-arg-1)
 
-pub levels-requires : goal.levels-requires
-levels-requires c = (search rules, (search rules, (search rules, first (goal.at.levels-requires c).After-levels-arg-1)))
+pub levels-requires-clause-levels_len : goal.levels-requires-clause-levels_len
+levels-requires-clause-levels_len c = first (goal.at.levels-requires-clause-levels_len c).After-levels-arg-1
 
 pub levels-requires-2 : goal.levels-requires-2
 levels-requires-2 c = search rules

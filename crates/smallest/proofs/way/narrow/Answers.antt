@@ -7,28 +7,23 @@ use lib.Bits.{bit_or}
 use Rattle.reach.specs.Reached.{has}
 use Rattle.smallest.proofs.way.narrow.Goals as goal
 
-pub returns-then-crossing-one-clause-cut : goal.returns-then-crossing-one-clause-cut
-returns-then-crossing-one-clause-cut c =
+pub returns-then-crossing-one : goal.returns-then-crossing-one
+returns-then-crossing-one c =
     let ball = c.ball-inside in
     let pair = c.if-crossing-one.true ∙ ap₂ bit_or c.one.ensures c.one-2.ensures in
     record {
+      cut = record {
         inside = ball.result;
         reaches = ball.ensures;
         cut = inr (refl, λ y. ap (λ (w : ℕ). has w y) (sym pair) ∙ c.crossing.ensures y);
-      }
+      };
+      levels = c.requires.levelled;
+    }
 
-pub returns-then-crossing-one-clause-levels : goal.returns-then-crossing-one-clause-levels
-returns-then-crossing-one-clause-levels c =
+pub returns : goal.returns
+returns c =
     let ball = c.ball-inside in
-    let pair = c.if-crossing-one.true ∙ ap₂ bit_or c.one.ensures c.one-2.ensures in
-    c.requires.levelled
-
-pub returns-clause-cut : goal.returns-clause-cut
-returns-clause-cut c =
-    let ball = c.ball-inside in
-    record { inside = ball.result; reaches = ball.ensures; c.before.before.before.before.before.before.before = inl c.cut.ensures }
-
-pub returns-clause-levels : goal.returns-clause-levels
-returns-clause-levels c =
-    let ball = c.ball-inside in
-    c.measure.ensures
+    record {
+      cut = record { inside = ball.result; reaches = ball.ensures; c.before.before.before.before.before.before.before = inl c.cut.ensures };
+      levels = c.measure.ensures;
+    }

@@ -14,4 +14,10 @@ slice_bounds-show_in-end c = sym (length-take-le _ _ (slice_bounds-set-end c.bef
 pub show_in-requires : goal.show_in-requires
 show_in-requires c =
     let p = c.requires in
-    (p.numbered, (p.table, (p.work_value, (sym (slice_bounds-show_in-end c.before), p.capacity_in_bounds))))
+    record {
+      numbered = p.numbered;
+      table = p.table;
+      work_value = p.work_value;
+      set_len = sym (slice_bounds-show_in-end c.before);
+      capacity_in_bounds = p.capacity_in_bounds;
+    }

@@ -28,16 +28,19 @@ trace-requires c =
     let low = shown_lowest _ two w (set c.before.before.before.before.before.before) lossy is in
     let same = s.pre.1.1.1.0 in
     let kept = c.find.auto.set.1.1.1.0 in
-    (s.pre.0, (shown_table _ two w (set c.before.before.before.before.before.before) lossy is s.pre.1.0 (omega arith), (shown_paired _ two w (set c.before.before.before.before.before.before) lossy is, (omega arith, s.pre.1.1.1.1))))
+    record {
+      numbered = s.pre.0;
+      table = shown_table _ two w (set c.before.before.before.before.before.before) lossy is s.pre.1.0 (omega arith);
+      paired = shown_paired _ two w (set c.before.before.before.before.before.before) lossy is;
+      set_bound = omega arith;
+      capacity_in_bounds = s.pre.1.1.1.1;
+    }
 
-pub returns-clause-number : goal.returns-clause-number
-returns-clause-number c =
+pub returns : goal.returns
+returns c =
     let s = start c.before.before.before.before.before.before.before.before.before in
     let cycle = shown_cycle_lem _ (numbered_two s.pre.0) s.args.work.now (set c.before.before.before.before.before.before.before.before.before) s.pre.1.1.0 c.find.ensures in
-    c.trace.ensures.number ∙ ap length cycle
-
-pub returns-clause-list : goal.returns-clause-list
-returns-clause-list c =
-    let s = start c.before.before.before.before.before.before.before.before.before in
-    let cycle = shown_cycle_lem _ (numbered_two s.pre.0) s.args.work.now (set c.before.before.before.before.before.before.before.before.before) s.pre.1.1.0 c.find.ensures in
-    c.trace.ensures.list ∙ cycle
+    record {
+      number = c.trace.ensures.number ∙ ap length cycle;
+      list = c.trace.ensures.list ∙ cycle;
+    }

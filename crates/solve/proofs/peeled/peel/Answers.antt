@@ -23,13 +23,24 @@ tally-erased-requires c =
     let few = layout-disks c.args.size c.args.base in
     let a = room.disks_fit in
     let b = room.table_fits in
-    (c.requires.numbered, (omega arith, (loaded_inside _ c.args.base _ c.requires.map_value _ c.copy.ensures, (omega arith, room.stripes_fit))))
+    record {
+      numbered = c.requires.numbered;
+      size_in_bounds = omega arith;
+      by_index = loaded_inside _ c.args.base _ c.requires.map_value _ c.copy.ensures;
+      work_in_bounds = omega arith;
+      stripe_limit_in_bounds = room.stripes_fit;
+    }
 
 pub peel-made-requires : goal.peel-made-requires
 peel-made-requires c =
     let p = c.requires in
     let (number, tallied) = c.tally-erased.ensures in
-    (p.numbered, (number, (tallied, p.room.list_fits)))
+    record {
+      numbered = p.numbered;
+      erased_value = number;
+      tallied_2 = tallied;
+      capacity_in_bounds = p.room.list_fits;
+    }
 
 -- Where the code began, from the peeling on.
 abbrev start : goal.After-peel-made → goal.Start

@@ -9,18 +9,15 @@ use Rattle.sums.proofs.cut.cancels.Goals as goal
 pub list_cut-count-requires : goal.list_cut-count-requires
 list_cut-count-requires c = (c.requires.numbered, c.requires.1.1)
 
-pub cancels-requires-clause-chosen : goal.cancels-requires-clause-chosen
-cancels-requires-clause-chosen c =
+pub cancels-requires : goal.cancels-requires
+cancels-requires c =
     let a = c.args in
     let l = c.list_cut-count in
-    cut-chosen a.size a.base a.stretch a.array.now c.requires.held (erasures a.map.now) (in_part a.parts.now a.name)
-          l.new.1.1.1.1.1.0 l.result l.ensures
-
-pub cancels-requires-clause-len_in_bounds : goal.cancels-requires-clause-len_in_bounds
-cancels-requires-clause-len_in_bounds c =
-    let a = c.args in
-    let l = c.list_cut-count in
-    cut-start a.size a.stretch a.array.now c.requires.held
+    record {
+      chosen = cut-chosen a.size a.base a.stretch a.array.now c.requires.held (erasures a.map.now) (in_part a.parts.now a.name)
+          l.new.1.1.1.1.1.0 l.result l.ensures;
+      len_in_bounds = cut-start a.size a.stretch a.array.now c.requires.held;
+    }
 
 pub returns : goal.returns
 returns c =

@@ -6,9 +6,17 @@ use Rattle.sums.specs.Cut.{in_part}
 use Rattle.sums.proofs.Cuts.{cut_beside, cut-filled}
 use Rattle.sums.proofs.cut.fill.Goals as goal
 
-pub list_cut-count-requires : goal.list_cut-count-requires
-list_cut-count-requires c =
-    (c.requires.numbered, (c.requires.size_in_bounds, (c.requires.base_in_bounds, c.requires.size_in_bounds_2)))
+pub list_cut-count-requires-clause-numbered : goal.list_cut-count-requires-clause-numbered
+list_cut-count-requires-clause-numbered c = c.requires.numbered
+
+pub list_cut-count-requires-clause-size_in_bounds : goal.list_cut-count-requires-clause-size_in_bounds
+list_cut-count-requires-clause-size_in_bounds c = c.requires.size_in_bounds
+
+pub list_cut-count-requires-clause-base_in_bounds : goal.list_cut-count-requires-clause-base_in_bounds
+list_cut-count-requires-clause-base_in_bounds c = c.requires.base_in_bounds
+
+pub list_cut-count-requires-clause-size_in_bounds_2 : goal.list_cut-count-requires-clause-size_in_bounds_2
+list_cut-count-requires-clause-size_in_bounds_2 c = c.requires.size_in_bounds_2
 
 pub fill-requires : goal.fill-requires
 fill-requires c =

@@ -31,7 +31,14 @@ list_stripe-more-requires c =
     let part = in_part a.parts.now a.name in
     let room = cut-room L (erasures a.map.now) part (numbered_two c.requires.numbered) l.s l.n below l.invariant.2.few in
     let same = layout-disks a.size a.base in
-    (c.requires.numbered, (c.requires.size_in_bounds, (c.requires.base_in_bounds, (below, (l.invariant.2.survivors, omega arith)))))
+    record {
+      numbered = c.requires.numbered;
+      size_in_bounds = c.requires.size_in_bounds;
+      base_in_bounds = c.requires.base_in_bounds;
+      stripe_bound = below;
+      survivors = l.invariant.2.survivors;
+      stripe_in_bounds = omega arith;
+    }
 
 pub loop-s-preserved : goal.loop-s-preserved
 loop-s-preserved c =

@@ -6,7 +6,7 @@ use mathlib.Core.Logic.{⊎_elim}
 use Prim.Native.Nat.{ℕ, ◌<◌, ◌-◌}
 use native.Mathlib.Omega.{arith}
 use borrow.Author.Rules.{rules}
-use borrow.Author.Tests.{eq-eqb, ne_eqb, not-true, not-false}
+use borrow.Author.Tests.{eq-eqb, ne_eqb, not-true}
 use lib.ListN.{length, length-set}
 use Rattle.stripes.specs.System.{other_than}
 use Rattle.stripes.specs.Erased.{erasures}
@@ -28,7 +28,7 @@ known : (c : goal.After-disks_on-run)
 known c =
     let a = c.args in
     run_along a.size a.base _ _ a.stripe c.requires.numbered (eq-eqb _ _ c.if-parts-stripe.false)
-    (sym c.has_disks.ensures ∙ not-false _ c.if-not-has_disks.false) c.disks_on-run.result c.disks_on-run.ensures
+    (sym c.has_disks.ensures ∙ c.if-not-has_disks.false) c.disks_on-run.result c.disks_on-run.ensures
 
 -- A disk of it has a small number.
 small : (c : goal.In-loop-k) → run_disk c.disks_on-run.result c.loop-k.k < 256
@@ -86,7 +86,7 @@ returns-then-not-has_disks c =
     let a = c.args in
     let part = in_part a.parts.now a.name in
     stripe-none a.size a.base (erasures a.map.now) part a.stripe a.list.now a.have c.requires.survivors
-    (empty_none a.size a.base (erasures a.map.now) part a.stripe (sym c.has_disks.ensures ∙ not-true _ c.if-not-has_disks.true))
+    (empty_none a.size a.base (erasures a.map.now) part a.stripe (sym c.has_disks.ensures ∙ c.if-not-has_disks.true))
 
 pub disks_on-run-requires : goal.disks_on-run-requires
 disks_on-run-requires c = c.requires.numbered
@@ -105,34 +105,27 @@ overflow_mul-disk c = let h = small (goal.at.overflow_mul-disk c).In-loop-k in o
 pub overflow_add-disk : goal.overflow_add-disk
 overflow_add-disk c = let h = small (goal.at.overflow_add-disk c).In-loop-k in omega arith
 
-pub other_at-other-requires : goal.other_at-other-requires
-other_at-other-requires c = (
-  c.requires.numbered,
-  (
-    sym c.has_disks.ensures ∙ not-false _ c.if-not-has_disks.false,
-    subst (λ (run : Run). c.loop-k.k < run.count) c.disks_on-run.ensures c.loop-k-test.true,
-  ),
-)
+pub other_at-other-requires-clause-numbered : goal.other_at-other-requires-clause-numbered
+other_at-other-requires-clause-numbered c = c.requires.numbered
 
-pub leaves-requires-clause-disk_in_bounds : goal.leaves-requires-clause-disk_in_bounds
-leaves-requires-clause-disk_in_bounds c =
-    let r = known (goal.at.leaves-requires-clause-disk_in_bounds c).After-disks_on-run in
+pub other_at-other-requires-clause-stripe_value : goal.other_at-other-requires-clause-stripe_value
+other_at-other-requires-clause-stripe_value c = sym c.has_disks.ensures ∙ c.if-not-has_disks.false
+
+pub other_at-other-requires-clause-k_bound : goal.other_at-other-requires-clause-k_bound
+other_at-other-requires-clause-k_bound c = subst (λ (run : Run). c.loop-k.k < run.count) c.disks_on-run.ensures c.loop-k-test.true
+
+pub leaves-requires : goal.leaves-requires
+leaves-requires c =
+    let r = known (goal.at.leaves-requires c).After-disks_on-run in
     let inside = r.disk c.loop-k.k c.loop-k-test.true in
     let other = r.other c.loop-k.k c.loop-k-test.true in
-    let is = other-is (goal.at.leaves-requires-clause-disk_in_bounds c).After-other_at-other in
+    let is = other-is (goal.at.leaves-requires c).After-other_at-other in
     let long = c.requires.size_in_bounds in
     let same = layout-disks c.args.size c.args.base in
-    omega arith
-
-pub leaves-requires-clause-other_in_bounds : goal.leaves-requires-clause-other_in_bounds
-leaves-requires-clause-other_in_bounds c =
-    let r = known (goal.at.leaves-requires-clause-other_in_bounds c).After-disks_on-run in
-    let inside = r.disk c.loop-k.k c.loop-k-test.true in
-    let other = r.other c.loop-k.k c.loop-k-test.true in
-    let is = other-is (goal.at.leaves-requires-clause-other_in_bounds c).After-other_at-other in
-    let long = c.requires.size_in_bounds in
-    let same = layout-disks c.args.size c.args.base in
-    omega arith
+    record {
+      disk_in_bounds = omega arith;
+      other_in_bounds = omega arith;
+    }
 
 pub overflow_cast-list : goal.overflow_cast-list
 overflow_cast-list c = let h = small (goal.at.overflow_cast-list c).In-loop-k in omega arith

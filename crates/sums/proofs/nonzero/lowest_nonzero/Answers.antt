@@ -26,7 +26,11 @@ lowest_column-requires c =
     let row = c.lowest_row-row.ensures in
     let all = c.if-row-down.false in
     let height = c.down.ensures in
-    (c.requires.numbered, (c.requires.held, omega arith))
+    record {
+      numbered = c.requires.numbered;
+      held = c.requires.held;
+      array_value = omega arith;
+    }
 
 pub overflow_add-result : goal.overflow_add-result
 overflow_add-result c =

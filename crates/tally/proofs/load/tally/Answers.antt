@@ -37,33 +37,27 @@ over : (c : goal.After-next_erased-d) →
     c.loop-size.counts c.loop-size.number
 over c = loaded_over c.loop-size.invariant.2 (passed c)
 
-pub returns-then-work-d-clause-number : goal.returns-then-work-d-clause-number
-returns-then-work-d-clause-number c =
+pub returns-then-work-d : goal.returns-then-work-d
+returns-then-work-d c =
     let s = start c.before.before in
     let same = layout-disks s.args.size s.args.base in
-    let all = loaded_all (over (goal.at.returns-then-work-d-clause-number c).After-next_erased-d) (omega arith) (search rules) (λ i h. s.pre.1.1.0 i (omega arith)) c.if-work-d.true in
-    all.0 ∙ ap (λ (n : ℕ). count n (erasures s.args.work.now)) same
-
-pub returns-then-work-d-clause-tallied : goal.returns-then-work-d-clause-tallied
-returns-then-work-d-clause-tallied c =
-    let s = start c.before.before in
-    let same = layout-disks s.args.size s.args.base in
-    let all = loaded_all (over (goal.at.returns-then-work-d-clause-tallied c).After-next_erased-d) (omega arith) (search rules) (λ i h. s.pre.1.1.0 i (omega arith)) c.if-work-d.true in
-    all.1
+    let all = loaded_all (over (goal.at.returns-then-work-d c).After-next_erased-d) (omega arith) (search rules) (λ i h. s.pre.1.1.0 i (omega arith)) c.if-work-d.true in
+    record {
+      number = all.0 ∙ ap (λ (n : ℕ). count n (erasures s.args.work.now)) same;
+      tallied = all.1;
+    }
 
 -- The disk of a turn is erased.
 erased : (c : goal.Else-work-d) → erasures (start c.before.before).args.work.now c.next_erased-d.result ≡ true
 erased c = next_erased_lem _ _ c.next_erased-d.ensures (search rules)
 
-pub stripes_of-pair-requires-clause-numbered : goal.stripes_of-pair-requires-clause-numbered
-stripes_of-pair-requires-clause-numbered c =
+pub stripes_of-pair-requires : goal.stripes_of-pair-requires
+stripes_of-pair-requires c =
     let s = start c.before.before in
-    s.pre.0
-
-pub stripes_of-pair-requires-clause-disk_bound : goal.stripes_of-pair-requires-clause-disk_bound
-stripes_of-pair-requires-clause-disk_bound c =
-    let s = start c.before.before in
-    is_inside _ (erasures s.args.work.now) s.pre.1.1.0 _ (erased (goal.at.stripes_of-pair-requires-clause-disk_bound c).Else-work-d)
+    record {
+      numbered = s.pre.0;
+      disk_bound = is_inside _ (erasures s.args.work.now) s.pre.1.1.0 _ (erased (goal.at.stripes_of-pair-requires c).Else-work-d);
+    }
 
 -- Its stripes, and its place in the table.
 pair : (c : goal.After-stripes_of-pair) →
@@ -82,7 +76,11 @@ pub enter-requires : goal.enter-requires
 enter-requires c =
     let few = stripes_few (start c.before.before.before.before).pre.0 in
     let x = pair (goal.at.enter-requires c).After-stripes_of-pair in
-    (place (goal.at.enter-requires c).Else-work-d, (omega (arith, x.low_bound), omega (arith, x.high_bound)))
+    record {
+      disk_in_bounds = place (goal.at.enter-requires c).Else-work-d;
+      low_bound = omega (arith, x.low_bound);
+      high_bound = omega (arith, x.high_bound);
+    }
 
 pub raise-requires : goal.raise-requires
 raise-requires c =

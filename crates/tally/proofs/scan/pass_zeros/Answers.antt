@@ -3,7 +3,6 @@
 use mathlib.Core.Path.{◌∙◌, sym, refl}
 use Prim.Native.Nat.{◌-◌}
 use borrow.Author.Rules.{rules}
-use borrow.Author.Tests.{not-false}
 use Rattle.tally.proofs.Scanned.{passed_none, passed_zeros}
 use Rattle.tally.proofs.scan.pass_zeros.Goals as goal
 
@@ -16,7 +15,7 @@ returns-then-not-all_zero16 c = c.loop-d.invariant
 pub loop-d-preserved : goal.loop-d-preserved
 loop-d-preserved c =
     passed_zeros c.loop-d.invariant _ 16 _ refl (search rules) (search rules) (search rules)
-    (sym c.all_zero16.ensures ∙ not-false _ c.if-not-all_zero16.false)
+    (sym c.all_zero16.ensures ∙ c.if-not-all_zero16.false)
 
 pub returns : goal.returns
 returns c = c.loop-d.invariant

@@ -8,15 +8,13 @@ use Rattle.layout.proofs.Runs.{numbered_two}
 use Rattle.tally.proofs.take.take.Goals.{After-stripes_of-pair}
 use Rattle.tally.proofs.take.take.Goals as goal
 
-pub stripes_of-pair-requires-clause-table : goal.stripes_of-pair-requires-clause-table
-stripes_of-pair-requires-clause-table c =
+pub stripes_of-pair-requires : goal.stripes_of-pair-requires
+stripes_of-pair-requires c =
     let p = c.requires in
-    p.tallied_2.table
-
-pub stripes_of-pair-requires-clause-disk_value : goal.stripes_of-pair-requires-clause-disk_value
-stripes_of-pair-requires-clause-disk_value c =
-    let p = c.requires in
-    p.disk_value
+    record {
+      table = p.tallied_2.table;
+      disk_value = p.disk_value;
+    }
 
 -- The disk with its stripes.
 pair : (c : goal.After-stripes_of-pair) →
@@ -37,12 +35,10 @@ lower-requires-2 c =
     can_lower_next (pair (goal.at.lower-requires-2 c).After-stripes_of-pair) (erasures c.args.work.now) c.requires.disk_value c.requires.tallied_2.counted
     c.lower.ensures
 
-pub returns-clause-erased : goal.returns-clause-erased
-returns-clause-erased c =
-    let t = tallied_less (pair (goal.at.returns-clause-erased c).After-stripes_of-pair) c.requires.tallied_2 c.requires.disk_value c.lower.ensures c.lower-2.ensures in
-    t.0
-
-pub returns-clause-tallied : goal.returns-clause-tallied
-returns-clause-tallied c =
-    let t = tallied_less (pair (goal.at.returns-clause-tallied c).After-stripes_of-pair) c.requires.tallied_2 c.requires.disk_value c.lower.ensures c.lower-2.ensures in
-    t.1
+pub returns : goal.returns
+returns c =
+    let t = tallied_less (pair (goal.at.returns c).After-stripes_of-pair) c.requires.tallied_2 c.requires.disk_value c.lower.ensures c.lower-2.ensures in
+    record {
+      erased = t.0;
+      tallied = t.1;
+    }

@@ -24,4 +24,11 @@ find_in-requires c =
     let p = c.requires in
     let work = slice_bounds-find_in-end-3 c.before.before.before in
     let others = slice_bounds-find_in-end c.before.before.before.before.before in
-    (p.numbered, (p.map_value, (p.disk_value, (stripes_few p.numbered, (room-made _ _ p.numbered _ p.map_value work refl refl p.capacity_in_bounds, sym others ∙ work)))))
+    record {
+      numbered = p.numbered;
+      map_value = p.map_value;
+      disk_value = p.disk_value;
+      base_in_bounds = stripes_few p.numbered;
+      room = room-made _ _ p.numbered _ p.map_value work refl refl p.capacity_in_bounds;
+      others_len = sym others ∙ work;
+    }

@@ -29,19 +29,24 @@ load_others-requires c =
     let a = room.disks_fit in
     let b = room.table_fits in
     let long = map-disks _ c.args.base _ c.requires.map_value in
-    (c.requires.numbered, (c.requires.map_value, (inside (goal.at.load_others-requires c).Start, (omega arith, (omega arith, (room.stripes_fit, c.requires.base_in_bounds))))))
+    record {
+      numbered = c.requires.numbered;
+      map_value = c.requires.map_value;
+      disk_in_bounds = inside (goal.at.load_others-requires c).Start;
+      map_in_bounds = omega arith;
+      others_in_bounds = omega arith;
+      stripe_limit_in_bounds = room.stripes_fit;
+      base_in_bounds = c.requires.base_in_bounds;
+    }
 
-pub stripes_of-pair-requires-clause-numbered : goal.stripes_of-pair-requires-clause-numbered
-stripes_of-pair-requires-clause-numbered c =
-    let l = inside (goal.at.stripes_of-pair-requires-clause-numbered c).Start in
+pub stripes_of-pair-requires : goal.stripes_of-pair-requires
+stripes_of-pair-requires c =
+    let l = inside (goal.at.stripes_of-pair-requires c).Start in
     let long = map-length _ _ c.requires.map_value in
-    c.requires.numbered
-
-pub stripes_of-pair-requires-clause-disk_bound : goal.stripes_of-pair-requires-clause-disk_bound
-stripes_of-pair-requires-clause-disk_bound c =
-    let l = inside (goal.at.stripes_of-pair-requires-clause-disk_bound c).Start in
-    let long = map-length _ _ c.requires.map_value in
-    omega arith
+    record {
+      numbered = c.requires.numbered;
+      disk_bound = omega arith;
+    }
 
 -- What was loaded, and where the code began.
 abbrev loaded : goal.After-stripes_of-pair → goal.After-load_others
@@ -81,7 +86,16 @@ try_both-requires c =
     let (low, high) = listed-on L d c.stripes_of-pair.ensures in
     let first = ⊎_elim (λ w. ap (on L d) w.1 ∙ high) (λ w. ap (on L d) w.1 ∙ low) c.if-fewer-few.branch in
     let second = ⊎_elim (λ w. ap (on L d) w.2 ∙ low) (λ w. ap (on L d) w.2 ∙ high) c.if-fewer-few.branch in
-    (s.pre.0, (s.pre.1.0, (s.pre.1.1.0, (first, (second, ((loaded c.before.before.before.before.before.before.before.before.before.before.before.before.before.before.before).load-others.ensures, (same-room s.pre.1.1.1.1.0 refl k.1.1.1.1.1.0 k.1.1.1.1.1.1.0 refl, k.1.1.1.1.0 ∙ s.pre.1.1.1.1.1)))))))
+    record {
+      numbered = s.pre.0;
+      map_value = s.pre.1.0;
+      disk_value = s.pre.1.1.0;
+      first_value = first;
+      second_value = second;
+      others = (loaded c.before.before.before.before.before.before.before.before.before.before.before.before.before.before.before).load-others.ensures;
+      room = same-room s.pre.1.1.1.1.0 refl k.1.1.1.1.1.0 k.1.1.1.1.1.1.0 refl;
+      others_len = k.1.1.1.1.0 ∙ s.pre.1.1.1.1.1;
+    }
 
 pub returns : goal.returns
 returns c =

@@ -13,12 +13,22 @@ tally-requires c =
     let room = c.requires.map_in_bounds in
     let table = c.requires.others_in_bounds in
     let same = c.copy.auto.1.0 in
-    (c.requires.numbered, (rw (length-set _ _ _) (omega arith), (λ d h. others_outside c.args.map.now _ c.args.disk loaded d (omega arith), (rw (length-set _ _ _) (omega arith), c.requires.stripe_limit_in_bounds))))
+    record {
+      numbered = c.requires.numbered;
+      size_in_bounds = rw (length-set _ _ _) (omega arith);
+      by_index = λ d h. others_outside c.args.map.now _ c.args.disk loaded d (omega arith);
+      work_in_bounds = rw (length-set _ _ _) (omega arith);
+      stripe_limit_in_bounds = c.requires.stripe_limit_in_bounds;
+    }
 
 pub join_all-requires : goal.join_all-requires
 join_all-requires c =
     let p = c.requires in
-    (p.numbered, (c.tally.ensures.tallied.table, p.base_in_bounds))
+    record {
+      numbered = p.numbered;
+      table = c.tally.ensures.tallied.table;
+      base_in_bounds = p.base_in_bounds;
+    }
 
 pub returns : goal.returns
 returns c =

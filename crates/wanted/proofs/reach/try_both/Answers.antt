@@ -13,7 +13,15 @@ use Rattle.wanted.proofs.reach.try_both.Goals as goal
 pub try_stripe-count-requires : goal.try_stripe-count-requires
 try_stripe-count-requires c =
     let p = c.requires in
-    (p.numbered, (p.map_value, (p.disk_value, (p.first_value, (p.others, (p.room, p.others_len))))))
+    record {
+      numbered = p.numbered;
+      map_value = p.map_value;
+      disk_value = p.disk_value;
+      stripe_value = p.first_value;
+      others = p.others;
+      room = p.room;
+      others_len = p.others_len;
+    }
 
 pub returns-then-count-ne0 : goal.returns-then-count-ne0
 returns-then-count-ne0 c =
@@ -31,7 +39,13 @@ tally-requires c =
     let long = map-length _ _ c.requires.map_value in
     let stripes = c.try_stripe-count.auto.stripes.1.1.1.1.1.1.1.0 in
     let counts = c.try_stripe-count.auto.stripes.1.1.1.1.1.1.1.1.0 in
-    (c.requires.numbered, (omega arith, (λ i h. others_outside c.args.map.now _ c.args.disk o.erased i (omega arith), (omega arith, omega arith))))
+    record {
+      numbered = c.requires.numbered;
+      size_in_bounds = omega arith;
+      by_index = λ i h. others_outside c.args.map.now _ c.args.disk o.erased i (omega arith);
+      work_in_bounds = omega arith;
+      stripe_limit_in_bounds = omega arith;
+    }
 
 pub try_stripe-requires : goal.try_stripe-requires
 try_stripe-requires c =
@@ -39,7 +53,15 @@ try_stripe-requires c =
     let o = p.others in
     let k = c.try_stripe-count.auto in
     let m = c.tally.auto in
-    (p.numbered, (p.map_value, (p.disk_value, (p.second_value, (record { erased = o.erased; table = c.tally.ensures.tallied.table; parted = o.parted }, (same-room p.room k.stripes.1.1.1.1.1.1.0 (m.counts.1.1.0 ∙ k.stripes.1.1.1.1.1.1.1.0) (m.counts.1.1.1.0 ∙ k.stripes.1.1.1.1.1.1.1.1.0) k.stripes.1.1.1.1.1.1.1.1.1.0, p.others_len ∙ sym k.stripes.1.1.1.1.1.1.0))))))
+    record {
+      numbered = p.numbered;
+      map_value = p.map_value;
+      disk_value = p.disk_value;
+      stripe_value = p.second_value;
+      others = record { erased = o.erased; table = c.tally.ensures.tallied.table; parted = o.parted };
+      room = same-room p.room k.stripes.1.1.1.1.1.1.0 (m.counts.1.1.0 ∙ k.stripes.1.1.1.1.1.1.1.0) (m.counts.1.1.1.0 ∙ k.stripes.1.1.1.1.1.1.1.1.0) k.stripes.1.1.1.1.1.1.1.1.1.0;
+      others_len = p.others_len ∙ sym k.stripes.1.1.1.1.1.1.0;
+    }
 
 pub returns : goal.returns
 returns c =

@@ -42,7 +42,14 @@ load-requires c =
     let room = c.requires.room.disks_fit in
     let same = c.requires.others_len in
     let long = map-disks _ c.args.base _ c.requires.map_value in
-    (c.requires.numbered, (o.table, (o.parted.stripes_fit, (omega arith, (omega arith, λ i h. without_sub _ c.args.disk i (sym (ap (λ (f : ℕ → Bool). f i) o.erased) ∙ h))))))
+    record {
+      numbered = c.requires.numbered;
+      table = o.table;
+      base_in_bounds = o.parted.stripes_fit;
+      map_in_bounds = omega arith;
+      others_in_bounds = omega arith;
+      by_index = λ i h. without_sub _ c.args.disk i (sym (ap (λ (f : ℕ → Bool). f i) o.erased) ∙ h);
+    }
 
 pub tally-erased-requires : goal.tally-erased-requires
 tally-erased-requires c =
@@ -53,13 +60,24 @@ tally-erased-requires c =
     let few = layout-disks c.args.size c.args.base in
     let long = map-length _ _ c.requires.map_value in
     let same = c.load.auto.1.1.1.1.1.1.1.0 in
-    (c.requires.numbered, (omega arith, (λ d h. side_outside (layout_of c.args.size c.args.base) c.args.map.now c.args.others.now c.args.parts.now _ c.args.disk o.erased _ c.load.ensures d (omega arith), (omega arith, room.stripes_fit))))
+    record {
+      numbered = c.requires.numbered;
+      size_in_bounds = omega arith;
+      by_index = λ d h. side_outside (layout_of c.args.size c.args.base) c.args.map.now c.args.others.now c.args.parts.now _ c.args.disk o.erased _ c.load.ensures d (omega arith);
+      work_in_bounds = omega arith;
+      stripe_limit_in_bounds = room.stripes_fit;
+    }
 
 pub peel-made-requires : goal.peel-made-requires
 peel-made-requires c =
     let p = c.requires in
     let (number, tallied) = c.tally-erased.ensures in
-    (p.numbered, (number, (tallied, p.room.list_fits)))
+    record {
+      numbered = p.numbered;
+      erased_value = number;
+      tallied_2 = tallied;
+      capacity_in_bounds = p.room.list_fits;
+    }
 
 -- Where the code began, and what was done since.
 abbrev tallied : goal.After-peel-made → goal.After-tally-erased

@@ -49,7 +49,12 @@ erased c = next_erased_lem _ _ c.next_erased-d.ensures (search rules)
 pub is_in-requires : goal.is_in-requires
 is_in-requires c =
     let s = start c.before.before in
-    (s.pre.0, (s.pre.1.0, (erased (goal.at.is_in-requires c).Else-others-d, s.pre.1.1.0)))
+    record {
+      numbered = s.pre.0;
+      table = s.pre.1.0;
+      disk_value = erased (goal.at.is_in-requires c).Else-others-d;
+      base_in_bounds = s.pre.1.1.0;
+    }
 
 pub bounds-work-d : goal.bounds-work-d
 bounds-work-d c =

@@ -7,7 +7,13 @@ use Rattle.write.proofs.Turns.{room, bytes-written, parts_written}
 use Rattle.write.proofs.store.store.Goals as goal
 
 pub find_places-at-requires : goal.find_places-at-requires
-find_places-at-requires c = let fits = write_fits _ _ _ _ _ c.requires in (fits.array.size, (fits.array.block, fits.disk))
+find_places-at-requires c =
+    let fits = write_fits _ _ _ _ _ c.requires in
+    record {
+      size_value = fits.array.size;
+      block_value = fits.array.block;
+      disk_value = fits.disk;
+    }
 
 pub store_parts-requires-clause-room : goal.store_parts-requires-clause-room
 store_parts-requires-clause-room c = rw c.find_places-at.ensures (room _ _ _ _ _ (write_fits _ _ _ _ _ c.requires) refl _ (omega arith))

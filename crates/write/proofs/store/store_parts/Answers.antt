@@ -28,7 +28,13 @@ pub overflow_add-own : goal.overflow_add-own
 overflow_add-own c = let u = reach (goal.at.overflow_add-own c).In-loop-i in omega arith
 
 pub difference-change-requires : goal.difference-change-requires
-difference-change-requires c = let u = reach (goal.at.difference-change-requires c).In-loop-i in (search rules, (omega arith, omega arith))
+difference-change-requires c =
+    let u = reach (goal.at.difference-change-requires c).In-loop-i in
+    record {
+      w_bound = search rules;
+      w_in_bounds = omega arith;
+      w_in_bounds_2 = omega arith;
+    }
 
 pub overflow_add-own-in-loop-i : goal.overflow_add-own-in-loop-i
 overflow_add-own-in-loop-i c = let u = reach (goal.at.overflow_add-own-in-loop-i c).In-loop-i in omega arith

@@ -5,8 +5,6 @@ use mathlib.Core.Bool.{true}
 use Prim.Native.Nat.{ℕ, ◌*◌, ◌-◌, ◌/◌, ◌%◌}
 use native.Mathlib.Nat.{le_refl}
 use native.Mathlib.Omega.{arith}
-use borrow.Author.Rules.{rules}
-use borrow.Author.Tests.{not-true, not-false}
 use Rattle.xor.specs.Strided.{strided, cancelled}
 use Rattle.xor.proofs.Parts.{zero-after, zero_fails}
 use Rattle.xor.proofs.cancel.cancels.Goals.{Else-not-parts_cancel-3}
@@ -15,7 +13,7 @@ use Rattle.xor.proofs.cancel.cancels.Goals as goal
 -- What has passed after the parts of 128 bytes, after those of 32, and after those of 16.
 wide : (c : goal.Else-not-parts_cancel)
     → let a = c.args in cancelled (128 * (a.len / 128)) a.a.now a.first a.step a.count a.skip ≡ true
-wide c = sym c.parts_cancel.ensures ∙ not-false _ c.if-not-parts_cancel.false
+wide c = sym c.parts_cancel.ensures ∙ c.if-not-parts_cancel.false
 
 middle : (c : goal.Else-not-parts_cancel-2)
     → let a = c.args in cancelled (a.len - a.len % 32) a.a.now a.first a.step a.count a.skip ≡ true
@@ -23,7 +21,7 @@ unfolding cancelled
 middle c =
     let a = c.args in
     zero-after (λ j. strided a.a.now j a.step a.count a.skip) a.first _ _ _ _ _ (le_refl _) (omega arith) refl (wide c.before.before)
-    ∙ sym c.parts_cancel-2.ensures ∙ not-false _ c.if-not-parts_cancel-2.false
+    ∙ sym c.parts_cancel-2.ensures ∙ c.if-not-parts_cancel-2.false
 
 narrow : (c : goal.Else-not-parts_cancel-3)
     → let a = c.args in cancelled (a.len - a.len % 16) a.a.now a.first a.step a.count a.skip ≡ true
@@ -31,7 +29,7 @@ unfolding cancelled
 narrow c =
     let a = c.args in
     zero-after (λ j. strided a.a.now j a.step a.count a.skip) a.first _ _ _ _ _ (le_refl _) (omega arith) refl (middle c.before.before)
-    ∙ sym c.parts_cancel-3.ensures ∙ not-false _ c.if-not-parts_cancel-3.false
+    ∙ sym c.parts_cancel-3.ensures ∙ c.if-not-parts_cancel-3.false
 
 pub few_cancel-requires : goal.few_cancel-requires
 few_cancel-requires c = c.requires
@@ -41,43 +39,55 @@ returns-then-len-lt16 c =
     let a = c.args in
     c.few_cancel.ensures
 
-pub parts_cancel-requires : goal.parts_cancel-requires
-parts_cancel-requires c = (search rules, (λ k h. omega (arith, c.requires.within k h), omega arith))
+pub parts_cancel-requires-clause-within : goal.parts_cancel-requires-clause-within
+parts_cancel-requires-clause-within c = λ k h. omega (arith, c.requires.within k h)
+
+pub parts_cancel-requires-clause-parts_in_bounds : goal.parts_cancel-requires-clause-parts_in_bounds
+parts_cancel-requires-clause-parts_in_bounds c = omega arith
 
 pub returns-then-not-parts_cancel : goal.returns-then-not-parts_cancel
 unfolding cancelled
 returns-then-not-parts_cancel c =
     let a = c.args in
     zero_fails (λ j. strided a.a.now j a.step a.count a.skip) a.first 0 _ _ _ (omega arith) (omega arith)
-    (sym c.parts_cancel.ensures ∙ not-true _ c.if-not-parts_cancel.true)
+    (sym c.parts_cancel.ensures ∙ c.if-not-parts_cancel.true)
 
-pub parts_cancel-requires-2 : goal.parts_cancel-requires-2
-parts_cancel-requires-2 c = (search rules, (λ k h. omega (arith, c.requires.within k h), omega arith))
+pub parts_cancel-requires-2-clause-within : goal.parts_cancel-requires-2-clause-within
+parts_cancel-requires-2-clause-within c = λ k h. omega (arith, c.requires.within k h)
+
+pub parts_cancel-requires-2-clause-parts_in_bounds : goal.parts_cancel-requires-2-clause-parts_in_bounds
+parts_cancel-requires-2-clause-parts_in_bounds c = omega arith
 
 pub returns-then-not-parts_cancel-2 : goal.returns-then-not-parts_cancel-2
 unfolding cancelled
 returns-then-not-parts_cancel-2 c =
     let a = c.args in
     zero_fails (λ j. strided a.a.now j a.step a.count a.skip) a.first (128 * (a.len / 128)) _ _ _ refl (omega arith)
-    (sym c.parts_cancel-2.ensures ∙ not-true _ c.if-not-parts_cancel-2.true)
+    (sym c.parts_cancel-2.ensures ∙ c.if-not-parts_cancel-2.true)
 
-pub parts_cancel-requires-3 : goal.parts_cancel-requires-3
-parts_cancel-requires-3 c = (search rules, (λ k h. omega (arith, c.requires.within k h), omega arith))
+pub parts_cancel-requires-3-clause-within : goal.parts_cancel-requires-3-clause-within
+parts_cancel-requires-3-clause-within c = λ k h. omega (arith, c.requires.within k h)
+
+pub parts_cancel-requires-3-clause-parts_in_bounds : goal.parts_cancel-requires-3-clause-parts_in_bounds
+parts_cancel-requires-3-clause-parts_in_bounds c = omega arith
 
 pub returns-then-not-parts_cancel-3 : goal.returns-then-not-parts_cancel-3
 unfolding cancelled
 returns-then-not-parts_cancel-3 c =
     let a = c.args in
     zero_fails (λ j. strided a.a.now j a.step a.count a.skip) a.first (a.len - a.len % 32) _ _ _ refl (omega arith)
-    (sym c.parts_cancel-3.ensures ∙ not-true _ c.if-not-parts_cancel-3.true)
+    (sym c.parts_cancel-3.ensures ∙ c.if-not-parts_cancel-3.true)
 
 pub returns-then-len-eq0 : goal.returns-then-len-eq0
 returns-then-len-eq0 c =
     let a = c.args in
     sym (narrow (goal.at.returns-then-len-eq0 c).Else-not-parts_cancel-3) ∙ ap (λ (n : ℕ). cancelled n a.a.now a.first a.step a.count a.skip) (omega arith)
 
-pub parts_cancel-requires-4 : goal.parts_cancel-requires-4
-parts_cancel-requires-4 c = (search rules, (λ k h. omega (arith, c.requires.within k h), omega arith))
+pub parts_cancel-requires-4-clause-within : goal.parts_cancel-requires-4-clause-within
+parts_cancel-requires-4-clause-within c = λ k h. omega (arith, c.requires.within k h)
+
+pub parts_cancel-requires-4-clause-parts_in_bounds : goal.parts_cancel-requires-4-clause-parts_in_bounds
+parts_cancel-requires-4-clause-parts_in_bounds c = omega arith
 
 pub returns : goal.returns
 unfolding cancelled

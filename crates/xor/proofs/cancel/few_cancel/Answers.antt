@@ -3,24 +3,28 @@
 use mathlib.Core.Path.{◌∙◌, sym, refl}
 use native.Mathlib.Nat.{le_refl}
 use native.Mathlib.Omega.{arith}
-use borrow.Author.Rules.{rules}
-use borrow.Author.Tests.{not-true, not-false}
 use Rattle.xor.specs.Strided.{strided, cancelled}
 use Rattle.xor.proofs.Parts.{zero-after, zero_fails}
 use Rattle.xor.proofs.cancel.few_cancel.Goals as goal
 
-pub parts_cancel-requires : goal.parts_cancel-requires
-parts_cancel-requires c = (search rules, (λ k h. omega (arith, c.requires.within k h), omega arith))
+pub parts_cancel-requires-clause-within : goal.parts_cancel-requires-clause-within
+parts_cancel-requires-clause-within c = λ k h. omega (arith, c.requires.within k h)
+
+pub parts_cancel-requires-clause-parts_in_bounds : goal.parts_cancel-requires-clause-parts_in_bounds
+parts_cancel-requires-clause-parts_in_bounds c = omega arith
 
 pub returns-then-not-parts_cancel : goal.returns-then-not-parts_cancel
 unfolding cancelled
 returns-then-not-parts_cancel c =
     let a = c.args in
     zero_fails (λ j. strided a.a.now j a.step a.count a.skip) a.first 0 _ _ _ (omega arith) (omega arith)
-    (sym c.parts_cancel.ensures ∙ not-true _ c.if-not-parts_cancel.true)
+    (sym c.parts_cancel.ensures ∙ c.if-not-parts_cancel.true)
 
-pub parts_cancel-requires-2 : goal.parts_cancel-requires-2
-parts_cancel-requires-2 c = (search rules, (λ k h. omega (arith, c.requires.within k h), omega arith))
+pub parts_cancel-requires-2-clause-within : goal.parts_cancel-requires-2-clause-within
+parts_cancel-requires-2-clause-within c = λ k h. omega (arith, c.requires.within k h)
+
+pub parts_cancel-requires-2-clause-parts_in_bounds : goal.parts_cancel-requires-2-clause-parts_in_bounds
+parts_cancel-requires-2-clause-parts_in_bounds c = omega arith
 
 pub returns : goal.returns
 unfolding cancelled
@@ -29,4 +33,4 @@ returns c =
     c.parts_cancel-2.ensures
     ∙ sym
     (zero-after (λ j. strided a.a.now j a.step a.count a.skip) a.first _ _ _ _ _ (le_refl _) (omega arith) refl
-    (sym c.parts_cancel.ensures ∙ not-false _ c.if-not-parts_cancel.false))
+    (sym c.parts_cancel.ensures ∙ c.if-not-parts_cancel.false))

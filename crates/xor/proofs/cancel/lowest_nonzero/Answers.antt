@@ -7,7 +7,6 @@ use native.Mathlib.Nat.{le_refl, not-suc-le_self, not-suc-le-zero}
 use native.Mathlib.Omega.{arith}
 use borrow.Author.Rules.{rules}
 use borrow.Author.Count.{below_more}
-use borrow.Author.Tests.{not-true, not-false}
 use Rattle.stripes.proofs.Fold.{lowest_is, lowest_unique}
 use Rattle.xor.proofs.cancel.lowest_nonzero.Goals as goal
 
@@ -31,13 +30,13 @@ returns-then-not-cancels c =
     let a = c.args in
     let l = c.loop-i in
     lowest_unique a.total _ l.i _
-    (record { within = omega arith; none = λ k h. ap not (l.invariant.1 k h); found = λ h. ap not (sym c.cancels.ensures ∙ not-true _ c.if-not-cancels.true) })
+    (record { within = omega arith; none = λ k h. ap not (l.invariant.1 k h); found = λ h. ap not (sym c.cancels.ensures ∙ c.if-not-cancels.true) })
     (lowest_is a.total _)
 
 pub loop-i-preserved : goal.loop-i-preserved
 loop-i-preserved c =
     let l = c.loop-i in
-    (search rules, below_more _ l.i l.invariant.1 (sym c.cancels.ensures ∙ not-false _ c.if-not-cancels.false))
+    (search rules, below_more _ l.i l.invariant.1 (sym c.cancels.ensures ∙ c.if-not-cancels.false))
 
 pub returns : goal.returns
 returns c =

@@ -5,7 +5,6 @@ use mathlib.Core.Bool.{true}
 use Prim.Native.Nat.{ℕ, ◌-◌, ◌*◌}
 use native.Mathlib.Omega.{arith}
 use borrow.Author.Rules.{rules}
-use borrow.Author.Tests.{not-true, not-false}
 use Rattle.xor.specs.Picked.{picked, picked_cancelled}
 use Rattle.xor.proofs.Parts.{upto, zero-none, turn_fails, turn_passes}
 use Rattle.xor.proofs.picked.parts_cancel.Goals as goal
@@ -33,7 +32,7 @@ returns-then-not-is_zero c =
     let z = c.is_zero in
     turn_fails (λ j. picked c.args.a.now j c.args.step c.args.list.now c.args.count)
     c.args.w c.args.first c.args.parts l.i c.loop-i-test.true
-    v.result z.result v.ensures z.ensures (not-true _ c.if-not-is_zero.true)
+    v.result z.result v.ensures z.ensures (c.if-not-is_zero.true)
 
 pub loop-i-preserved : goal.loop-i-preserved
 unfolding picked_cancelled
@@ -44,7 +43,7 @@ loop-i-preserved c =
       search rules,
       turn_passes (λ j. picked c.args.a.now j c.args.step c.args.list.now c.args.count)
           c.args.w c.args.first c.args.parts l.i c.loop-i-test.true
-          v.result z.result v.ensures z.ensures l.invariant.1 (not-false _ c.if-not-is_zero.false),
+          v.result z.result v.ensures z.ensures l.invariant.1 (c.if-not-is_zero.false),
     )
 
 pub returns : goal.returns
