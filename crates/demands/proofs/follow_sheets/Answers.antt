@@ -21,7 +21,7 @@ returns c =
     let a = c.args in
     let found = c.slice_known-1.given in
     let small : Bytes a.array.now = λ i l. omega (arith, found i) in
-    let (outcome, array) = c.follow.ensures in
+    let record { outcome = outcome; array = array } = c.follow.ensures in
     record {
       outcome = outcome;
       array = array;

@@ -7,7 +7,7 @@ use Rattle.demands.proofs.look_block.Goals as goal
 pub returns : goal.returns
 returns c =
     let a = c.args in
-    let (bytes, place) = c.look.ensures in
+    let record { bytes = bytes; place = place } = c.look.ensures in
     record {
       bytes = bytes;
       place = place;

@@ -33,8 +33,8 @@ pub returns : goal.returns
 returns c =
     let a = c.args in
     let E = superparity a.size narrow.base in
-    let (planned, draft) = c.plan-planned.ensures in
-    let (wanted, sheet) = c.plan_disk-wanted.ensures in
+    let record { outcome = planned; sheets = draft } = c.plan-planned.ensures in
+    let record { outcome = wanted; sheet = sheet } = c.plan_disk-wanted.ensures in
     record {
       planned = planned;
       draft = draft;

@@ -14,7 +14,7 @@ returns c =
     let a = c.args in
     let found = c.slice_known-1.given in
     let small : Bytes a.array.now = λ i l. omega (arith, found i) in
-    let (answer, array) = c.save.ensures in
+    let record { answer = answer; array = array } = c.save.ensures in
     record {
       answer = answer;
       array = array;

@@ -8,7 +8,7 @@ use Rattle.demands.proofs.seal_array.Goals as goal
 pub returns : goal.returns
 returns c =
     let a = c.args in
-    let (status, array) = c.seal.ensures in
+    let record { status = status; array = array } = c.seal.ensures in
     record {
       status = status;
       array = array;

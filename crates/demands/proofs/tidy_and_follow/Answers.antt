@@ -14,7 +14,7 @@ returns c =
     let a = c.args in
     let bytes : Bytes a.sheets.now = λ i l. omega (arith, c.slice_known-2-1.given i) in
     let tidied = c.tidy_each.ensures in
-    let (outcome, array) = c.follow-followed.ensures in
+    let record { outcome = outcome; array = array } = c.follow-followed.ensures in
     let (answer, left) =
     follow_tidied a.size a.block a.sector a.array.now a.map.now a.sheets.now _ bytes
     (tidied_sheets narrow (a.block / a.sector) a.sheets.now) in

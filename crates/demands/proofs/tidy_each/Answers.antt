@@ -40,7 +40,7 @@ loop-p-preserved c =
     let l = c.loop-p in
     let at : ℕ = 98 * l.p in
     let more = c.loop-p-test.true in
-    let (status, sheet) = c.tidy.ensures in (
+    let record { status = status; sheet = sheet } = c.tidy.ensures in (
       omega arith,
       tidying_next l.invariant.1 (omega arith) (part_sheet narrow l.p l.sheets) sheet
           (ap (λ (r : List ℕ). take at l.sheets ++ (c.tidy.new.sheet ++ r)) (Post-is at (at + 98) l.sheets (omega arith))),

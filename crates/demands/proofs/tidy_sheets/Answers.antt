@@ -12,8 +12,8 @@ returns c =
     let a = c.args in
     let one : Bytes a.one.now = λ i l. omega (arith, c.slice_known-1.given i) in
     let other : Bytes a.other.now = λ i l. omega (arith, c.slice_known-2-1.given i) in
-    let (status, sheet) = c.tidy-first.ensures in
-    let (status₂, sheet₂) = c.tidy-second.ensures in
+    let record { status = status; sheet = sheet } = c.tidy-first.ensures in
+    let record { status = status₂; sheet = sheet₂ } = c.tidy-second.ensures in
     record {
       statuses = (status, status₂);
       sheets = (sheet, sheet₂);

@@ -8,7 +8,7 @@ use Rattle.demands.proofs.write_block.Goals as goal
 pub returns : goal.returns
 returns c =
     let a = c.args in
-    let (status, array) = c.write.ensures in
+    let record { status = status; array = array } = c.write.ensures in
     record {
       status = status;
       array = array;

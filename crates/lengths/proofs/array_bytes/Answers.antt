@@ -7,14 +7,14 @@ use Rattle.lengths.proofs.array_bytes.Goals.{Else-not-block_fits, Else-not-size_
 use Rattle.lengths.proofs.array_bytes.Goals as goal
 
 sized : (c : goal.Else-not-size_fits) → size_fits c.args.size ≡ true
-sized c = sym c.size_fits_lem.ensures ∙ c.if-not-size_fits.false
+sized c = sym c.size_fits.ensures ∙ c.if-not-size_fits.false
 
 blocked : (c : goal.Else-not-block_fits) → block_fits c.args.block ≡ true
 blocked c = sym c.block_fits.ensures ∙ c.if-not-block_fits.false
 
 pub returns-then-not-size_fits : goal.returns-then-not-size_fits
 unfolding array_bytes_or_zero
-returns-then-not-size_fits c = rw (sym c.size_fits_lem.ensures ∙ c.if-not-size_fits.true)
+returns-then-not-size_fits c = rw (sym c.size_fits.ensures ∙ c.if-not-size_fits.true)
 
 pub returns-then-not-block_fits : goal.returns-then-not-block_fits
 unfolding array_bytes_or_zero

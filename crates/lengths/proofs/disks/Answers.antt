@@ -7,7 +7,7 @@ use Rattle.lengths.proofs.disks.Goals.{Then-size_fits}
 use Rattle.lengths.proofs.disks.Goals as goal
 
 sized : (c : goal.Then-size_fits) → size_fits c.args.size ≡ true
-sized c = sym c.size_fits_lem.ensures ∙ c.if-size_fits.true
+sized c = sym c.size_fits.ensures ∙ c.if-size_fits.true
 
 pub disks-requires : goal.disks-requires
 disks-requires c = sized (goal.at.disks-requires c).Then-size_fits
@@ -18,4 +18,4 @@ returns-then-size_fits c = rw (sized (goal.at.returns-then-size_fits c).Then-siz
 
 pub returns : goal.returns
 unfolding disks_or_zero
-returns c = rw (sym c.size_fits_lem.ensures ∙ c.if-size_fits.false)
+returns c = rw (sym c.size_fits.ensures ∙ c.if-size_fits.false)

@@ -95,7 +95,7 @@ pub loop-p-preserved : goal.loop-p-preserved
 loop-p-preserved c =
     let l = (turn c.before.before.before.before.before.before).loop in
     let place = c.loop-p-test.true in
-    let (says, is) = c.draft_noted-answer.ensures in (
+    let record { outcome = says; sheet = is } = c.draft_noted-answer.ensures in (
       goes _ _ _ _ l.inv.0 place says is c.answer-1.given.1 c.at_most-left.ensures,
       λ q low high. rw (after-other _ _ _ _ l.inv.0 place says is q (λ same. omega arith)) (l.inv.1 q (omega arith) high),
     )

@@ -17,7 +17,7 @@ use Rattle.plan.proofs.plan.Goals as goal
 
 -- What each test that was passed has shown.
 sized : (c : goal.Else-not-size_fits) → size_fits c.args.size ≡ true
-sized c = sym c.size_fits_lem.ensures ∙ c.if-not-size_fits.false
+sized c = sym c.size_fits.ensures ∙ c.if-not-size_fits.false
 
 cut : (c : goal.Else-not-sectors_fit) → sectors_fit c.args.sectors ≡ true
 cut c = sym c.sectors_fit.ensures ∙ c.if-not-sectors_fit.false
@@ -27,7 +27,7 @@ tested : (c : goal.Else-status-ne0) → let a = c.args in
 tested c = sym c.sheet_refusal-status.ensures ∙ c.if-status-ne0.false
 
 pub returns-then-not-size_fits : goal.returns-then-not-size_fits
-returns-then-not-size_fits c = refused-size _ _ _ _ (sym c.size_fits_lem.ensures ∙ c.if-not-size_fits.true)
+returns-then-not-size_fits c = refused-size _ _ _ _ (sym c.size_fits.ensures ∙ c.if-not-size_fits.true)
 
 pub returns-then-not-sectors_fit : goal.returns-then-not-sectors_fit
 returns-then-not-sectors_fit c = refused-sectors _ _ _ _ (sized (goal.at.returns-then-not-sectors_fit c).Else-not-size_fits) (sym c.sectors_fit.ensures ∙ c.if-not-sectors_fit.true)

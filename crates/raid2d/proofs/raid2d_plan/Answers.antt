@@ -9,7 +9,7 @@ use Rattle.raid2d.proofs.raid2d_plan.Goals as goal
 pub returns : goal.returns
 unfolding rectangle
 returns c =
-    let (outcome, sheets) = c.plan-answer.ensures in
+    let record { outcome = outcome; sheets = sheets } = c.plan-answer.ensures in
     let (status, (count, position)) = c.report.ensures in
     let a = c.args in
     record {

@@ -9,8 +9,8 @@ use Rattle.raid2d.proofs.raid2d_plan_disk.Goals as goal
 pub returns : goal.returns
 unfolding rectangle
 returns c =
-    let (outcome, sheet) = c.plan_disk-answer.ensures in
-    let (status, count) = c.report_one.ensures in
+    let record { outcome = outcome; sheet = sheet } = c.plan_disk-answer.ensures in
+    let record { status = status; count = count } = c.report_one.ensures in
     let before = c.args.count.now in
     record {
       status = status ∙ ap outcome_status outcome;

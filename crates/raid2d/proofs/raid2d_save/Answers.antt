@@ -9,8 +9,8 @@ use Rattle.raid2d.proofs.raid2d_save.Goals as goal
 pub returns : goal.returns
 unfolding rectangle
 returns c =
-    let (answer, array) = c.save-answer.ensures in
-    let (status, count) = c.report_saving.ensures in
+    let record { answer = answer; array = array } = c.save-answer.ensures in
+    let record { status = status; count = count } = c.report_saving.ensures in
     let before = c.args.count.now in
     record {
       status = status ∙ ap saving_status answer;

@@ -8,19 +8,20 @@ use Rattle.refusal.proofs.array_refusal.Goals as goal
 
 pub returns-then-not-size_fits : goal.returns-then-not-size_fits
 unfolding array_tests
-returns-then-not-size_fits c = sym (fails 1 _ _ (sym c.size_fits_lem.ensures ∙ c.if-not-size_fits.true))
+returns-then-not-size_fits c = sym (fails 1 _ _ (sym c.size_fits.ensures ∙ c.if-not-size_fits.true))
 
 pub returns-then-not-block_fits : goal.returns-then-not-block_fits
 unfolding array_tests
 returns-then-not-block_fits c =
-    let size = sym c.size_fits_lem.ensures ∙ c.if-not-size_fits.false in
+    let size = sym c.size_fits.ensures ∙ c.if-not-size_fits.false in
     sym (passes 1 _ _ size ∙ fails 2 _ _ (sym c.block_fits.ensures ∙ c.if-not-block_fits.true))
 
-pub array_bytes-requires-clause-size_value : goal.array_bytes-requires-clause-size_value
-array_bytes-requires-clause-size_value c = sym c.size_fits_lem.ensures ∙ c.if-not-size_fits.false
-
-pub array_bytes-requires-clause-block_value : goal.array_bytes-requires-clause-block_value
-array_bytes-requires-clause-block_value c = sym c.block_fits.ensures ∙ c.if-not-block_fits.false
+pub array_bytes-requires : goal.array_bytes-requires
+array_bytes-requires c =
+    record {
+      size_value = sym c.size_fits.ensures ∙ c.if-not-size_fits.false;
+      block_value = sym c.block_fits.ensures ∙ c.if-not-block_fits.false;
+    }
 
 pub returns-then-len-array_bytes : goal.returns-then-len-array_bytes
 unfolding array_tests

@@ -22,7 +22,7 @@ use Rattle.report.proofs.report.Goals as goal
 
 -- What each test that was passed has shown.
 sized : (c : goal.Else-not-size_fits) → size_fits c.args.size ≡ true
-sized c = sym c.size_fits_lem.ensures ∙ c.if-not-size_fits.false
+sized c = sym c.size_fits.ensures ∙ c.if-not-size_fits.false
 
 abbrev start : goal.Else-not-map_fits → goal.Start
 start c = c.before.before.before.before.before.before
@@ -49,7 +49,7 @@ lossy c = subst (Found c.before.before.before) c.answer-in-Cycle-1.given.1 c.sol
 
 pub returns-then-not-size_fits : goal.returns-then-not-size_fits
 returns-then-not-size_fits c =
-    written_as (size_refused _ _ (sym c.size_fits_lem.ensures ∙ c.if-not-size_fits.true))
+    written_as (size_refused _ _ (sym c.size_fits.ensures ∙ c.if-not-size_fits.true))
     c.refused.ensures
 
 pub map_fits-requires-clause-size_value : goal.map_fits-requires-clause-size_value

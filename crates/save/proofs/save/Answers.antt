@@ -84,6 +84,6 @@ save_all-number-requires c =
 pub returns : goal.returns
 returns c =
     let a = c.args in
-    let (number, array) = c.save_all-number.ensures in
+    let record { number = number; array = array } = c.save_all-number.ensures in
     determined-saved a.size a.block a.sector a.array.now a.map.now (accepted (goal.at.returns c).Else-status-ne0) (fitting (goal.at.returns c).Else-not-map_fits)
     (sym c.all_fit.ensures ∙ c.if-not-all_fit.false) number array

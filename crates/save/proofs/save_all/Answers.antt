@@ -38,7 +38,7 @@ save_position-number-requires c =
 pub overflow_add-number : goal.overflow_add-number
 overflow_add-number c =
     let m = c.args.map.now in
-    let (number, array) = c.save_position-number.ensures in
+    let record { number = number; array = array } = c.save_position-number.ensures in
     let most = positions-few c.requires.numbered c.requires.sectored m in
     let few = (saved-next c.requires.numbered c.requires.sectored m c.loop-p.invariant.0 c.loop-p-test.true array number).few in
     omega arith
@@ -51,7 +51,7 @@ overflow_add-p c =
 
 pub loop-p-preserved : goal.loop-p-preserved
 loop-p-preserved c =
-    let (number, array) = c.save_position-number.ensures in
+    let record { number = number; array = array } = c.save_position-number.ensures in
     let place = c.loop-p-test.true in
     (saved-next c.requires.numbered c.requires.sectored c.args.map.now c.loop-p.invariant.0 place array number, search rules)
 

@@ -23,7 +23,7 @@ tally-erased-requires c =
 pub save_determined-requires : goal.save_determined-requires
 save_determined-requires c =
     let p = c.requires in
-    let (number, tallied) = c.tally-erased.ensures in
+    let record { number = number; tallied = tallied } = c.tally-erased.ensures in
     let fit = rw (← c.load_position.ensures) at p.array_value in
     record {
       numbered = p.numbered;

@@ -20,7 +20,7 @@ use Rattle.wanted.proofs.plan_disk.Goals as goal
 
 -- What each test that was passed has shown.
 sized : (c : goal.Else-not-size_fits) → size_fits c.args.size ≡ true
-sized c = sym c.size_fits_lem.ensures ∙ c.if-not-size_fits.false
+sized c = sym c.size_fits.ensures ∙ c.if-not-size_fits.false
 
 tested : (c : goal.Else-status-ne0) → let a = c.args in
     refusal (one_tests a.size a.map.now (length a.sheet.now)) ≡ 0
@@ -32,7 +32,7 @@ can c = sym c.can_be_wanted.ensures ∙ c.if-not-can_be_wanted.false
 
 pub returns-then-not-size_fits : goal.returns-then-not-size_fits
 returns-then-not-size_fits c =
-    refused-plan _ _ _ _ 1 (size-first _ _ _ (sym c.size_fits_lem.ensures ∙ c.if-not-size_fits.true)) (λ q. omega arith)
+    refused-plan _ _ _ _ 1 (size-first _ _ _ (sym c.size_fits.ensures ∙ c.if-not-size_fits.true)) (λ q. omega arith)
 
 pub sheet_refusal-status-requires-clause-size_value : goal.sheet_refusal-status-requires-clause-size_value
 unfolding sectors_fit

@@ -44,7 +44,7 @@ restore-requires c =
 pub returns : goal.returns
 returns c =
     let a = c.args in
-    let (answer, array) = c.restore.ensures in
+    let record { answer = answer; array = array } = c.restore.ensures in
     let (long, (most, all)) = c.requires.1.1.1.1.1.1 in
     let none = c.if-made-count.false in
     record {

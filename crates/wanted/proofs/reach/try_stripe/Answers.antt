@@ -71,7 +71,7 @@ tally-erased-requires c =
 pub peel-made-requires : goal.peel-made-requires
 peel-made-requires c =
     let p = c.requires in
-    let (number, tallied) = c.tally-erased.ensures in
+    let record { number = number; tallied = tallied } = c.tally-erased.ensures in
     record {
       numbered = p.numbered;
       erased_value = number;

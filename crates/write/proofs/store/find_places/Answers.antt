@@ -12,14 +12,13 @@ overflow_mul-result c = omega (arith, start-bound _ _ c.requires.size_value c.re
 pub nonzero_div-disk : goal.nonzero_div-disk
 nonzero_div-disk c = omega (arith, across_positive c.args.size)
 
-pub disk_at-requires-clause-size_value : goal.disk_at-requires-clause-size_value
-disk_at-requires-clause-size_value c = c.requires.size_value
-
-pub disk_at-requires-clause-row_bound : goal.disk_at-requires-clause-row_bound
-disk_at-requires-clause-row_bound c = rw c.across-across.ensures (le_of_lt (data_row _ _ c.requires.disk_value))
-
-pub disk_at-requires-clause-column_bound : goal.disk_at-requires-clause-column_bound
-disk_at-requires-clause-column_bound c = le_of_eq c.columns-last_column.ensures
+pub disk_at-requires : goal.disk_at-requires
+disk_at-requires c =
+    record {
+      size_value = c.requires.size_value;
+      row_bound = rw c.across-across.ensures (le_of_lt (data_row _ _ c.requires.disk_value));
+      column_bound = le_of_eq c.columns-last_column.ensures;
+    }
 
 pub overflow_mul-result-2 : goal.overflow_mul-result-2
 overflow_mul-result-2 c = let (size, (row, column)) = disk_at-requires c.before tt in omega (arith, start-bound _ _ c.requires.size_value c.requires.block_value c.disk_at.result (rw c.disk_at.ensures (disk-below _ _ _ row column)))
@@ -27,14 +26,13 @@ overflow_mul-result-2 c = let (size, (row, column)) = disk_at-requires c.before 
 pub nonzero_rem-disk : goal.nonzero_rem-disk
 nonzero_rem-disk c = omega (arith, across_positive c.args.size)
 
-pub disk_at-requires-2-clause-size_value : goal.disk_at-requires-2-clause-size_value
-disk_at-requires-2-clause-size_value c = c.requires.size_value
-
-pub disk_at-requires-2-clause-row_bound : goal.disk_at-requires-2-clause-row_bound
-disk_at-requires-2-clause-row_bound c = le_of_eq c.rows-last_row.ensures
-
-pub disk_at-requires-2-clause-column_bound : goal.disk_at-requires-2-clause-column_bound
-disk_at-requires-2-clause-column_bound c = rw c.across-across.ensures (le_of_lt (data_column _ _ c.requires.disk_value))
+pub disk_at-requires-2 : goal.disk_at-requires-2
+disk_at-requires-2 c =
+    record {
+      size_value = c.requires.size_value;
+      row_bound = le_of_eq c.rows-last_row.ensures;
+      column_bound = rw c.across-across.ensures (le_of_lt (data_column _ _ c.requires.disk_value));
+    }
 
 pub overflow_mul-result-3 : goal.overflow_mul-result-3
 overflow_mul-result-3 c = let (size, (row, column)) = disk_at-requires-2 c.before tt in omega (arith, start-bound _ _ c.requires.size_value c.requires.block_value c.disk_at-2.result (rw c.disk_at-2.ensures (disk-below _ _ _ row column)))
