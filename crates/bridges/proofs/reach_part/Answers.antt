@@ -22,10 +22,6 @@ loop-ahead-init c =
     (spread_begin _ (numbered_two p.numbered) (grid-apart p.numbered) p.near p.grown_2 c.args.stripe p.stripe_lt_word_stripes p.stripe_value
     (or_lt 64 _ _ c.struct_known-1.given.0.fits power) (c.shared_slice_known-3-1.given c.args.stripe).fits)
 
--- Where the code began.
-abbrev start : goal.At-loop-ahead → goal.Start
-start l = l.before.before.before.before.before.before.before
-
 -- The stripe of a turn, which is ahead.
 out : (c : goal.In-loop-ahead) → let w = c.loop-ahead.ahead in Without w (count_trailing_zeros 64 w) (bit_and w (w - 1))
 out c = lowest_out _ c.loop-ahead-test.true c.loop-ahead.invariant.ahead_fits
@@ -35,11 +31,11 @@ overflow_cast-next c = omega (arith, (out (goal.at.overflow_cast-next c).In-loop
 
 pub reach_one-more-requires : goal.reach_one-more-requires
 reach_one-more-requires c =
-    let p = (start c.before.before).pre in
+    let p = c.requires in
     let h = c.loop-ahead.invariant in
     record {
-      numbered = p.0;
-      near = p.1.0;
+      numbered = p.numbered;
+      near = p.near;
       growing_2 = h.growing;
       stripe_lt_word_stripes = (out (goal.at.reach_one-more-requires c).In-loop-ahead).small;
       beside = h.offered _ (out (goal.at.reach_one-more-requires c).In-loop-ahead).member;
@@ -57,20 +53,19 @@ loop-ahead-smaller c =
 
 pub loop-ahead-preserved : goal.loop-ahead-preserved
 loop-ahead-preserved c =
-    let p = (start c.before.before.before.before.before.before.before.before).pre in
+    let p = c.requires in
     let more = c.reach_one-more in
     let fits = c.struct_known-in-loop-ahead-1.given.0.fits in
-    spread_next _ (numbered_two p.0) (grid-apart p.0) p.1.0 c.loop-ahead.invariant _ (out (goal.at.loop-ahead-preserved c).In-loop-ahead).small more.ensures.growing fits more.ensures.seen
+    spread_next _ (numbered_two p.numbered) (grid-apart p.numbered) p.near c.loop-ahead.invariant _ (out (goal.at.loop-ahead-preserved c).In-loop-ahead).small more.ensures.growing fits more.ensures.seen
     (xor_lt 64 _ _ (or_lt 64 _ _ (or_lt 64 _ _ c.loop-ahead.invariant.ahead_fits (c.shared_slice_known-in-loop-ahead-1.given _).fits) fits) fits)
 
 pub returns : goal.returns
 returns c =
-    let s = start c.before in
     let h = c.loop-ahead.invariant in
-    let p = s.pre in
+    let p = c.requires in
     let first = rw c.one.ensures at h.kept in
     record {
-      grown = spread_end _ (numbered_two p.0) (grid-apart p.0) p.1.0 h c.loop-ahead-test.false;
-      own = first s.args.stripe (with_u (with_one s.args.before.seen s.args.stripe));
-      others = λ t k. first t (with_old (with_one s.args.before.seen s.args.stripe) t k);
+      grown = spread_end _ (numbered_two p.numbered) (grid-apart p.numbered) p.near h c.loop-ahead-test.false;
+      own = first c.args.stripe (with_u (with_one c.args.seen c.args.stripe));
+      others = λ t k. first t (with_old (with_one c.args.seen c.args.stripe) t k);
     }

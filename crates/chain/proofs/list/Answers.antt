@@ -15,7 +15,11 @@ read-chain-requires-clause-by_index c = none-marked 33
 pub returns-in_default : goal.returns-in_default
 returns-in_default c =
     let refusal = by_number _ _ _ c.read-chain.ensures.chain _ c.enum_told-1.given.1 in
-    absurd (refusal.1 c.requires.sheet_value)
+    let (h0, h1) = absurd (refusal.1 c.requires.sheet_value) in
+    record {
+      number = h0;
+      list = h1;
+    }
 
 pub returns : goal.returns
 returns c =

@@ -16,14 +16,20 @@ use Rattle.chain.proofs.read.Goals.{In-Record-2}
 use Rattle.chain.proofs.read.Goals as goal
 
 pub returns-then-sheet-ne-REPAIR_KIND : goal.returns-then-sheet-ne-REPAIR_KIND
-returns-then-sheet-ne-REPAIR_KIND c = answered _ _ _ 10 (kind_refused narrow _ c.if-sheet-ne-REPAIR_KIND.true) (λ e. omega arith)
+returns-then-sheet-ne-REPAIR_KIND c =
+    let (h0, h1, h2) = answered _ _ _ 10 (kind_refused narrow _ c.if-sheet-ne-REPAIR_KIND.true) (λ e. omega arith) in
+    record {
+      chain = h0;
+      list = h1;
+      marks = h2;
+    }
 
 pub overflow_cast-number : goal.overflow_cast-number
 overflow_cast-number c = Fits-widen tt (c.shared_slice_known-3-1.given _)
 
 pub loop-k-init : goal.loop-k-init
 loop-k-init c =
-    let (long, (room, (places, clear))) = c.requires in
+    let record { sheet_len = long; records_in_bounds = room; records_in_bounds_2 = places; by_index = clear } = c.requires in
     (listed-none _ _ _ long (λ i. (c.shared_slice_known-3-1.given i).fits) c.if-sheet-ne-REPAIR_KIND.false room places clear, search rules, search rules)
 
 pub read-found-requires : goal.read-found-requires
@@ -59,16 +65,33 @@ loop-k-preserved c =
     )
 
 pub returns-then-number-eq0 : goal.returns-then-number-eq0
-returns-then-number-eq0 c = listed_all c.loop-k.invariant.0 c.if-number-eq0.true
+returns-then-number-eq0 c =
+    let (h0, h1, h2) = listed_all c.loop-k.invariant.0 c.if-number-eq0.true in
+    record {
+      chain = h0;
+      list = h1;
+      marks = h2;
+    }
 
 pub returns-then-number-gt-RECORDS : goal.returns-then-number-gt-RECORDS
-returns-then-number-gt-RECORDS c = answered _ _ _ 10 (number_outside c.loop-k.invariant.0 c.if-number-gt-RECORDS.true) (λ e. omega arith)
+returns-then-number-gt-RECORDS c =
+    let (h0, h1, h2) = answered _ _ _ 10 (number_outside c.loop-k.invariant.0 c.if-number-gt-RECORDS.true) (λ e. omega arith) in
+    record {
+      chain = h0;
+      list = h1;
+      marks = h2;
+    }
 
 pub returns : goal.returns
 returns c =
     let l = c.loop-k in
-    answered _ _ _ 13
+    let (h0, h1, h2) = answered _ _ _ 13
     (⊎_elim (λ w. ring_read l.invariant.0 c.if-number-eq0.false c.if-number-gt-RECORDS.false w.left)
     (λ w. absurd (none_found l.invariant.0 c.if-number-eq0.false c.if-number-gt-RECORDS.false _ w.1.ensures w.2.keys2))
     c.loop-k-test.branch)
-    (λ e. omega arith)
+    (λ e. omega arith) in
+    record {
+      chain = h0;
+      list = h1;
+      marks = h2;
+    }

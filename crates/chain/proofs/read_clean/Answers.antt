@@ -13,16 +13,28 @@ read-chain-requires-clause-by_index c = none-marked 33
 pub returns-in_default : goal.returns-in_default
 returns-in_default c =
     let read = c.read-chain in
-    refused _ _ _ _ read.ensures.chain c.enum_told-1.given.1
+    let (h0, h1) = refused _ _ _ _ read.ensures.chain c.enum_told-1.given.1 in
+    record {
+      chain = h0;
+      list = h1;
+    }
 
 pub returns-then-not-rest_is_zero : goal.returns-then-not-rest_is_zero
 returns-then-not-rest_is_zero c =
     let read = c.read-chain in
-    left_over _ _ _ _ _ read.ensures.chain c.chain-1.given.1 read.ensures.list read.ensures.marks _ c.rest_is_zero.ensures
-    (c.if-not-rest_is_zero.true)
+    let (h0, h1) = left_over _ _ _ _ _ read.ensures.chain c.chain-1.given.1 read.ensures.list read.ensures.marks _ c.rest_is_zero.ensures
+    (c.if-not-rest_is_zero.true) in
+    record {
+      chain = h0;
+      list = h1;
+    }
 
 pub returns : goal.returns
 returns c =
     let read = c.read-chain in
-    clean _ _ _ _ _ read.ensures.chain c.chain-1.given.1 read.ensures.list read.ensures.marks _ c.rest_is_zero.ensures
-    (c.if-not-rest_is_zero.false)
+    let (h0, h1) = clean _ _ _ _ _ read.ensures.chain c.chain-1.given.1 read.ensures.list read.ensures.marks _ c.rest_is_zero.ensures
+    (c.if-not-rest_is_zero.false) in
+    record {
+      chain = h0;
+      list = h1;
+    }

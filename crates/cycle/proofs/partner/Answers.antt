@@ -16,30 +16,26 @@ use Rattle.cycle.proofs.partner.Goals as goal
 pub loop-size-init : goal.loop-size-init
 loop-size-init c = (zero-le, λ i h. absurd (not-suc-le-zero h))
 
--- Where the code began.
-abbrev start : goal.At-loop-size → goal.Start
-start l = l.before.before.before
-
 -- Where the search has come to in a turn.
 searched : (c : goal.After-next_erased-d) →
-    let a = (start c.before).args in
+    let a = c.args in
     Searched (layout_of a.size a.base) a.set.now (record { disk = a.disk; stripe = a.stripe }) c.next_erased-d.result
 searched c = search_next _ _ _ _ c.loop-size.invariant.0 c.loop-size.invariant.1 c.next_erased-d.ensures
 
 pub returns-then-set-d : goal.returns-then-set-d
 returns-then-set-d c =
-    let p = (start c.before.before).pre in
-    absurd (partner_missed _ _ _ p.0 (searched (goal.at.returns-then-set-d c).After-next_erased-d) p.1 c.if-set-d.true)
+    let p = c.requires in
+    absurd (partner_missed _ _ _ p.table (searched (goal.at.returns-then-set-d c).After-next_erased-d) p.stripe_bound c.if-set-d.true)
 
 pub stripes_of-requires-clause-table : goal.stripes_of-requires-clause-table
-stripes_of-requires-clause-table c = (start c.before.before.before).pre.0
+stripes_of-requires-clause-table c = c.requires.table
 
 pub stripes_of-requires-clause-disk_value : goal.stripes_of-requires-clause-disk_value
 stripes_of-requires-clause-disk_value c = (searched (goal.at.stripes_of-requires-clause-disk_value c).After-next_erased-d).erased (search rules)
 
 pub returns-then-either_is : goal.returns-then-either_is
 returns-then-either_is c =
-    partner_found _ _ _ (start c.before.before.before.before.before.before).pre.0 (searched (goal.at.returns-then-either_is c).After-next_erased-d) (search rules) c.if-d-disk.true
+    partner_found _ _ _ c.requires.table (searched (goal.at.returns-then-either_is c).After-next_erased-d) (search rules) c.if-d-disk.true
     (lies _ _ _ c.stripes_of.ensures c.either_is.ensures ∙ c.if-either_is.true)
 
 pub loop-size-smaller : goal.loop-size-smaller

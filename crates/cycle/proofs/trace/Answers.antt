@@ -12,26 +12,22 @@ use Rattle.cycle.proofs.Turn.{Traced, traced, pair_rises, turn_first, turn_ends,
 use Rattle.cycle.proofs.trace.Goals.{After-partner-disk, In-loop-k, Start}
 use Rattle.cycle.proofs.trace.Goals as goal
 
--- Where the code began, and what is traced.
-abbrev start : goal.At-loop-k → goal.Start
-start l = l.before.before.before.before.before.before
-
 given : (c : goal.Start) → Traced (layout_of c.args.size c.args.base) c.args.set.now c.args.stripes.now
-given c = let (n, (table, (paired, (some, room)))) = c.requires in traced _ _ _ _ n table paired some
+given c = let record { numbered = n; table = table; paired = paired; set_bound = some; capacity_in_bounds = room } = c.requires in traced _ _ _ _ n table paired some
 
 -- A turn that is taken is within the bound, and has room in the list.
 begun : (c : goal.In-loop-k) →
-    (c.loop-k.k < (layout_of (start c.before.before).args.size (start c.before.before).args.base).stripe_bound) × (32 ≤ length c.loop-k.list)
+    (c.loop-k.k < (layout_of c.args.size c.args.base).stripe_bound) × (32 ≤ length c.loop-k.list)
 begun c =
     let e = c.bound.ensures in
     let h = c.loop-k-test.true in
-    let long = (start c.before.before).requires.1.1.1.1 in
+    let long = c.requires.capacity_in_bounds in
     let same = c.loop-k.invariant.0 in
     (omega arith, omega arith)
 
 -- The disk that follows is one of the set.
-erased : (c : goal.After-partner-disk) → erasures (start c.before.before.before.before.before.before.before).args.set.now c.partner-disk.result ≡ true
-erased c = turn_erased (given (start c.before.before.before.before.before.before.before)) c.loop-k.invariant.1 c.partner-disk.ensures
+erased : (c : goal.After-partner-disk) → erasures c.args.set.now c.partner-disk.result ≡ true
+erased c = turn_erased (given c.before.before.before.before.before.before.before.before.before.before.before.before.before) c.loop-k.invariant.1 c.partner-disk.ensures
 
 pub stripes_of-stripe-requires-clause-table : goal.stripes_of-stripe-requires-clause-table
 stripes_of-stripe-requires-clause-table c = c.requires.table
@@ -43,34 +39,39 @@ pub loop-k-init : goal.loop-k-init
 loop-k-init c = (refl, turn_first (given (goal.at.loop-k-init c).Start) _ c.next_erased-start.ensures c.stripes_of-stripe.ensures)
 
 pub bound-requires : goal.bound-requires
-bound-requires c = (start c).requires.0
+bound-requires c = c.requires.numbered
 
 pub put-requires : goal.put-requires
 put-requires c =
     let (low, room) = begun (goal.at.put-requires c).In-loop-k in
-    turn_fits (given (start c.before.before.before)) c.loop-k.invariant.1 low room
+    let (h0, h1, h2) = turn_fits (given (goal.at.put-requires c).Start) c.loop-k.invariant.1 low room in
+    record {
+      k_in_bounds = h0;
+      disk_bound = h1;
+      stripe_bound = h2;
+    }
 
 pub overflow_add-k : goal.overflow_add-k
 overflow_add-k c =
     let (low, room) = begun (goal.at.overflow_add-k c).In-loop-k in
-    let few = (given (start c.before.before.before.before.before.before)).stripes_fit in
+    let few = (given (goal.at.overflow_add-k c).Start).stripes_fit in
     omega arith
 
 pub partner-disk-requires-clause-table : goal.partner-disk-requires-clause-table
-partner-disk-requires-clause-table c = (start c.before.before.before.before.before.before).requires.1.0
+partner-disk-requires-clause-table c = c.requires.table
 
 pub partner-disk-requires-clause-stripe_bound : goal.partner-disk-requires-clause-stripe_bound
-partner-disk-requires-clause-stripe_bound c = turn_some (given (start c.before.before.before.before.before.before)) c.loop-k.invariant.1
+partner-disk-requires-clause-stripe_bound c = turn_some (given (goal.at.partner-disk-requires-clause-stripe_bound c).Start) c.loop-k.invariant.1
 
 pub stripes_of-requires-clause-table : goal.stripes_of-requires-clause-table
-stripes_of-requires-clause-table c = (start c.before.before.before.before.before.before.before.before).pre.1.0
+stripes_of-requires-clause-table c = c.requires.table
 
 pub stripes_of-requires-clause-disk_value : goal.stripes_of-requires-clause-disk_value
 stripes_of-requires-clause-disk_value c = erased (goal.at.stripes_of-requires-clause-disk_value c).After-partner-disk
 
 pub other_of-stripe-requires : goal.other_of-stripe-requires
 other_of-stripe-requires c =
-    let g = given (start c.before.before.before.before.before.before.before.before.before) in
+    let g = given (goal.at.other_of-stripe-requires c).Start in
     pair_rises g.two (erased-inside g.table _ (erased (goal.at.other_of-stripe-requires c).After-partner-disk)) c.stripes_of.ensures
 
 pub loop-k-smaller : goal.loop-k-smaller
@@ -80,7 +81,7 @@ pub loop-k-preserved : goal.loop-k-preserved
 loop-k-preserved c =
     let (low, room) = begun (goal.at.loop-k-preserved c).In-loop-k in (
       c.put.auto.list ∙ c.loop-k.invariant.0,
-      turn_next (given (start c.before.before.before.before.before.before.before.before.before.before)) c.loop-k.invariant.1 low room c.put.ensures c.partner-disk.ensures
+      turn_next (given (goal.at.loop-k-preserved c).Start) c.loop-k.invariant.1 low room c.put.ensures c.partner-disk.ensures
           (λ e. c.if-disk-start.false (e ∙ sym c.next_erased-start.ensures)) _ c.stripes_of.ensures c.other_of-stripe.ensures,
     )
 
@@ -88,11 +89,19 @@ pub returns-after-loop-k : goal.returns-after-loop-k
 returns-after-loop-k c =
     let e = c.bound.ensures in
     let h = c.loop-k-test.false in
-    answers _ _ (turn_ends (given (start c.before.before)) c.loop-k.invariant.1 (omega arith))
+    let (h0, h1) = answers _ _ (turn_ends (given (goal.at.returns-after-loop-k c).Start) c.loop-k.invariant.1 (omega arith)) in
+    record {
+      number = h0;
+      list = h1;
+    }
 
 pub returns-then-disk-start : goal.returns-then-disk-start
 returns-then-disk-start c =
     let (low, room) = begun (goal.at.returns-then-disk-start c).In-loop-k in
-    answers _ _
-    (turn_closes (given (start c.before.before.before.before.before.before.before.before)) c.loop-k.invariant.1 low room c.put.ensures c.partner-disk.ensures
-    (c.if-disk-start.true ∙ c.next_erased-start.ensures))
+    let (h0, h1) = answers _ _
+    (turn_closes (given (goal.at.returns-then-disk-start c).Start) c.loop-k.invariant.1 low room c.put.ensures c.partner-disk.ensures
+    (c.if-disk-start.true ∙ c.next_erased-start.ensures)) in
+    record {
+      number = h0;
+      list = h1;
+    }

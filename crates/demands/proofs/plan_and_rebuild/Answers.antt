@@ -21,7 +21,7 @@ returns c =
     let a = c.args in
     let E = superparity a.size narrow.base in
     let record { outcome = planned; sheets = draft } = c.plan-planned.ensures in
-    let (rebuilt, (array, (map, sheets))) = c.rebuild_in_turns-rebuilt.ensures in
+    let record { turns = rebuilt; array = array; map = map; sheets = sheets } = c.rebuild_in_turns-rebuilt.ensures in
     let small : Bytes a.array.now = λ i l. omega (arith, c.slice_known-1.given i) in
     record {
       planned = planned;

@@ -16,7 +16,7 @@ use Rattle.demands.proofs.rebuild_once.Goals as goal
 pub returns : goal.returns
 returns c =
     let a = c.args in
-    let (outcome, (array, (map, sheets))) = c.rebuild.ensures in
+    let record { outcome = outcome; array = array; map = map; sheets = sheets } = c.rebuild.ensures in
     let t : Turn = rebuild_turn a.size a.block a.sector a.array.now a.map.now a.sheets.now a.limit in
     let is : ◌≡◌ {A = Turn} (record { answer = _; array = _; map = _; sheets = _ }) t =
     λ i. record { answer = outcome i; array = array i; map = map i; sheets = sheets i } in

@@ -31,35 +31,35 @@ some-sectors c =
     let (array, sector) = sector_fits_lem a.size a.block (length a.array.now) a.sector (sized c) in
     sectors-some a.block a.sector array.block sector
 
--- and so have the map and the length of the sheets.
-abbrev start : goal.Else-of_sheets-ne0 → goal.Start
-start c = c.before.before.before.before.before.before.before
-
-passed : (c : goal.Else-of_sheets-ne0) → let a = (start c).args in
+passed : (c : goal.Else-of_sheets-ne0) → let a = c.args in
     buffer_refusal a.size a.block a.sector a.array.now a.map.now a.sheets.now ≡ 0
 passed c =
-    let a = (start c).args in
+    let a = c.args in
     tests_left a.size a.block a.sector a.array.now a.map.now a.sheets.now (sized c.before.before)
     ∙ sym c.sheet_refusal-of_sheets.ensures ∙ c.if-of_sheets-ne0.false
 
-fit : (c : goal.Else-of_sheets-ne0) → let a = (start c).args in
+fit : (c : goal.Else-of_sheets-ne0) → let a = c.args in
     BuffersFit a.size a.block a.sector a.array.now a.map.now a.sheets.now
 fit c = buffers_fit _ _ _ _ _ _ (passed c)
 
-held : (c : goal.Else-of_sheets-ne0) → let a = (start c).args in Sectored a.size a.block a.sector a.array.now
+held : (c : goal.Else-of_sheets-ne0) → let a = c.args in Sectored a.size a.block a.sector a.array.now
 unfolding array_bytes
 held c = let f = fit c in record { block = f.array.block; sector = f.sector; sized = f.array.long }
 
 -- Every step is allowed, and nothing is left erased.
-cleared : (c : goal.Else-not-all_clear) → let a = (start c.before.before.before.before.before.before).args in
+cleared : (c : goal.Else-not-all_clear) → let a = c.args in
     clears (sectors a.size a.block a.sector) (erasures a.map.now) (listed a.block a.sector a.sheets.now) ≡ true
 cleared c = sym c.all_clear.ensures ∙ c.if-not-all_clear.false
 
 pub returns-then-of_array-ne0 : goal.returns-then-of_array-ne0
 returns-then-of_array-ne0 c =
     let a = c.args in
-    array-refused a.size a.block a.sector a.array.now a.map.now a.sheets.now _ c.sector_refusal-of_array.ensures
-    c.if-of_array-ne0.true
+    let (h0, h1) = array-refused a.size a.block a.sector a.array.now a.map.now a.sheets.now _ c.sector_refusal-of_array.ensures
+    c.if-of_array-ne0.true in
+    record {
+      outcome = h0;
+      array = h1;
+    }
 
 pub nonzero_div-sectors : goal.nonzero_div-sectors
 nonzero_div-sectors c =
@@ -77,8 +77,12 @@ sheet_refusal-of_sheets-requires c =
 pub returns-then-of_sheets-ne0 : goal.returns-then-of_sheets-ne0
 returns-then-of_sheets-ne0 c =
     let a = c.args in
-    sheet-refused a.size a.block a.sector a.array.now a.map.now a.sheets.now (sized (goal.at.returns-then-of_sheets-ne0 c).Else-of_array-ne0) _
-    c.sheet_refusal-of_sheets.ensures c.if-of_sheets-ne0.true
+    let (h0, h1) = sheet-refused a.size a.block a.sector a.array.now a.map.now a.sheets.now (sized (goal.at.returns-then-of_sheets-ne0 c).Else-of_array-ne0) _
+    c.sheet_refusal-of_sheets.ensures c.if-of_sheets-ne0.true in
+    record {
+      outcome = h0;
+      array = h1;
+    }
 
 pub read_all-chains-requires-clause-sectors_value : goal.read_all-chains-requires-clause-sectors_value
 read_all-chains-requires-clause-sectors_value c = some-sectors (goal.at.read_all-chains-requires-clause-sectors_value c).Else-of_array-ne0
@@ -88,14 +92,18 @@ read_all-chains-requires-clause-sheets_len c = (fit (goal.at.read_all-chains-req
 
 pub returns-in-Refused : goal.returns-in-Refused
 returns-in-Refused c =
-    unclean _ _ _ _ _ _ (passed (goal.at.returns-in-Refused c).Else-of_sheets-ne0) _ c.read_all-chains.ensures _ c.chains-in-Refused-1.given.1
+    let (h0, h1) = unclean _ _ _ _ _ _ (passed (goal.at.returns-in-Refused c).Else-of_sheets-ne0) _ c.read_all-chains.ensures _ c.chains-in-Refused-1.given.1 in
+    record {
+      outcome = h0;
+      array = h1;
+    }
 
 -- The chain of each sheet fits.
 pub all_clear-requires : goal.all_clear-requires
 all_clear-requires c =
     let f = fit (goal.at.all_clear-requires c).Else-of_sheets-ne0 in
     record {
-      numbered = numbered (start c.before.before.before.before).args.size f.array.size;
+      numbered = numbered c.args.size f.array.size;
       sectors_value = some-sectors (goal.at.all_clear-requires c).Else-of_array-ne0;
       map_value = f.map;
       sheets_len = f.long;
@@ -104,12 +112,16 @@ all_clear-requires c =
 
 pub returns-then-not-all_clear : goal.returns-then-not-all_clear
 returns-then-not-all_clear c =
-    steps-refused _ _ _ _ _ _ (passed (goal.at.returns-then-not-all_clear c).Else-of_sheets-ne0) _ c.read_all-chains.ensures _ c.chains-1.given.1
-    (sym c.all_clear.ensures ∙ c.if-not-all_clear.true)
+    let (h0, h1) = steps-refused _ _ _ _ _ _ (passed (goal.at.returns-then-not-all_clear c).Else-of_sheets-ne0) _ c.read_all-chains.ensures _ c.chains-1.given.1
+    (sym c.all_clear.ensures ∙ c.if-not-all_clear.true) in
+    record {
+      outcome = h0;
+      array = h1;
+    }
 
 pub restore-requires : goal.restore-requires
 restore-requires c =
-    let a = (start c.before.before.before.before.before.before.before).args in
+    let a = c.args in
     let f = fit (goal.at.restore-requires c).Else-of_sheets-ne0 in
     record {
       numbered = numbered a.size f.array.size;
@@ -122,10 +134,18 @@ restore-requires c =
 
 pub returns-then-not-restore : goal.returns-then-not-restore
 returns-then-not-restore c =
-    contradicted _ _ _ _ _ _ (passed (goal.at.returns-then-not-restore c).Else-of_sheets-ne0) _ c.read_all-chains.ensures _ c.chains-1.given.1 (cleared (goal.at.returns-then-not-restore c).Else-not-all_clear)
-    _ c.restore.ensures.array (sym c.restore.ensures.answer ∙ c.if-not-restore.true)
+    let (h0, h1) = contradicted _ _ _ _ _ _ (passed (goal.at.returns-then-not-restore c).Else-of_sheets-ne0) _ c.read_all-chains.ensures _ c.chains-1.given.1 (cleared (goal.at.returns-then-not-restore c).Else-not-all_clear)
+    _ c.restore.ensures.array (sym c.restore.ensures.answer ∙ c.if-not-restore.true) in
+    record {
+      outcome = h0;
+      array = h1;
+    }
 
 pub returns : goal.returns
 returns c =
-    agreed _ _ _ _ _ _ (passed (goal.at.returns c).Else-of_sheets-ne0) _ c.read_all-chains.ensures _ c.chains-1.given.1 (cleared (goal.at.returns c).Else-not-all_clear)
-    _ c.restore.ensures.array (sym c.restore.ensures.answer ∙ c.if-not-restore.false)
+    let (h0, h1) = agreed _ _ _ _ _ _ (passed (goal.at.returns c).Else-of_sheets-ne0) _ c.read_all-chains.ensures _ c.chains-1.given.1 (cleared (goal.at.returns c).Else-not-all_clear)
+    _ c.restore.ensures.array (sym c.restore.ensures.answer ∙ c.if-not-restore.false) in
+    record {
+      outcome = h0;
+      array = h1;
+    }

@@ -25,7 +25,12 @@ passed c =
     )
 
 pub returns-then-sector_refusal-ne0 : goal.returns-then-sector_refusal-ne0
-returns-then-sector_refusal-ne0 c = look_nothing _ _ _ _ _ _ (λ (ok, mapped, inside, present). c.if-sector_refusal-ne0.true (c.sector_refusal.ensures ∙ ok)) _
+returns-then-sector_refusal-ne0 c =
+    let (h0, h1) = look_nothing _ _ _ _ _ _ (λ (ok, mapped, inside, present). c.if-sector_refusal-ne0.true (c.sector_refusal.ensures ∙ ok)) _ in
+    record {
+      bytes = h0;
+      place = h1;
+    }
 
 pub nonzero_div-sectors : goal.nonzero_div-sectors
 nonzero_div-sectors c =
@@ -43,7 +48,11 @@ map_fits-requires c =
 
 pub returns-then-not-map_fits : goal.returns-then-not-map_fits
 returns-then-not-map_fits c =
-    look_nothing _ _ _ _ _ _ (λ (ok, mapped, inside, present). true≢false (sym mapped ∙ sym c.map_fits.ensures ∙ c.if-not-map_fits.true)) _
+    let (h0, h1) = look_nothing _ _ _ _ _ _ (λ (ok, mapped, inside, present). true≢false (sym mapped ∙ sym c.map_fits.ensures ∙ c.if-not-map_fits.true)) _ in
+    record {
+      bytes = h0;
+      place = h1;
+    }
 
 pub disks-requires : goal.disks-requires
 disks-requires c =
@@ -51,7 +60,12 @@ disks-requires c =
     array.size
 
 pub returns-then-disks-disk : goal.returns-then-disks-disk
-returns-then-disks-disk c = look_nothing _ _ _ _ _ _ (λ (ok, mapped, inside, present). let e = c.disks.ensures in omega arith) _
+returns-then-disks-disk c =
+    let (h0, h1) = look_nothing _ _ _ _ _ _ (λ (ok, mapped, inside, present). let e = c.disks.ensures in omega arith) _ in
+    record {
+      bytes = h0;
+      place = h1;
+    }
 
 pub all_present-requires : goal.all_present-requires
 unfolding map_bytes
@@ -66,7 +80,11 @@ all_present-requires c =
 
 pub returns-then-not-all_present : goal.returns-then-not-all_present
 returns-then-not-all_present c =
-    look_nothing _ _ _ _ _ _ (λ (ok, mapped, inside, present). true≢false (sym present ∙ sym c.all_present.ensures ∙ c.if-not-all_present.true)) _
+    let (h0, h1) = look_nothing _ _ _ _ _ _ (λ (ok, mapped, inside, present). true≢false (sym present ∙ sym c.all_present.ensures ∙ c.if-not-all_present.true)) _ in
+    record {
+      bytes = h0;
+      place = h1;
+    }
 
 pub slice_bounds-result-end-2 : goal.slice_bounds-result-end-2
 slice_bounds-result-end-2 c =
@@ -81,4 +99,9 @@ pub overflow_add-result : goal.overflow_add-result
 overflow_add-result c = omega (arith, slice_bounds-result-end-2 c)
 
 pub returns : goal.returns
-returns c = look_block _ _ _ _ _ _ (passed (goal.at.returns c).Else-not-all_present) _
+returns c =
+    let (h0, h1) = look_block _ _ _ _ _ _ (passed (goal.at.returns c).Else-not-all_present) _ in
+    record {
+      bytes = h0;
+      place = h1;
+    }

@@ -19,16 +19,12 @@ returns-then-count-gt-ROOM c = λ wrong. let z : ◌≡◌ {A = ℕ} 0 1 = cc in
 pub loop-k-init : goal.loop-k-init
 loop-k-init c = let zeros = c.wipe.ensures in (omega arith, search rules, binary_none _ zeros, marked-none _ zeros _ _)
 
--- Where the code began, and what holds in the loop.
-abbrev start : goal.At-loop-k → goal.Start
-start l = l.before.before.before.before.before.before.before.before.before
-
-few : (l : goal.At-loop-k) → get_or (start l).args.sheet.now 0 0 ≤ 97
+few : (l : goal.At-loop-k) → get_or l.before.args.sheet.now 0 0 ≤ 97
 few l = l.before.before.before.before.before.if1.false
 
-inside : (c : goal.In-loop-k) → get_or (start c.before).args.sheet.now (c.loop-k.k + 1) 0 < length c.loop-k.work
+inside : (c : goal.In-loop-k) → get_or c.args.sheet.now (c.loop-k.k + 1) 0 < length c.loop-k.work
 inside c =
-    let low = noted-inside _ _ (start c.before).requires.1.1 (few c.before) c.loop-k.k c.loop-k-test.true in
+    let low = noted-inside _ _ c.requires.by_index.1 (few c.before) c.loop-k.k c.loop-k-test.true in
     let same = c.loop-k.invariant.1 in
     let kept = c.wipe.auto.a in
     omega arith
@@ -59,5 +55,5 @@ pub returns : goal.returns
 returns c = λ yes.
     let (most, same, binary, marked) = c.loop-k.invariant in
     let kept = c.wipe.auto.a in
-    subst (λ (N : ℕ). Loads N (start c.before).args.sheet.now c.loop-k.work) kept
+    subst (λ (N : ℕ). Loads N c.args.sheet.now c.loop-k.work) kept
     (marked_all _ _ c.loop-k.work same (few (goal.at.returns c).At-loop-k) c.loop-k.k marked binary c.loop-k-test.false)

@@ -25,23 +25,19 @@ pub loop-sectors-init : goal.loop-sectors-init
 loop-sectors-init c =
     (omega arith, c.zero_all.auto.sheets ∙ c.requires.sheets_len, noted-none _ _ c.zero_all.ensures)
 
--- Where the code began.
-abbrev start : goal.At-loop-sectors → goal.Start
-start l = l.before.before.before.before.before.before.before
-
-some : (l : goal.At-loop-sectors) → 0 < (start l).args.sectors
-some l = (sectors-bound _ (start l).requires.1.0).0
+some : (l : goal.At-loop-sectors) → 0 < l.before.args.sectors
+some l = (sectors-bound _ l.before.requires.1.0).0
 
 -- The map, with any position.
-positioned : (l : goal.At-loop-sectors) (p : ℕ) → p < (start l).args.sectors
-    → Positioned (start l).args.size (start l).args.sectors p (start l).args.map.now
-positioned l p place = let f = (start l).requires in record { size = f.0; sectors = f.1.0; place = place; map = f.1.1.0 }
+positioned : (l : goal.At-loop-sectors) (p : ℕ) → p < l.before.args.sectors
+    → Positioned l.before.args.size l.before.args.sectors p l.before.args.map.now
+positioned l p place = let f = l.before.requires in record { size = f.0; sectors = f.1.0; place = place; map = f.1.1.0 }
 
 -- The sectors that a turn passes over, and what is noted up to the one that it finds.
-passed : (c : goal.After-next_erased-i) → Passed (start c.before).args.map.now c.loop-sectors.from c.next_erased-i.result
+passed : (c : goal.After-next_erased-i) → Passed c.args.map.now c.loop-sectors.from c.next_erased-i.result
 passed c = next_passed _ _ c.next_erased-i.ensures c.loop-sectors.invariant.0
 
-over : (c : goal.After-next_erased-i) → NotedTo (start c.before).args.sectors (start c.before).args.map.now c.loop-sectors.sheets c.next_erased-i.result
+over : (c : goal.After-next_erased-i) → NotedTo c.args.sectors c.args.map.now c.loop-sectors.sheets c.next_erased-i.result
 over c = let l = c.loop-sectors in noted_over _ _ l.sheets l.invariant.2 (passed c)
 
 pub returns-then-map-i : goal.returns-then-map-i
@@ -49,20 +45,20 @@ returns-then-map-i c =
     noted_all _ _ c.loop-sectors.sheets (over (goal.at.returns-then-map-i c).After-next_erased-i) c.if-map-i.true _ (map-long (positioned (goal.at.returns-then-map-i c).At-loop-sectors 0 (some (goal.at.returns-then-map-i c).At-loop-sectors)))
 
 -- The sector of a turn: its position, its disk, and the sheet of its position.
-at : (c : goal.Else-map-i) → let n = (start c.before.before).args.sectors in c.next_erased-i.result % n < n
+at : (c : goal.Else-map-i) → let n = c.args.sectors in c.next_erased-i.result % n < n
 at c = mod-lt _ (some c.before.before)
 
-disk : (c : goal.Else-map-i) → c.next_erased-i.result / (start c.before.before).args.sectors < 256
+disk : (c : goal.Else-map-i) → c.next_erased-i.result / c.args.sectors < 256
 disk c =
     let p = positioned c.before.before 0 (some c.before.before) in
     let all = map-long p in
     let few = disks-few p in
     let below = c.if-map-i.false in
-    let low : c.next_erased-i.result / (start c.before.before).args.sectors < disks (start c.before.before).args.size =
+    let low : c.next_erased-i.result / c.args.sectors < disks c.args.size =
     (div-lt_iff_lt-mul (some c.before.before)).1 (omega arith) in
     omega arith
 
-part_length : (c : goal.Else-map-i) → length (sheet_at narrow (c.next_erased-i.result % (start c.before.before).args.sectors) c.loop-sectors.sheets) ≡ 98
+part_length : (c : goal.Else-map-i) → length (sheet_at narrow (c.next_erased-i.result % c.args.sectors) c.loop-sectors.sheets) ≡ 98
 part_length c = let l = c.loop-sectors in length-sheet_at narrow _ l.sheets l.invariant.1 _ (at c)
 
 pub nonzero_rem-at : goal.nonzero_rem-at
@@ -71,13 +67,13 @@ nonzero_rem-at c = let more = some (goal.at.nonzero_rem-at c).At-loop-sectors in
 pub overflow_mul-at : goal.overflow_mul-at
 overflow_mul-at c =
     let low = at (goal.at.overflow_mul-at c).Else-map-i in
-    let few = (sectors-bound _ (start c.before.before).pre.1.0).1 in
+    let few = (sectors-bound _ c.requires.sectors_value).1 in
     omega arith
 
 pub overflow_add-at : goal.overflow_add-at
 overflow_add-at c =
     let low = at (goal.at.overflow_add-at c).Else-map-i in
-    let few = (sectors-bound _ (start c.before.before).pre.1.0).1 in
+    let few = (sectors-bound _ c.requires.sectors_value).1 in
     omega arith
 
 pub slice_bounds-note-end : goal.slice_bounds-note-end
@@ -109,10 +105,10 @@ loop-sectors-preserved c =
     let i : ℕ = c.next_erased-i.result in
     let note = c.note in
     let below = c.if-map-i.false in
-    let own = part_sheet narrow (i % (start c.before.before.before.before.before.before).args.sectors) c.loop-sectors.sheets in
+    let own = part_sheet narrow (i % c.args.sectors) c.loop-sectors.sheets in
     let size : length note.new.sheet ≡ 98 = note.auto.sheet ∙ ap length own ∙ part_length (goal.at.loop-sectors-preserved c).Else-map-i in (
       omega arith,
       put_length _ c.loop-sectors.sheets c.loop-sectors.invariant.1 _ (at (goal.at.loop-sectors-preserved c).Else-map-i) note.new.sheet size,
       noted-next _ _ (some (goal.at.loop-sectors-preserved c).At-loop-sectors) c.loop-sectors.sheets c.loop-sectors.invariant.1 i (next_erased_lem _ _ c.next_erased-i.ensures below) _
-          (note.ensures ∙ ap (λ (s : List ℕ). noted s (i / (start c.before.before.before.before.before.before).args.sectors)) own) size (over (goal.at.loop-sectors-preserved c).After-next_erased-i),
+          (note.ensures ∙ ap (λ (s : List ℕ). noted s (i / c.args.sectors)) own) size (over (goal.at.loop-sectors-preserved c).After-next_erased-i),
     )

@@ -24,17 +24,13 @@ use Rattle.order.proofs.peel.Goals as goal
 pub loop-k-init : goal.loop-k-init
 loop-k-init c = (turn_none _ c.requires.tallied_2, search rules, search rules, search rules)
 
--- Where the code began, and its layout.
-abbrev start : goal.At-loop-k → goal.Start
-start l = l.before.before.before.before.before
-
 abbrev layout : goal.At-loop-k → Layout
-layout l = layout_of (start l).args.size (start l).args.base
+layout l = layout_of l.before.args.size l.before.args.base
 
 -- There are fewer repairs than the list has room for.
 room : (l : goal.At-loop-k) → (l.loop.k < 32) × (l.loop.k < length l.loop.list)
 room l =
-    let s = start l in
+    let s = l.before in
     let e = erasures s.args.work.now in
     let w = held_repairs (layout l) s.args.held e in
     let few = grid-repairs-bound s.args.size s.args.base s.pre.0.above s.pre.0.fits e w (peel_peels (layout l) _ _ e) in
@@ -42,7 +38,7 @@ room l =
     (omega arith, omega (arith, l.loop.invariant.3, s.pre.1.1.1))
 
 pub pick-answer-requires-clause-numbered : goal.pick-answer-requires-clause-numbered
-pick-answer-requires-clause-numbered c = (start c.before.before.before).requires.0
+pick-answer-requires-clause-numbered c = c.requires.numbered
 
 pub pick-answer-requires-clause-tallied : goal.pick-answer-requires-clause-tallied
 pick-answer-requires-clause-tallied c = c.loop-k.invariant.0.tallied
@@ -56,7 +52,7 @@ enum_told-1 c = c.in_default.keys2
 -- The answer is the next repair, so it is allowed, and both its numbers are small.
 answered : (c : goal.In-Repair-2) →
     let v = c.answer-1.given.0 in
-    Repair v.0 v.1.0 ≡ picked (layout c.before.before.before.before.before.before) (without any_disk (start c.before.before.before.before.before.before).args.held) (erasures c.loop-k.work)
+    Repair v.0 v.1.0 ≡ picked (layout c.before.before.before.before.before.before) (without any_disk c.args.held) (erasures c.loop-k.work)
 answered c = sym c.answer-1.given.1 ∙ c.pick-answer.ensures
 
 may : (c : goal.In-Repair-2) →
@@ -66,15 +62,14 @@ may c = picked-allowed _ _ _ _ _ (answered c)
 
 small : (c : goal.In-Repair-2) → let v = c.answer-1.given.0 in (v.0 < 65536) × (v.1.0 < 65536)
 small c =
-    let s = start c.before.before.before.before.before.before in
     let a = may c in
-    let most = disks-bound s.args.size (size_fits_lem s.args.size s.pre.0.fits) in
-    let same = layout-disks s.args.size s.args.base in
-    let few = stripes_few s.pre.0 in
-    (omega (arith, a.disk), omega (arith, on-bound (layout c.before.before.before.before.before.before) (numbered_two s.pre.0) _ a.disk _ a.here))
+    let most = disks-bound c.args.size (size_fits_lem c.args.size c.requires.numbered.fits) in
+    let same = layout-disks c.args.size c.args.base in
+    let few = stripes_few c.requires.numbered in
+    (omega (arith, a.disk), omega (arith, on-bound (layout c.before.before.before.before.before.before) (numbered_two c.requires.numbered) _ a.disk _ a.here))
 
 pub take-requires-clause-numbered : goal.take-requires-clause-numbered
-take-requires-clause-numbered c = (start c.before.before.before.before.before.before.before.before.before).requires.0
+take-requires-clause-numbered c = c.requires.numbered
 
 pub take-requires-clause-tallied_2 : goal.take-requires-clause-tallied_2
 take-requires-clause-tallied_2 c = c.loop-k.invariant.0.tallied
@@ -103,10 +98,21 @@ loop-k-preserved c =
 
 pub returns-after-loop-k : goal.returns-after-loop-k
 returns-after-loop-k c =
-    let s = start c.before in
-    let same = ap (λ (n : ℕ). count n (erasures s.args.work.now)) (layout-disks s.args.size s.args.base) in
-    turn_ends c.loop-k.invariant.0 (turn_done c.loop-k.invariant.0 _ (s.pre.1.0 ∙ sym same) (search rules))
+    let same = ap (λ (n : ℕ). count n (erasures c.args.work.now)) (layout-disks c.args.size c.args.base) in
+    let (h0, h1, h2, h3) = turn_ends c.loop-k.invariant.0 (turn_done c.loop-k.invariant.0 _ (c.requires.erased_value ∙ sym same) (search rules)) in
+    record {
+      number = h0;
+      left = h1;
+      list = h2;
+      tallied = h3;
+    }
 
 pub returns-in_default : goal.returns-in_default
 returns-in_default c =
-    turn_ends c.loop-k.invariant.0 (turn_stuck c.loop-k.invariant.0 (sym c.enum_told-1.given.1 ∙ c.pick-answer.ensures))
+    let (h0, h1, h2, h3) = turn_ends c.loop-k.invariant.0 (turn_stuck c.loop-k.invariant.0 (sym c.enum_told-1.given.1 ∙ c.pick-answer.ensures)) in
+    record {
+      number = h0;
+      left = h1;
+      list = h2;
+      tallied = h3;
+    }

@@ -21,59 +21,54 @@ use Rattle.order.proofs.pick.Goals as goal
 pub loop-size-init : goal.loop-size-init
 loop-size-init c = (crowded_none _ _ _, omega arith)
 
--- Where the code began.
-abbrev start : goal.At-loop-size → goal.Start
-start l = l.before.before.before.before
-
 -- The disks that a turn passes over.
-passed : (c : goal.After-next_erased-d) → Passed (start c.before).args.work.now c.loop-size.from c.next_erased-d.result
+passed : (c : goal.After-next_erased-d) → Passed c.args.work.now c.loop-size.from c.next_erased-d.result
 passed c = next_passed _ _ c.next_erased-d.ensures c.loop-size.invariant.1
 
 crowded : (c : goal.After-next_erased-d) →
-    let a = (start c.before).args in
+    let a = c.args in
     Crowded (layout_of a.size a.base) (without any_disk a.held) (erasures a.work.now) c.next_erased-d.result
 crowded c = crowded_over c.loop-size.invariant.0 (passed c)
 
 pub returns-then-work-d : goal.returns-then-work-d
-returns-then-work-d c = picked_none (crowded (goal.at.returns-then-work-d c).After-next_erased-d) (omega (arith, c.if-work-d.true, (start c.before.before).pre.1.table.disks_fit))
+returns-then-work-d c = picked_none (crowded (goal.at.returns-then-work-d c).After-next_erased-d) (omega (arith, c.if-work-d.true, c.requires.tallied.table.disks_fit))
 
 -- The disk of a turn is erased.
-erased : (c : goal.Else-work-d) → erasures (start c.before.before).args.work.now c.next_erased-d.result ≡ true
+erased : (c : goal.Else-work-d) → erasures c.args.work.now c.next_erased-d.result ≡ true
 erased c = next_erased_lem _ _ c.next_erased-d.ensures (search rules)
 
 pub stripes_of-pair-requires-clause-table : goal.stripes_of-pair-requires-clause-table
-stripes_of-pair-requires-clause-table c = (start c.before.before.before).pre.1.table
+stripes_of-pair-requires-clause-table c = c.requires.tallied.table
 
 pub stripes_of-pair-requires-clause-disk_value : goal.stripes_of-pair-requires-clause-disk_value
 stripes_of-pair-requires-clause-disk_value c = erased (goal.at.stripes_of-pair-requires-clause-disk_value c).Else-work-d
 
 -- Its stripes.
 pair : (c : goal.After-stripes_of-pair) →
-    let a = (start c.before.before.before.before).args in
+    let a = c.args in
     Crossed (layout_of a.size a.base) c.next_erased-d.result c.stripes_of-pair.result.low c.stripes_of-pair.result.high
 pair c =
-    let s = start c.before.before.before.before in
-    erased_crossed s.pre.1.table _ (erased c.before.before) (numbered_two s.pre.0) c.stripes_of-pair.ensures
+    erased_crossed c.requires.tallied.table _ (erased c.before.before) (numbered_two c.requires.numbered) c.stripes_of-pair.ensures
 
 -- It is not held back.
 chosen : (c : goal.Then-d-held) →
-    without any_disk (start c.before.before.before).args.held c.next_erased-d.result ≡ true
+    without any_disk c.args.held c.next_erased-d.result ≡ true
 chosen c = without_other any_disk _ _ c.if-d-held.true
 
 pub bounds-counts-low : goal.bounds-counts-low
-bounds-counts-low c = (low_held (pair (goal.at.bounds-counts-low c).After-stripes_of-pair) (start c.before.before.before.before.before).pre.1.counted).0
+bounds-counts-low c = (low_held (pair (goal.at.bounds-counts-low c).After-stripes_of-pair) c.requires.tallied.counted).0
 
 pub returns-then-counts-low-eq1 : goal.returns-then-counts-low-eq1
 returns-then-counts-low-eq1 c =
-    picked_low (crowded (goal.at.returns-then-counts-low-eq1 c).After-next_erased-d) (erased (goal.at.returns-then-counts-low-eq1 c).Else-work-d) (start c.before.before.before.before.before.before).pre.1.counted (pair (goal.at.returns-then-counts-low-eq1 c).After-stripes_of-pair) (chosen (goal.at.returns-then-counts-low-eq1 c).Then-d-held) c.if-counts-low-eq1.true
+    picked_low (crowded (goal.at.returns-then-counts-low-eq1 c).After-next_erased-d) (erased (goal.at.returns-then-counts-low-eq1 c).Else-work-d) c.requires.tallied.counted (pair (goal.at.returns-then-counts-low-eq1 c).After-stripes_of-pair) (chosen (goal.at.returns-then-counts-low-eq1 c).Then-d-held) c.if-counts-low-eq1.true
 
 pub bounds-counts-high : goal.bounds-counts-high
 bounds-counts-high c =
-    (high_held (pair (goal.at.bounds-counts-high c).After-stripes_of-pair) (start c.before.before.before.before.before.before.before).pre.1.counted).0
+    (high_held (pair (goal.at.bounds-counts-high c).After-stripes_of-pair) c.requires.tallied.counted).0
 
 pub returns-then-counts-high-eq1 : goal.returns-then-counts-high-eq1
 returns-then-counts-high-eq1 c =
-    picked_high (crowded (goal.at.returns-then-counts-high-eq1 c).After-next_erased-d) (erased (goal.at.returns-then-counts-high-eq1 c).Else-work-d) (start c.before.before.before.before.before.before.before.before).pre.1.counted (pair (goal.at.returns-then-counts-high-eq1 c).After-stripes_of-pair) (chosen (goal.at.returns-then-counts-high-eq1 c).Then-d-held) c.if-counts-low-eq1.false c.if-counts-high-eq1.true
+    picked_high (crowded (goal.at.returns-then-counts-high-eq1 c).After-next_erased-d) (erased (goal.at.returns-then-counts-high-eq1 c).Else-work-d) c.requires.tallied.counted (pair (goal.at.returns-then-counts-high-eq1 c).After-stripes_of-pair) (chosen (goal.at.returns-then-counts-high-eq1 c).Then-d-held) c.if-counts-low-eq1.false c.if-counts-high-eq1.true
 
 pub overflow_add-from : goal.overflow_add-from
 overflow_add-from c = omega (arith, c.if-work-d.false)
@@ -87,7 +82,7 @@ loop-size-preserved c =
       ⊎_elim
           (λ w.
           let p : tie.After-stripes-of invariant-loop decreases-loop = record { before = record { before = c.before; if2 = w.0 }; stripes-of = w.1 } in
-          crowded_next (crowded (goal.at.loop-size-preserved c).After-next_erased-d) (erased (goal.at.loop-size-preserved c).Else-work-d) (start c.before.before.before).pre.1.counted (pair p) w.3.left w.5.left)
+          crowded_next (crowded (goal.at.loop-size-preserved c).After-next_erased-d) (erased (goal.at.loop-size-preserved c).Else-work-d) c.requires.tallied.counted (pair p) w.3.left w.5.left)
           (λ w. crowded_held (crowded (goal.at.loop-size-preserved c).After-next_erased-d) (ap (without any_disk _) w.left ∙ without_at any_disk _))
           c.if-d-held.branch,
       omega (arith, c.if-work-d.false),

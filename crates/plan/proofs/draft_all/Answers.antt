@@ -17,18 +17,11 @@ use Rattle.plan.proofs.Begun.{begins, ends, goes, stops, repairs_told, after-len
 use Rattle.plan.proofs.draft_all.Goals.{After-draft_noted-answer}
 use Rattle.plan.proofs.draft_all.Goals as goal
 
--- The loop that a position is drafted in, and the start.
-abbrev turn : goal.After-draft_noted-answer → goal.At-loop-p
-turn d = d.before.before.before
-
-abbrev start : goal.After-draft_noted-answer → goal.Start
-start d = (turn d).before.before.before
-
 -- The sheets after it keep their length.
-kept : (d : goal.After-draft_noted-answer) → let l = (turn d).loop in
-    length (put_sheet l.p d.draft-noted.new.1.1.1.1.0 l.sheets) ≡ 98 * (start d).args.sectors
+kept : (d : goal.After-draft_noted-answer) → let l = d.before.loop in
+    length (put_sheet l.p d.draft-noted.new.1.1.1.1.0 l.sheets) ≡ 98 * d.before.args.sectors
 kept d =
-    after-length _ _ _ _ (turn d).loop.invariant.0 d.before.before.loop-test.true d.draft-noted.ensures.0 d.draft-noted.ensures.1
+    after-length _ _ _ _ d.before.loop.invariant.0 d.before.before.loop-test.true d.draft-noted.ensures.0 d.draft-noted.ensures.1
 
 pub loop-p-init : goal.loop-p-init
 loop-p-init c = let notes = c.requires.1.1.1 in (begins _ _ _ _ _ c.requires.sheets_len, λ q low high. c.requires.each_notes q high)
@@ -60,25 +53,28 @@ pub zero_others-requires-clause-own_lt_number : goal.zero_others-requires-clause
 zero_others-requires-clause-own_lt_number c = c.loop-p-test.true
 
 pub zero_others-requires-clause-number_bound : goal.zero_others-requires-clause-number_bound
-zero_others-requires-clause-number_bound c = (sectors-bound _ (start c.before.before.before.before).requires.1.0).1
+zero_others-requires-clause-number_bound c = (sectors-bound _ c.requires.sectors_value).1
 
 pub zero_others-requires-clause-sheets_len : goal.zero_others-requires-clause-sheets_len
 zero_others-requires-clause-sheets_len c = kept (goal.at.zero_others-requires-clause-sheets_len c).After-draft_noted-answer
 
 pub returns-in_default : goal.returns-in_default
 returns-in_default c =
-    stops _ _ _ _ (turn c.before.before.before.before.before.before.before).loop.invariant.0 c.loop-p-test.true c.draft_noted-answer.ensures.outcome c.draft_noted-answer.ensures.sheet
-    c.in_default.keys2 c.zero_others.ensures
+    let (h0, h1) = stops _ _ _ _ c.loop-p.invariant.0 c.loop-p-test.true c.draft_noted-answer.ensures.outcome c.draft_noted-answer.ensures.sheet
+    c.in_default.keys2 c.zero_others.ensures in
+    record {
+      outcome = h0;
+      sheets = h1;
+    }
 
 pub overflow_add-count : goal.overflow_add-count
 overflow_add-count c =
-    let s = start c.before.before.before.before.before in
-    let l = (turn c.before.before.before.before.before).loop in
+    let l = c.loop-p in
     let number = (repairs_told _ _ _ (sym c.draft_noted-answer.ensures.outcome ∙ c.answer-1.given.1)).1 in
-    let here = own_few s.args.size s.pre.0 (at_position s.args.sectors l.p (erasures s.args.map.now)) in
-    let so_far = before-few s.args.size s.pre.0 s.args.sectors (erasures s.args.map.now) l.p in
+    let here = own_few c.args.size c.requires.size_value (at_position c.args.sectors l.p (erasures c.args.map.now)) in
+    let so_far = before-few c.args.size c.requires.size_value c.args.sectors (erasures c.args.map.now) l.p in
     let counted = l.inv.0.counted in
-    let few = (sectors-bound _ s.pre.1.0).1 in
+    let few = (sectors-bound _ c.requires.sectors_value).1 in
     let place = c.loop-p-test.true in
     omega arith
 
@@ -93,7 +89,7 @@ loop-p-smaller c = omega (arith, c.loop-p-test.true)
 
 pub loop-p-preserved : goal.loop-p-preserved
 loop-p-preserved c =
-    let l = (turn c.before.before.before.before.before.before).loop in
+    let l = c.loop-p in
     let place = c.loop-p-test.true in
     let record { outcome = says; sheet = is } = c.draft_noted-answer.ensures in (
       goes _ _ _ _ l.inv.0 place says is c.answer-1.given.1 c.at_most-left.ensures,
@@ -101,4 +97,10 @@ loop-p-preserved c =
     )
 
 pub returns : goal.returns
-returns c = let over = c.loop-p-test.false in ends _ _ _ _ c.loop-p.invariant.0 (omega arith)
+returns c =
+    let over = c.loop-p-test.false in
+    let (h0, h1) = ends _ _ _ _ c.loop-p.invariant.0 (omega arith) in
+    record {
+      outcome = h0;
+      sheets = h1;
+    }

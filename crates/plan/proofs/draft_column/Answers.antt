@@ -18,9 +18,6 @@ use Rattle.plan.proofs.Answers.{drafts-repairs, drafts-fatal}
 use Rattle.plan.proofs.draft_column.Goals.{After-solve-answer, In-Cycle-2, In-Repairs-2}
 use Rattle.plan.proofs.draft_column.Goals as goal
 
-abbrev start : goal.After-solve-answer → goal.Start
-start l = l.before.before.before.before
-
 -- The list after it was solved, and its room.
 abbrev after : goal.After-solve-answer → List ℕ
 after l = l.solve.new.1.1.1.0
@@ -30,7 +27,7 @@ room l = let same = l.solve.auto.1.1.1.0 in omega arith
 
 -- What is solved, in each case.
 abbrev Found : goal.After-solve-answer → Solved → Type 0
-Found l r = let a = (start l).args in Solves (sheet_layout a.size) (erasures a.column.now) r (after l)
+Found l r = let a = l.before.args in Solves (sheet_layout a.size) (erasures a.column.now) r (after l)
 
 fine : (c : goal.In-Repairs-2) → Found c.before.before.before (Repairs c.answer-1.given.0.0)
 fine c = subst (Found c.before.before.before) c.answer-1.given.1 c.solve-answer.ensures
@@ -49,12 +46,12 @@ solve-answer-requires c =
 
 pub write-requires : goal.write-requires
 write-requires c =
-    let small = listed-fits (repairs_fit _ (start c.before.before.before.before.before.before.before).requires.0 _) _ _ (fine (goal.at.write-requires c).In-Repairs-2).entries in
+    let small = listed-fits (repairs_fit _ c.requires.size_value _) _ _ (fine (goal.at.write-requires c).In-Repairs-2).entries in
     let few = small.few in
     let long = room (goal.at.write-requires c).After-solve-answer in
     let made = c.at_most.ensures in
     record {
-      sheet_len = (start c.before.before.before.before.before.before.before).requires.1.1;
+      sheet_len = c.requires.sheet_len;
       count_le_records = omega arith;
       count_in_bounds = omega arith;
       by_index = λ i h. small.stripe i (omega arith);
@@ -62,10 +59,10 @@ write-requires c =
 
 pub write-requires-in-Cycle : goal.write-requires-in-Cycle
 write-requires-in-Cycle c =
-    let small = listed-fits (cycle-fits _ (start c.before.before.before.before.before.before).requires.0 _ (lossy (goal.at.write-requires-in-Cycle c).In-Cycle-2).lossy) _ _ (lossy (goal.at.write-requires-in-Cycle c).In-Cycle-2).entries in
+    let small = listed-fits (cycle-fits _ c.requires.size_value _ (lossy (goal.at.write-requires-in-Cycle c).In-Cycle-2).lossy) _ _ (lossy (goal.at.write-requires-in-Cycle c).In-Cycle-2).entries in
     let long = room (goal.at.write-requires-in-Cycle c).After-solve-answer in
     record {
-      sheet_len = (start c.before.before.before.before.before.before).requires.1.1;
+      sheet_len = c.requires.sheet_len;
       count_le_records = small.few;
       count_in_bounds = omega arith;
       by_index = small.stripe;
@@ -73,7 +70,16 @@ write-requires-in-Cycle c =
 
 pub returns-in-Repairs : goal.returns-in-Repairs
 returns-in-Repairs c =
-    drafts-repairs _ _ _ _ _ _ (fine (goal.at.returns-in-Repairs c).In-Repairs-2) c.at_most.ensures c.write.ensures
+    let (h0, h1) = drafts-repairs _ _ _ _ _ _ (fine (goal.at.returns-in-Repairs c).In-Repairs-2) c.at_most.ensures c.write.ensures in
+    record {
+      outcome = h0;
+      sheet = h1;
+    }
 
 pub returns-in-Cycle : goal.returns-in-Cycle
-returns-in-Cycle c = drafts-fatal _ _ _ _ _ _ (lossy (goal.at.returns-in-Cycle c).In-Cycle-2) c.write-in-Cycle.ensures
+returns-in-Cycle c =
+    let (h0, h1) = drafts-fatal _ _ _ _ _ _ (lossy (goal.at.returns-in-Cycle c).In-Cycle-2) c.write-in-Cycle.ensures in
+    record {
+      outcome = h0;
+      sheet = h1;
+    }

@@ -27,10 +27,20 @@ tested : (c : goal.Else-status-ne0) → let a = c.args in
 tested c = sym c.sheet_refusal-status.ensures ∙ c.if-status-ne0.false
 
 pub returns-then-not-size_fits : goal.returns-then-not-size_fits
-returns-then-not-size_fits c = refused-size _ _ _ _ (sym c.size_fits.ensures ∙ c.if-not-size_fits.true)
+returns-then-not-size_fits c =
+    let (h0, h1) = refused-size _ _ _ _ (sym c.size_fits.ensures ∙ c.if-not-size_fits.true) in
+    record {
+      outcome = h0;
+      sheets = h1;
+    }
 
 pub returns-then-not-sectors_fit : goal.returns-then-not-sectors_fit
-returns-then-not-sectors_fit c = refused-sectors _ _ _ _ (sized (goal.at.returns-then-not-sectors_fit c).Else-not-size_fits) (sym c.sectors_fit.ensures ∙ c.if-not-sectors_fit.true)
+returns-then-not-sectors_fit c =
+    let (h0, h1) = refused-sectors _ _ _ _ (sized (goal.at.returns-then-not-sectors_fit c).Else-not-size_fits) (sym c.sectors_fit.ensures ∙ c.if-not-sectors_fit.true) in
+    record {
+      outcome = h0;
+      sheets = h1;
+    }
 
 pub sheet_refusal-status-requires-clause-size_value : goal.sheet_refusal-status-requires-clause-size_value
 sheet_refusal-status-requires-clause-size_value c = sized (goal.at.sheet_refusal-status-requires-clause-size_value c).Else-not-size_fits
@@ -40,7 +50,11 @@ sheet_refusal-status-requires-clause-sectors_value c = cut (goal.at.sheet_refusa
 
 pub returns-then-status-ne0 : goal.returns-then-status-ne0
 returns-then-status-ne0 c =
-    refused-sheets _ _ _ _ (sized (goal.at.returns-then-status-ne0 c).Else-not-size_fits) (cut (goal.at.returns-then-status-ne0 c).Else-not-sectors_fit) _ c.sheet_refusal-status.ensures c.if-status-ne0.true
+    let (h0, h1) = refused-sheets _ _ _ _ (sized (goal.at.returns-then-status-ne0 c).Else-not-size_fits) (cut (goal.at.returns-then-status-ne0 c).Else-not-sectors_fit) _ c.sheet_refusal-status.ensures c.if-status-ne0.true in
+    record {
+      outcome = h0;
+      sheets = h1;
+    }
 
 pub overflow_mul-sectors : goal.overflow_mul-sectors
 overflow_mul-sectors c = let few = (sectors-bound _ (cut (goal.at.overflow_mul-sectors c).Else-not-sectors_fit)).1 in omega arith
@@ -59,6 +73,10 @@ pub returns : goal.returns
 returns c =
     let a = c.args in
     let size = sized (goal.at.returns c).Else-not-size_fits in
-    planned a.size a.sectors a.map.now a.sheets.now size (cut (goal.at.returns c).Else-not-sectors_fit) (tested (goal.at.returns c).Else-status-ne0) _
+    let (h0, h1) = planned a.size a.sectors a.map.now a.sheets.now size (cut (goal.at.returns c).Else-not-sectors_fit) (tested (goal.at.returns c).Else-status-ne0) _
     (all_few a.size size a.sectors (erasures a.map.now)) _ _
-    c.draft.ensures.outcome c.draft.ensures.sheets
+    c.draft.ensures.outcome c.draft.ensures.sheets in
+    record {
+      outcome = h0;
+      sheets = h1;
+    }

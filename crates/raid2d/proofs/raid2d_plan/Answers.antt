@@ -10,7 +10,7 @@ pub returns : goal.returns
 unfolding rectangle
 returns c =
     let record { outcome = outcome; sheets = sheets } = c.plan-answer.ensures in
-    let (status, (count, position)) = c.report.ensures in
+    let record { status = status; count = count; position = position } = c.report.ensures in
     let a = c.args in
     record {
       status = status ∙ ap outcome_status outcome;

@@ -9,8 +9,8 @@ use Rattle.raid2d.proofs.raid2d_rebuild.Goals as goal
 pub returns : goal.returns
 unfolding rectangle
 returns c =
-    let (outcome, (array, (map, sheets))) = c.rebuild-answer.ensures in
-    let (status, (count, position)) = c.report.ensures in
+    let record { outcome = outcome; array = array; map = map; sheets = sheets } = c.rebuild-answer.ensures in
+    let record { status = status; count = count; position = position } = c.report.ensures in
     let a = c.args in
     record {
       status = status ∙ ap outcome_status outcome;

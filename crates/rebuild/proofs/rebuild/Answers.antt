@@ -25,10 +25,7 @@ some-sectors c =
     let (array, sector) = sector_fits_lem a.size a.block (length a.array.now) a.sector (array_ok c) in
     sectors-some a.block a.sector array.block sector
 
-abbrev start : goal.Else-limit-eq0 → goal.Start
-start c = c.before.before.before.before.before.before.before.before.before
-
-passed : (c : goal.Else-limit-eq0) → let a = (start c).args in
+passed : (c : goal.Else-limit-eq0) → let a = c.args in
     Passed a.size a.block a.sector a.array.now a.map.now a.sheets.now a.limit
 passed c =
     let other = c.if-limit-eq0.false in
@@ -38,25 +35,23 @@ passed c =
       some = omega arith;
     }
 
--- Plan has answered with repairs.
-abbrev tests : goal.After-draft-answer → goal.Else-limit-eq0
-tests d = d.before.before.before
-
-abbrev draft : goal.After-at_most-made → goal.After-draft-answer
-draft c = c.before.before.before.before.before.before
-
-drafted : (c : goal.After-at_most-made) → let d = draft c in let a = (start (tests d)).args in
+drafted : (c : goal.After-at_most-made) → let a = c.args in
     Planned a.size a.block a.sector a.array.now a.map.now a.sheets.now a.limit
-    d.draft.last.1.1.1.0 c.answer-1.given.0.0 c.at_most-made.result
+    c.draft-answer.last.1.1.1.0 c.answer-1.given.0.0 c.at_most-made.result
 drafted c =
-    let d = draft c in
-    planned (passed (tests d)) _ _ d.draft.ensures.0 d.draft.ensures.1 _ c.answer-1.given.1 _ c.at_most-made.ensures
+    planned (passed c.before.before.before.before.before.before.before.before) _ _ c.draft-answer.ensures.outcome c.draft-answer.ensures.sheets _ c.answer-1.given.1 _ c.at_most-made.ensures
 
 pub returns-then-of_array-ne0 : goal.returns-then-of_array-ne0
 returns-then-of_array-ne0 c =
     let a = c.args in
-    array-refused a.size a.block a.sector a.array.now a.map.now a.sheets.now a.limit _ c.sector_refusal-of_array.ensures
-    c.if-of_array-ne0.true
+    let (h0, h1, h2, h3) = array-refused a.size a.block a.sector a.array.now a.map.now a.sheets.now a.limit _ c.sector_refusal-of_array.ensures
+    c.if-of_array-ne0.true in
+    record {
+      outcome = h0;
+      array = h1;
+      map = h2;
+      sheets = h3;
+    }
 
 pub nonzero_div-sectors : goal.nonzero_div-sectors
 nonzero_div-sectors c =
@@ -74,14 +69,26 @@ sheet_refusal-of_sheets-requires c =
 pub returns-then-of_sheets-ne0 : goal.returns-then-of_sheets-ne0
 returns-then-of_sheets-ne0 c =
     let a = c.args in
-    sheet-refused a.size a.block a.sector a.array.now a.map.now a.sheets.now a.limit (array_ok (goal.at.returns-then-of_sheets-ne0 c).Else-of_array-ne0) _
-    c.sheet_refusal-of_sheets.ensures c.if-of_sheets-ne0.true
+    let (h0, h1, h2, h3) = sheet-refused a.size a.block a.sector a.array.now a.map.now a.sheets.now a.limit (array_ok (goal.at.returns-then-of_sheets-ne0 c).Else-of_array-ne0) _
+    c.sheet_refusal-of_sheets.ensures c.if-of_sheets-ne0.true in
+    record {
+      outcome = h0;
+      array = h1;
+      map = h2;
+      sheets = h3;
+    }
 
 pub returns-then-limit-eq0 : goal.returns-then-limit-eq0
 returns-then-limit-eq0 c =
     let a = c.args in
-    no-repairs a.size a.block a.sector a.array.now a.map.now a.sheets.now a.limit
-    (array_ok (goal.at.returns-then-limit-eq0 c).Else-of_array-ne0) (sym c.sheet_refusal-of_sheets.ensures ∙ c.if-of_sheets-ne0.false) c.if-limit-eq0.true
+    let (h0, h1, h2, h3) = no-repairs a.size a.block a.sector a.array.now a.map.now a.sheets.now a.limit
+    (array_ok (goal.at.returns-then-limit-eq0 c).Else-of_array-ne0) (sym c.sheet_refusal-of_sheets.ensures ∙ c.if-of_sheets-ne0.false) c.if-limit-eq0.true in
+    record {
+      outcome = h0;
+      array = h1;
+      map = h2;
+      sheets = h3;
+    }
 
 pub draft-answer-requires : goal.draft-answer-requires
 draft-answer-requires c =
@@ -95,11 +102,17 @@ draft-answer-requires c =
 
 pub returns-in_default : goal.returns-in_default
 returns-in_default c =
-    as-plan (passed (tests c.before.before.before)) _ _ c.draft-answer.ensures.outcome c.draft-answer.ensures.sheets c.in_default.keys2
+    let (h0, h1, h2, h3) = as-plan (passed (goal.at.returns-in_default c).Else-limit-eq0) _ _ c.draft-answer.ensures.outcome c.draft-answer.ensures.sheets c.in_default.keys2 in
+    record {
+      outcome = h0;
+      array = h1;
+      map = h2;
+      sheets = h3;
+    }
 
 pub make-requires : goal.make-requires
 make-requires c =
-    let a = (start (tests (draft c.before.before.before))).args in
+    let a = c.args in
     let p = drafted (goal.at.make-requires c).After-at_most-made in
     let f = fitting p.tests in
     record {
@@ -119,16 +132,21 @@ zero_all-requires c = sheets-long (drafted (goal.at.zero_all-requires c).After-a
 
 pub returns-then-not-make : goal.returns-then-not-make
 returns-then-not-make c =
-    contradicted (drafted (goal.at.returns-then-not-make c).After-at_most-made) _ c.make.ensures.answer (c.if-not-make.true)
-    _ _ c.make.ensures.array c.zero_all.ensures
+    let (h0, h1, h2, h3) = contradicted (drafted (goal.at.returns-then-not-make c).After-at_most-made) _ c.make.ensures.answer (c.if-not-make.true)
+    _ _ c.make.ensures.array c.zero_all.ensures in
+    record {
+      outcome = h0;
+      array = h1;
+      map = h2;
+      sheets = h3;
+    }
 
 pub mark_present-requires : goal.mark_present-requires
 mark_present-requires c =
     let p = drafted (goal.at.mark_present-requires c).After-at_most-made in
-    let t = tests (draft c.before.before.before.before.before.before.before.before.before) in
-    let a = (start t).args in
+    let a = c.args in
     record {
-      sectors_bound = (sectors-bound (a.block / a.sector) (some-sectors t.before.before.before.before)).1;
+      sectors_bound = (sectors-bound (a.block / a.sector) (some-sectors (goal.at.mark_present-requires c).Else-of_array-ne0)).1;
       sheets_len = sheets-long p;
       by_index = chains-fit p;
       within = in_map p;
@@ -136,5 +154,11 @@ mark_present-requires c =
 
 pub returns : goal.returns
 returns c =
-    made-them (drafted (goal.at.returns c).After-at_most-made) _ c.make.ensures.answer
-    (c.if-not-make.false) _ _ c.make.ensures.array c.mark_present.ensures
+    let (h0, h1, h2, h3) = made-them (drafted (goal.at.returns c).After-at_most-made) _ c.make.ensures.answer
+    (c.if-not-make.false) _ _ c.make.ensures.array c.mark_present.ensures in
+    record {
+      outcome = h0;
+      array = h1;
+      map = h2;
+      sheets = h3;
+    }

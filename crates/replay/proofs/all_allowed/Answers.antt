@@ -17,12 +17,8 @@ use Rattle.replay.proofs.all_allowed.Goals as goal
 pub loop-k-init : goal.loop-k-init
 loop-k-init c = (search rules, search rules, search rules, replayed_none _ c.requires.tallied)
 
--- Where the code began.
-abbrev start : goal.At-loop-k → goal.Start
-start l = l.before.before.before.before.before
-
 pub allowed-requires-clause-numbered : goal.allowed-requires-clause-numbered
-allowed-requires-clause-numbered c = (start c.before.before.before.before.before).requires.0
+allowed-requires-clause-numbered c = c.requires.numbered
 
 pub allowed-requires-clause-tallied : goal.allowed-requires-clause-tallied
 allowed-requires-clause-tallied c = c.loop-k.invariant.3.tallied
@@ -34,11 +30,11 @@ returns-then-not-allowed c =
 
 -- The entry is a repair that is allowed.
 may : (c : goal.Else-not-allowed) →
-    allowed (layout_of (start c.before.before.before.before.before.before.before).args.size (start c.before.before.before.before.before.before.before).args.base) (erasures c.loop-k.work) c.disk_of-disk.result c.stripe_of-stripe.result ≡ true
+    allowed (layout_of c.args.size c.args.base) (erasures c.loop-k.work) c.disk_of-disk.result c.stripe_of-stripe.result ≡ true
 may c = sym c.allowed.ensures ∙ c.if-not-allowed.false
 
 pub take-requires-clause-numbered : goal.take-requires-clause-numbered
-take-requires-clause-numbered c = (start c.before.before.before.before.before.before.before.before.before).requires.0
+take-requires-clause-numbered c = c.requires.numbered
 
 pub take-requires-clause-tallied_2 : goal.take-requires-clause-tallied_2
 take-requires-clause-tallied_2 c = c.loop-k.invariant.3.tallied
@@ -57,5 +53,5 @@ loop-k-preserved c =
 
 pub returns : goal.returns
 returns c =
-    let s = (start c.before).args in
+    let s = c.args in
     sym (ap (λ (n : ℕ). all_allowed (layout_of s.size s.base) (erasures s.work.now) (listed s.list.now n)) (omega arith) ∙ c.loop-k.invariant.3.fair)

@@ -29,29 +29,24 @@ stripes_of-pair-requires-clause-table c = c.requires.tallied.table
 pub stripes_of-pair-requires-clause-disk_value : goal.stripes_of-pair-requires-clause-disk_value
 stripes_of-pair-requires-clause-disk_value c = erased (goal.at.stripes_of-pair-requires-clause-disk_value c).Else-work-disk-ne1
 
--- Where the code began.
-abbrev start : goal.After-stripes_of-pair → goal.Start
-start c = c.before.before.before.before.before.before.before
-
 pair : (c : goal.After-stripes_of-pair) →
-    let a = (start c).args in
+    let a = c.args in
     Crossed (layout_of a.size a.base) a.disk c.stripes_of-pair.result.low c.stripes_of-pair.result.high
 pair c =
-    let s = start c in
-    erased_crossed s.pre.1.table _ (erased c.before) (numbered_two s.pre.0) c.stripes_of-pair.ensures
+    erased_crossed c.requires.tallied.table _ (erased c.before) (numbered_two c.requires.numbered) c.stripes_of-pair.ensures
 
 pub bounds-counts-low : goal.bounds-counts-low
-bounds-counts-low c = (low_held (pair (goal.at.bounds-counts-low c).After-stripes_of-pair) (start c.before.before).requires.1.counted).0
+bounds-counts-low c = (low_held (pair (goal.at.bounds-counts-low c).After-stripes_of-pair) c.requires.tallied.counted).0
 
 pub returns-then-stripe-low : goal.returns-then-stripe-low
-returns-then-stripe-low c = by_low (pair (goal.at.returns-then-stripe-low c).After-stripes_of-pair) (start c.before.before).requires.1.counted (erased (goal.at.returns-then-stripe-low c).Else-work-disk-ne1) c.if-stripe-low.true
+returns-then-stripe-low c = by_low (pair (goal.at.returns-then-stripe-low c).After-stripes_of-pair) c.requires.tallied.counted (erased (goal.at.returns-then-stripe-low c).Else-work-disk-ne1) c.if-stripe-low.true
 
 pub bounds-counts-high : goal.bounds-counts-high
-bounds-counts-high c = (high_held (pair (goal.at.bounds-counts-high c).After-stripes_of-pair) (start c.before.before.before).requires.1.counted).0
+bounds-counts-high c = (high_held (pair (goal.at.bounds-counts-high c).After-stripes_of-pair) c.requires.tallied.counted).0
 
 pub returns-then-stripe-high : goal.returns-then-stripe-high
-returns-then-stripe-high c = by_high (pair (goal.at.returns-then-stripe-high c).After-stripes_of-pair) (start c.before.before.before).requires.1.counted (erased (goal.at.returns-then-stripe-high c).Else-work-disk-ne1) c.if-stripe-high.true
+returns-then-stripe-high c = by_high (pair (goal.at.returns-then-stripe-high c).After-stripes_of-pair) c.requires.tallied.counted (erased (goal.at.returns-then-stripe-high c).Else-work-disk-ne1) c.if-stripe-high.true
 
 pub returns : goal.returns
 returns c =
-    by_neither (pair (goal.at.returns c).After-stripes_of-pair) (start c.before.before).requires.1.counted (erased (goal.at.returns c).Else-work-disk-ne1) c.if-stripe-low.false c.if-stripe-high.false
+    by_neither (pair (goal.at.returns c).After-stripes_of-pair) c.requires.tallied.counted (erased (goal.at.returns c).Else-work-disk-ne1) c.if-stripe-low.false c.if-stripe-high.false

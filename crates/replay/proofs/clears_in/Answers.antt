@@ -16,36 +16,28 @@ use Rattle.replay.proofs.Replayed.{clears_all, clears-not}
 use Rattle.replay.proofs.clears_in.Goals.{After-all_allowed}
 use Rattle.replay.proofs.clears_in.Goals as goal
 
--- Where the code began, from the loading on.
-abbrev start : goal.After-load_position → goal.Start
-start c = c.before.before.before.before.before.before.before
-
 pub tally-erased-requires : goal.tally-erased-requires
 tally-erased-requires c =
-    let p = (start c.before.before.before.before.before).requires in
-    let room = p.1.0.room in
+    let p = c.requires in
+    let room = p.located.room in
     let same = c.load_position.auto.1.1.1.1.0 in
-    let past = position_inside p.1.0.positioned in
+    let past = position_inside p.located.positioned in
     record {
-      numbered = p.0;
+      numbered = p.numbered;
       size_in_bounds = omega arith;
       by_index = λ d l. ap (λ (e : ℕ → Bool). e d) c.load_position.ensures ∙ past d l;
       work_in_bounds = omega arith;
       stripe_limit_in_bounds = omega arith;
     }
 
--- Where the position was loaded, from the judgement on; and what is found is so of the position.
-abbrev loaded : goal.After-all_allowed → goal.After-load_position
-loaded c = c.before.before.before.before.before.before.before.before.before.before.before.before.before.before
-
 judged : (c : goal.After-all_allowed) →
-    let a = (start (loaded c)).args in
+    let a = c.args in
     let e = at_position a.sectors a.position (erasures a.map.now) in
     c.all_allowed.result ≡ all_allowed (layout_of a.size a.base) e (listed a.list.now a.count)
 judged c =
-    let a = (start (loaded c)).args in
+    let a = c.args in
     c.all_allowed.ensures
-    ∙ ap (λ (e : ℕ → Bool). all_allowed (layout_of a.size a.base) e (listed a.list.now a.count)) (loaded c).load-position.ensures
+    ∙ ap (λ (e : ℕ → Bool). all_allowed (layout_of a.size a.base) e (listed a.list.now a.count)) c.load_position.ensures
 
 pub returns-then-not-all_allowed : goal.returns-then-not-all_allowed
 returns-then-not-all_allowed c =
@@ -53,6 +45,6 @@ returns-then-not-all_allowed c =
 
 pub returns : goal.returns
 returns c =
-    let a = (start (loaded c.before.before.before.before.before)).args in
+    let a = c.args in
     clears_all _ _ _ _ (sym (judged (goal.at.returns c).After-all_allowed) ∙ c.if-not-all_allowed.false) _
-    (c.tally-erased.ensures.number ∙ ap₂ count (sym (layout-disks a.size a.base)) (loaded c.before.before.before.before.before).load-position.ensures)
+    (c.tally-erased.ensures.number ∙ ap₂ count (sym (layout-disks a.size a.base)) c.load_position.ensures)

@@ -24,10 +24,7 @@ use Rattle.report.proofs.report.Goals as goal
 sized : (c : goal.Else-not-size_fits) → size_fits c.args.size ≡ true
 sized c = sym c.size_fits.ensures ∙ c.if-not-size_fits.false
 
-abbrev start : goal.Else-not-map_fits → goal.Start
-start c = c.before.before.before.before.before.before
-
-mapped : (c : goal.Else-not-map_fits) → let a = (start c).args in map_fits (map_bytes a.size 1) a.map.now ≡ true
+mapped : (c : goal.Else-not-map_fits) → let a = c.args in map_fits (map_bytes a.size 1) a.map.now ≡ true
 mapped c = sym c.map_fits.ensures ∙ c.if-not-map_fits.false
 
 -- The list after it was solved.
@@ -39,7 +36,7 @@ room l = let same = l.solve.auto.1.1.1.0 in omega arith
 
 -- What is solved, in each case.
 abbrev Found : goal.After-solve-answer → Solved → Type 0
-Found l r = let a = (start l.before.before).args in Solves (sheet_layout a.size) (erasures a.map.now) r (after l)
+Found l r = let a = l.before.args in Solves (sheet_layout a.size) (erasures a.map.now) r (after l)
 
 fine : (c : goal.In-Repairs-2) → Found c.before.before.before (Repairs c.answer-1.given.0.0)
 fine c = subst (Found c.before.before.before) c.answer-1.given.1 c.solve-answer.ensures
@@ -66,7 +63,7 @@ returns-then-not-map_fits c =
 
 pub solve-answer-requires : goal.solve-answer-requires
 solve-answer-requires c =
-    let a = (start c.before).args in
+    let a = c.args in
     record {
       numbered = numbered _ (sized (goal.at.solve-answer-requires c).Else-not-size_fits);
       map_value = ap (λ (k : ℕ). map_fits k a.map.now) (sym (one_byte a.size)) ∙ mapped (goal.at.solve-answer-requires c).Else-not-map_fits;
@@ -80,7 +77,7 @@ pub listed-requires-clause-printable : goal.listed-requires-clause-printable
 listed-requires-clause-printable c = repairs-printable _ _ (sized (goal.at.listed-requires-clause-printable c).Else-not-size_fits) (fine (goal.at.listed-requires-clause-printable c).In-Repairs-2) (room (goal.at.listed-requires-clause-printable c).After-solve-answer)
 
 pub listed-requires-clause-out_len : goal.listed-requires-clause-out_len
-listed-requires-clause-out_len c = (start c.before.before.before.before.before.before.before.before.before).requires
+listed-requires-clause-out_len c = c.requires
 
 pub listed-requires-in-Cycle-clause-word_len_bound : goal.listed-requires-in-Cycle-clause-word_len_bound
 listed-requires-in-Cycle-clause-word_len_bound c = omega arith
@@ -89,7 +86,7 @@ pub listed-requires-in-Cycle-clause-printable : goal.listed-requires-in-Cycle-cl
 listed-requires-in-Cycle-clause-printable c = cycle-printable _ _ (sized (goal.at.listed-requires-in-Cycle-clause-printable c).Else-not-size_fits) (lossy (goal.at.listed-requires-in-Cycle-clause-printable c).In-Cycle-2) (room (goal.at.listed-requires-in-Cycle-clause-printable c).After-solve-answer)
 
 pub listed-requires-in-Cycle-clause-out_len : goal.listed-requires-in-Cycle-clause-out_len
-listed-requires-in-Cycle-clause-out_len c = (start c.before.before.before.before.before.before.before.before.before).requires
+listed-requires-in-Cycle-clause-out_len c = c.requires
 
 pub returns-in-Repairs : goal.returns-in-Repairs
 unfolding repair_word

@@ -10,8 +10,12 @@ pub returns-then-all_cancel : goal.returns-then-all_cancel
 unfolding whole
 returns-then-all_cancel c =
     let a = c.args in
-    all_restored a.size a.base a.block a.sector a.array.now c.requires.sectored (erasures a.map.now) _ c.requires.peels
-    _ c.repair_positions.ensures (sym c.all_cancel.ensures ∙ c.if-all_cancel.true)
+    let (h0, h1) = all_restored a.size a.base a.block a.sector a.array.now c.requires.sectored (erasures a.map.now) _ c.requires.peels
+    _ c.repair_positions.ensures (sym c.all_cancel.ensures ∙ c.if-all_cancel.true) in
+    record {
+      answer = h0;
+      array = h1;
+    }
 
 pub zero_erased-requires : goal.zero_erased-requires
 zero_erased-requires c =
@@ -28,5 +32,9 @@ pub returns : goal.returns
 unfolding whole
 returns c =
     let a = c.args in
-    contradicted a.size a.base a.block a.sector a.array.now c.requires.sectored (erasures a.map.now) _ c.requires.peels
-    _ c.repair_positions.ensures (sym c.all_cancel.ensures ∙ c.if-all_cancel.false) _ c.zero_erased.ensures
+    let (h0, h1) = contradicted a.size a.base a.block a.sector a.array.now c.requires.sectored (erasures a.map.now) _ c.requires.peels
+    _ c.repair_positions.ensures (sym c.all_cancel.ensures ∙ c.if-all_cancel.false) _ c.zero_erased.ensures in
+    record {
+      answer = h0;
+      array = h1;
+    }

@@ -13,7 +13,11 @@ use Rattle.save.proofs.save.Goals as goal
 pub returns-then-status-ne0 : goal.returns-then-status-ne0
 returns-then-status-ne0 c =
     let a = c.args in
-    refused-array a.size a.block a.sector a.array.now a.map.now c.sector_refusal-status.ensures c.if-status-ne0.true
+    let (h0, h1) = refused-array a.size a.block a.sector a.array.now a.map.now c.sector_refusal-status.ensures c.if-status-ne0.true in
+    record {
+      answer = h0;
+      array = h1;
+    }
 
 -- The tests of the array and of the sectors are passed, and then that of the map.
 accepted : (c : goal.Else-status-ne0) →
@@ -41,8 +45,12 @@ map_fits-requires c =
 pub returns-then-not-map_fits : goal.returns-then-not-map_fits
 returns-then-not-map_fits c =
     let a = c.args in
-    refused-map a.size a.block a.sector a.array.now a.map.now (accepted (goal.at.returns-then-not-map_fits c).Else-status-ne0)
-    (sym c.map_fits.ensures ∙ c.if-not-map_fits.true)
+    let (h0, h1) = refused-map a.size a.block a.sector a.array.now a.map.now (accepted (goal.at.returns-then-not-map_fits c).Else-status-ne0)
+    (sym c.map_fits.ensures ∙ c.if-not-map_fits.true) in
+    record {
+      answer = h0;
+      array = h1;
+    }
 
 pub all_fit-requires : goal.all_fit-requires
 all_fit-requires c =
@@ -66,9 +74,13 @@ zero_erased-requires c =
 pub returns-then-not-all_fit : goal.returns-then-not-all_fit
 returns-then-not-all_fit c =
     let a = c.args in
-    contradicted a.size a.block a.sector a.array.now a.map.now (accepted (goal.at.returns-then-not-all_fit c).Else-status-ne0) (fitting (goal.at.returns-then-not-all_fit c).Else-not-map_fits)
+    let (h0, h1) = contradicted a.size a.block a.sector a.array.now a.map.now (accepted (goal.at.returns-then-not-all_fit c).Else-status-ne0) (fitting (goal.at.returns-then-not-all_fit c).Else-not-map_fits)
     (sym c.all_fit.ensures ∙ c.if-not-all_fit.true)
-    c.zero_erased.ensures
+    c.zero_erased.ensures in
+    record {
+      answer = h0;
+      array = h1;
+    }
 
 pub save_all-number-requires : goal.save_all-number-requires
 save_all-number-requires c =
@@ -85,5 +97,9 @@ pub returns : goal.returns
 returns c =
     let a = c.args in
     let record { number = number; array = array } = c.save_all-number.ensures in
-    determined-saved a.size a.block a.sector a.array.now a.map.now (accepted (goal.at.returns c).Else-status-ne0) (fitting (goal.at.returns c).Else-not-map_fits)
-    (sym c.all_fit.ensures ∙ c.if-not-all_fit.false) number array
+    let (h0, h1) = determined-saved a.size a.block a.sector a.array.now a.map.now (accepted (goal.at.returns c).Else-status-ne0) (fitting (goal.at.returns c).Else-not-map_fits)
+    (sym c.all_fit.ensures ∙ c.if-not-all_fit.false) number array in
+    record {
+      answer = h0;
+      array = h1;
+    }

@@ -26,7 +26,7 @@ pub save_position-number-requires : goal.save_position-number-requires
 save_position-number-requires c =
     let m = c.args.map.now in
     let place = c.loop-p-test.true in
-    let (numbered, (held, (fits, fit))) = c.requires in
+    let record { numbered = numbered; sectored = held; map_value = fits; array_value = fit } = c.requires in
     let to = c.loop-p.invariant.0 in
     record {
       numbered = numbered;
@@ -61,7 +61,11 @@ returns c =
     let l = c.loop-p in
     let n = a.block / a.sector in
     let all : l.p ≡ n = omega arith in
-    saved_all c.requires.numbered c.requires.sectored a.map.now
+    let (h0, h1) = saved_all c.requires.numbered c.requires.sectored a.map.now
     (subst
     (λ (k : ℕ). SavedTo (layout_of a.size a.base) n a.sector (erasures a.map.now) a.array.now k l.array l.number)
-    all l.invariant.0)
+    all l.invariant.0) in
+    record {
+      number = h0;
+      array = h1;
+    }

@@ -69,5 +69,9 @@ returns c =
     let found = c.slice_known-1.given in
     let small : Bytes a.array.now = λ i l. omega (arith, found i) in
     let summed = c.sum_rest.ensures in
-    all_saved a.size a.base c.requires.numbered (erasures a.work.now) p.new.counts.1.1.1.1.1.1.0 p.result number entries a.stretch a.array.now
-    c.requires.held small c.requires.array_value c.repair_all.ensures left summed.number summed.array
+    let (h0, h1) = all_saved a.size a.base c.requires.numbered (erasures a.work.now) p.new.counts.1.1.1.1.1.1.0 p.result number entries a.stretch a.array.now
+    c.requires.held small c.requires.array_value c.repair_all.ensures left summed.number summed.array in
+    record {
+      number = h0;
+      array = h1;
+    }

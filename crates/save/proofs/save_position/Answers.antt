@@ -19,7 +19,7 @@ slice_bounds-save_in-end c = sym (length-take-le _ _ (slice_bounds-work-end c.be
 
 pub save_in-requires : goal.save_in-requires
 save_in-requires c =
-    let (numbered, (held, (positioned, fit))) = c.requires in
+    let record { numbered = numbered; held = held; positioned = positioned; array_value = fit } = c.requires in
     let long = sym (slice_bounds-save_in-end c.before.before.before) ∙ c.disks-disks.ensures in
     record {
       numbered = numbered;

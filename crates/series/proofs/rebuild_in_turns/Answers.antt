@@ -78,11 +78,19 @@ loop-done-preserved c =
     let bytes : ℕ = 98 * c.positions-bytes.result in
     let at : ℕ = bytes * c.loop-done.done.turns in
     let whole : at + bytes - at ≡ bytes = omega arith in
-    let (done, (array, (map, sheets))) = c.turn-done.ensures in (
+    let record { turns = done; array = array; map = map; sheets = sheets } = c.turn-done.ensures in (
       _,
       goes c.loop-done.invariant.1 c.loop-done-test.true (ap (λ (i : ℕ). take i (drop at s)) whole) done array map
           (ap₂ (λ (l₁ l₂ : List ℕ). take at s ++ (l₁ ++ l₂)) sheets (Post-is at (at + bytes) s (omega arith))),
     )
 
 pub returns : goal.returns
-returns c = let none = c.loop-done-test.false in ends c.loop-done.invariant.1 (omega arith)
+returns c =
+    let none = c.loop-done-test.false in
+    let (h0, h1, h2, h3) = ends c.loop-done.invariant.1 (omega arith) in
+    record {
+      turns = h0;
+      array = h1;
+      map = h2;
+      sheets = h3;
+    }

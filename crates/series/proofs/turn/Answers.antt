@@ -21,7 +21,7 @@ overflow_add-turns c =
 pub returns-in_default : goal.returns-in_default
 returns-in_default c =
     let a = c.args in
-    let (answer, (array, (map, sheets))) = c.rebuild-last.ensures in
+    let record { outcome = answer; array = array; map = map; sheets = sheets } = c.rebuild-last.ensures in
     record {
       turns = refused_last a.size a.block a.sector a.array.now a.map.now a.sheets.now a.limit a.done _ answer c.in_default.keys2;
       array = array;
@@ -50,7 +50,7 @@ overflow_add-result c = let sum = sum_fits (goal.at.overflow_add-result c).In-Re
 pub returns-then-any_erased : goal.returns-then-any_erased
 returns-then-any_erased c =
     let a = c.args in
-    let (answer, (array, (map, sheets))) = c.rebuild-last.ensures in
+    let record { outcome = answer; array = array; map = map; sheets = sheets } = c.rebuild-last.ensures in
     record {
       turns = repairs-counted a.size a.block a.sector a.array.now a.map.now a.sheets.now a.limit _ (repaired (goal.at.returns-then-any_erased c).In-Repairs-2) a.done _ map true
           (sym c.if-any_erased.true ∙ c.any_erased.ensures);
@@ -65,7 +65,7 @@ overflow_add-result-2 c = let sum = sum_fits (goal.at.overflow_add-result-2 c).I
 pub returns : goal.returns
 returns c =
     let a = c.args in
-    let (answer, (array, (map, sheets))) = c.rebuild-last.ensures in
+    let record { outcome = answer; array = array; map = map; sheets = sheets } = c.rebuild-last.ensures in
     record {
       turns = repairs-counted a.size a.block a.sector a.array.now a.map.now a.sheets.now a.limit _ (repaired (goal.at.returns c).In-Repairs-2) a.done _ map false
           (sym c.if-any_erased.false ∙ c.any_erased.ensures);

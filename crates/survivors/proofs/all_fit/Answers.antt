@@ -27,7 +27,7 @@ pub position_fits-requires : goal.position_fits-requires
 position_fits-requires c =
     let m = c.args.map.now in
     let place = c.loop-p-test.true in
-    let (numbered, (held, fits)) = c.requires in
+    let record { numbered = numbered; sectored = held; map_value = fits } = c.requires in
     record {
       numbered = numbered;
       held = held_at numbered held m place refl;

@@ -9,7 +9,12 @@ pub byte-next-requires : goal.byte-next-requires
 byte-next-requires c = omega (arith, number-ends _ c.number-space.ensures)
 
 pub number-feed-requires : goal.number-feed-requires
-number-feed-requires c = omega (arith, number-ends _ c.number-space.ensures)
+number-feed-requires c =
+    let (h0, h1) = omega (arith, number-ends _ c.number-space.ensures) in
+    record {
+      at_in_bounds = h0;
+      value_bound = h1;
+    }
 
 pub byte-requires : goal.byte-requires
 byte-requires c =

@@ -7,7 +7,12 @@ use Rattle.tidy.proofs.Answers.{short, refused, small, rewritten}
 use Rattle.tidy.proofs.tidy.Goals as goal
 
 pub returns-then-sheet-ne-BYTES : goal.returns-then-sheet-ne-BYTES
-returns-then-sheet-ne-BYTES c = short _ c.if-sheet-ne-BYTES.true
+returns-then-sheet-ne-BYTES c =
+    let (h0, h1) = short _ c.if-sheet-ne-BYTES.true in
+    record {
+      status = h0;
+      sheet = h1;
+    }
 
 pub read-chain-requires-clause-sheet_len : goal.read-chain-requires-clause-sheet_len
 read-chain-requires-clause-sheet_len c = c.if-sheet-ne-BYTES.false
@@ -38,8 +43,16 @@ write-requires c =
 pub returns-in-Records : goal.returns-in-Records
 returns-in-Records c =
     let read = c.read-chain in
-    rewritten _ c.if-sheet-ne-BYTES.false _ read.ensures.chain _ read.ensures.list _ c.chain-1.given.1 _ c.write.ensures
+    let (h0, h1) = rewritten _ c.if-sheet-ne-BYTES.false _ read.ensures.chain _ read.ensures.list _ c.chain-1.given.1 _ c.write.ensures in
+    record {
+      status = h0;
+      sheet = h1;
+    }
 
 pub returns-in-Refused : goal.returns-in-Refused
 returns-in-Refused c =
-    refused _ c.if-sheet-ne-BYTES.false _ c.read-chain.ensures.chain _ c.chain-in-Refused-1.given.1
+    let (h0, h1) = refused _ c.if-sheet-ne-BYTES.false _ c.read-chain.ensures.chain _ c.chain-in-Refused-1.given.1 in
+    record {
+      status = h0;
+      sheet = h1;
+    }

@@ -32,7 +32,11 @@ can c = sym c.can_be_wanted.ensures ∙ c.if-not-can_be_wanted.false
 
 pub returns-then-not-size_fits : goal.returns-then-not-size_fits
 returns-then-not-size_fits c =
-    refused-plan _ _ _ _ 1 (size-first _ _ _ (sym c.size_fits.ensures ∙ c.if-not-size_fits.true)) (λ q. omega arith)
+    let (h0, h1) = refused-plan _ _ _ _ 1 (size-first _ _ _ (sym c.size_fits.ensures ∙ c.if-not-size_fits.true)) (λ q. omega arith) in
+    record {
+      outcome = h0;
+      sheet = h1;
+    }
 
 pub sheet_refusal-status-requires-clause-size_value : goal.sheet_refusal-status-requires-clause-size_value
 unfolding sectors_fit
@@ -44,13 +48,22 @@ sheet_refusal-status-requires-clause-sectors_value c = refl
 
 pub returns-then-status-ne0 : goal.returns-then-status-ne0
 returns-then-status-ne0 c =
-    refused-plan _ _ _ _ _ (size-passed _ _ _ (sized (goal.at.returns-then-status-ne0 c).Else-not-size_fits) ∙ sym c.sheet_refusal-status.ensures) c.if-status-ne0.true
+    let (h0, h1) = refused-plan _ _ _ _ _ (size-passed _ _ _ (sized (goal.at.returns-then-status-ne0 c).Else-not-size_fits) ∙ sym c.sheet_refusal-status.ensures) c.if-status-ne0.true in
+    record {
+      outcome = h0;
+      sheet = h1;
+    }
 
 pub can_be_wanted-requires : goal.can_be_wanted-requires
 can_be_wanted-requires c = (one-fits _ _ _ (tested (goal.at.can_be_wanted-requires c).Else-status-ne0)).1
 
 pub returns-then-not-can_be_wanted : goal.returns-then-not-can_be_wanted
-returns-then-not-can_be_wanted c = refused-disk _ _ _ _ (tested (goal.at.returns-then-not-can_be_wanted c).Else-status-ne0) (sym c.can_be_wanted.ensures ∙ c.if-not-can_be_wanted.true)
+returns-then-not-can_be_wanted c =
+    let (h0, h1) = refused-disk _ _ _ _ (tested (goal.at.returns-then-not-can_be_wanted c).Else-status-ne0) (sym c.can_be_wanted.ensures ∙ c.if-not-can_be_wanted.true) in
+    record {
+      outcome = h0;
+      sheet = h1;
+    }
 
 pub find-count-requires : goal.find-count-requires
 find-count-requires c =
@@ -76,7 +89,11 @@ draft-requires c =
 
 pub returns-then-count-eq0 : goal.returns-then-count-eq0
 returns-then-count-eq0 c =
-    unreached _ _ _ _ (tested (goal.at.returns-then-count-eq0 c).Else-status-ne0) (can (goal.at.returns-then-count-eq0 c).Else-not-can_be_wanted) c.find-count.ensures c.if-count-eq0.true 32 _ _ c.draft.ensures.outcome c.draft.ensures.sheets
+    let (h0, h1) = unreached _ _ _ _ (tested (goal.at.returns-then-count-eq0 c).Else-status-ne0) (can (goal.at.returns-then-count-eq0 c).Else-not-can_be_wanted) c.find-count.ensures c.if-count-eq0.true 32 _ _ c.draft.ensures.outcome c.draft.ensures.sheets in
+    record {
+      outcome = h0;
+      sheet = h1;
+    }
 
 pub write-requires : goal.write-requires
 write-requires c =
@@ -92,4 +109,8 @@ write-requires c =
 
 pub returns : goal.returns
 returns c =
-    reaches _ _ _ _ (tested (goal.at.returns c).Else-status-ne0) (can (goal.at.returns c).Else-not-can_be_wanted) c.find-count.ensures c.if-count-eq0.false _ c.write.ensures
+    let (h0, h1) = reaches _ _ _ _ (tested (goal.at.returns c).Else-status-ne0) (can (goal.at.returns c).Else-not-can_be_wanted) c.find-count.ensures c.if-count-eq0.false _ c.write.ensures in
+    record {
+      outcome = h0;
+      sheet = h1;
+    }

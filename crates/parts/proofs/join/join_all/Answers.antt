@@ -30,39 +30,34 @@ loop-size-init c =
     let same = c.start.auto.parts in
     (parted-none _ (omega (arith, c.requires.base_in_bounds)) c.bound-bound.ensures c.start.ensures, omega arith, refl)
 
--- Where the code began.
-abbrev start : goal.At-loop-size → goal.Start
-start l = l.before.before.before.before.before.before.before.before.before
-
 -- The disks that a turn passes over.
-passed : (c : goal.After-next_erased-d) → Passed (start c.before).args.work.now c.loop-size.from c.next_erased-d.result
+passed : (c : goal.After-next_erased-d) → Passed c.args.work.now c.loop-size.from c.next_erased-d.result
 passed c = next_passed _ _ c.next_erased-d.ensures c.loop-size.invariant.1
 
 over : (c : goal.After-next_erased-d) →
-    let a = (start c.before).args in
+    let a = c.args in
     Parted (layout_of a.size a.base) (erasures a.work.now) c.next_erased-d.result c.loop-size.parts
 over c = parted_over _ _ (passed c).after (passed c).none c.loop-size.invariant.0
 
 pub returns-then-work-d : goal.returns-then-work-d
-returns-then-work-d c = parted_all (start c.before.before).pre.1.0 c.if-work-d.true (over (goal.at.returns-then-work-d c).After-next_erased-d)
+returns-then-work-d c = parted_all c.requires.table c.if-work-d.true (over (goal.at.returns-then-work-d c).After-next_erased-d)
 
 -- The disk of a turn is erased.
-erased : (c : goal.Else-work-d) → erasures (start c.before.before).args.work.now c.next_erased-d.result ≡ true
+erased : (c : goal.Else-work-d) → erasures c.args.work.now c.next_erased-d.result ≡ true
 erased c = next_erased_lem _ _ c.next_erased-d.ensures (search rules)
 
 pub stripes_of-pair-requires-clause-table : goal.stripes_of-pair-requires-clause-table
-stripes_of-pair-requires-clause-table c = (start c.before.before).pre.1.0
+stripes_of-pair-requires-clause-table c = c.requires.table
 
 pub stripes_of-pair-requires-clause-disk_value : goal.stripes_of-pair-requires-clause-disk_value
 stripes_of-pair-requires-clause-disk_value c = erased (goal.at.stripes_of-pair-requires-clause-disk_value c).Else-work-d
 
 -- The disk with its stripes.
 pair : (c : goal.After-stripes_of-pair) →
-    let a = (start c.before.before.before).args in
+    let a = c.args in
     Crossed (layout_of a.size a.base) c.next_erased-d.result c.stripes_of-pair.result.low c.stripes_of-pair.result.high
 pair c =
-    let s = start c.before.before.before in
-    erased_crossed s.pre.1.0 _ (erased c.before) (numbered_two s.pre.0) c.stripes_of-pair.ensures
+    erased_crossed c.requires.table _ (erased c.before) (numbered_two c.requires.numbered) c.stripes_of-pair.ensures
 
 pub unite-requires : goal.unite-requires
 unite-requires c =

@@ -12,52 +12,47 @@ use Rattle.parts.proofs.Parted.{crossed_places, parted-closed, walked-closed, an
 use Rattle.parts.proofs.link.link.Goals.{After-stripes_of-pair}
 use Rattle.parts.proofs.link.link.Goals as goal
 
--- Where the code began.
-abbrev start : goal.After-stripes_of-pair → goal.Start
-start c = c.before.before.before.before.before
-
 -- The disk with its stripes.
 pair : (c : goal.After-stripes_of-pair) →
-    let a = (start c).args in
+    let a = c.args in
     Crossed (layout_of a.size a.base) a.disk c.stripes_of-pair.result.low c.stripes_of-pair.result.high
 pair c =
-    let s = start c in
-    erased_crossed s.pre.1.0 _ s.pre.1.1.0 (numbered_two s.pre.0) c.stripes_of-pair.ensures
+    erased_crossed c.requires.table _ c.requires.disk_value (numbered_two c.requires.numbered) c.stripes_of-pair.ensures
 
 pub offset_bounds-ways-low : goal.offset_bounds-ways-low
-offset_bounds-ways-low c = omega (arith, stripes_few (start c).requires.0, (pair (goal.at.offset_bounds-ways-low c).After-stripes_of-pair).low_bound)
+offset_bounds-ways-low c = omega (arith, stripes_few c.requires.numbered, (pair (goal.at.offset_bounds-ways-low c).After-stripes_of-pair).low_bound)
 
 pub bounds-ways-low : goal.bounds-ways-low
-bounds-ways-low c = (crossed_places (pair (goal.at.bounds-ways-low c).After-stripes_of-pair) (start c.before).requires.1.1.1.1.stripes_fit).0
+bounds-ways-low c = (crossed_places (pair (goal.at.bounds-ways-low c).After-stripes_of-pair) c.requires.walked.stripes_fit).0
 
 pub offset_bounds-ways-high : goal.offset_bounds-ways-high
-offset_bounds-ways-high c = omega (arith, stripes_few (start c.before).requires.0, (pair (goal.at.offset_bounds-ways-high c).After-stripes_of-pair).high_bound)
+offset_bounds-ways-high c = omega (arith, stripes_few c.requires.numbered, (pair (goal.at.offset_bounds-ways-high c).After-stripes_of-pair).high_bound)
 
 pub bounds-ways-high : goal.bounds-ways-high
-bounds-ways-high c = (crossed_places (pair (goal.at.bounds-ways-high c).After-stripes_of-pair) (start c.before.before).requires.1.1.1.1.stripes_fit).1
+bounds-ways-high c = (crossed_places (pair (goal.at.bounds-ways-high c).After-stripes_of-pair) c.requires.walked.stripes_fit).1
 
 pub bounds-parts-high : goal.bounds-parts-high
-bounds-parts-high c = (crossed_places (pair (goal.at.bounds-parts-high c).After-stripes_of-pair) (start c.before.before.before).requires.1.1.1.0.stripes_fit).1
+bounds-parts-high c = (crossed_places (pair (goal.at.bounds-parts-high c).After-stripes_of-pair) c.requires.parted.stripes_fit).1
 
 pub bounds-parts-low : goal.bounds-parts-low
-bounds-parts-low c = (crossed_places (pair (goal.at.bounds-parts-low c).After-stripes_of-pair) (start c.before.before.before.before).requires.1.1.1.0.stripes_fit).0
+bounds-parts-low c = (crossed_places (pair (goal.at.bounds-parts-low c).After-stripes_of-pair) c.requires.parted.stripes_fit).0
 
 pub returns-then-parts-low : goal.returns-then-parts-low
 unfolding ◌⊕◌
 returns-then-parts-low c =
-    let e = (start c.before.before.before.before.before).requires in
-    let parted = e.1.1.1.0 in
-    let walked = e.1.1.1.1 in
+    let e = c.requires in
+    let parted = e.parted in
+    let walked = e.walked in
     record {
-      parts = parted-closed e.1.1.0 (pair (goal.at.returns-then-parts-low c).After-stripes_of-pair) parted walked c.if-parts-low.true;
-      ways = walked-closed e.1.1.0 (pair (goal.at.returns-then-parts-low c).After-stripes_of-pair) parted walked c.if-parts-low.true;
-      answer = answer-closed e.1.1.0 (pair (goal.at.returns-then-parts-low c).After-stripes_of-pair) parted walked c.if-parts-low.true;
+      parts = parted-closed e.disk_value (pair (goal.at.returns-then-parts-low c).After-stripes_of-pair) parted walked c.if-parts-low.true;
+      ways = walked-closed e.disk_value (pair (goal.at.returns-then-parts-low c).After-stripes_of-pair) parted walked c.if-parts-low.true;
+      answer = answer-closed e.disk_value (pair (goal.at.returns-then-parts-low c).After-stripes_of-pair) parted walked c.if-parts-low.true;
     }
 
 -- The name that the disk ends.
-old-small : (p : goal.After-stripes_of-pair) → get_or (start p).args.parts.now p.stripes-of.result.high 0 < 64
+old-small : (p : goal.After-stripes_of-pair) → get_or p.before.args.parts.now p.stripes-of.result.high 0 < 64
 old-small p =
-    let e = (start p).requires in
+    let e = p.before.requires in
     let few = stripes_few e.0 in
     let small = name_small e.1.1.1.0 (numbered_two e.0) (omega (arith, (pair p).disk)) _ (pair p).high_bound in
     omega arith
@@ -66,14 +61,14 @@ pub alone-own-requires : goal.alone-own-requires
 alone-own-requires c = old-small (goal.at.alone-own-requires c).After-stripes_of-pair
 
 pub bound-bound-requires : goal.bound-bound-requires
-bound-bound-requires c = (start c.before.before.before.before.before.before).requires.0
+bound-bound-requires c = c.requires.numbered
 
 pub extend-requires : goal.extend-requires
 extend-requires c =
-    let e = (start c.before.before.before.before.before.before.before.before.before).requires in
+    let e = c.requires in
     let is = c.bound-bound.ensures in
-    let parts = e.1.1.1.0.stripes_fit in
-    let ways = e.1.1.1.1.stripes_fit in
+    let parts = e.parted.stripes_fit in
+    let ways = e.walked.stripes_fit in
     record {
       bound_in_bounds = omega arith;
       bound_in_bounds_2 = omega arith;
@@ -82,7 +77,7 @@ extend-requires c =
 pub unite-requires : goal.unite-requires
 unite-requires c =
     let is = c.bound-bound.ensures in
-    let fits = (start c.before.before.before.before.before.before.before.before.before.before.before.before.before).requires.1.1.1.0.stripes_fit in
+    let fits = c.requires.parted.stripes_fit in
     record {
       bound_in_bounds = omega arith;
       low_lt_bound = omega (arith, (pair (goal.at.unite-requires c).After-stripes_of-pair).low_bound);
@@ -92,15 +87,15 @@ unite-requires c =
 pub returns : goal.returns
 unfolding ◌⊕◌
 returns c =
-    let e = (start c.before.before.before.before.before.before.before.before.before.before.before.before.before.before.before.before).requires in
-    let parted = e.1.1.1.0 in
-    let walked = e.1.1.1.1 in
+    let e = c.requires in
+    let parted = e.parted in
+    let walked = e.walked in
     let apart = c.if-parts-low.false in
     let unite = c.unite in
     let extend = c.extend in
     let bound = c.bound-bound.ensures in
     record {
-      parts = parted-next e.1.1.0 (pair (goal.at.returns c).After-stripes_of-pair) parted unite.auto.parts bound unite.ensures;
-      ways = walked_next e.1.1.0 (pair (goal.at.returns c).After-stripes_of-pair) parted walked apart extend.auto.1.0 bound c.alone-own.ensures extend.ensures;
-      answer = answer_link e.1.1.0 (pair (goal.at.returns c).After-stripes_of-pair) parted walked apart;
+      parts = parted-next e.disk_value (pair (goal.at.returns c).After-stripes_of-pair) parted unite.auto.parts bound unite.ensures;
+      ways = walked_next e.disk_value (pair (goal.at.returns c).After-stripes_of-pair) parted walked apart extend.auto.1.0 bound c.alone-own.ensures extend.ensures;
+      answer = answer_link e.disk_value (pair (goal.at.returns c).After-stripes_of-pair) parted walked apart;
     }

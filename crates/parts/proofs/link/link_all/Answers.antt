@@ -40,22 +40,18 @@ loop-size-init c =
       refl,
     )
 
--- Where the code began.
-abbrev start : goal.At-loop-size → goal.Start
-start l = l.before.before.before.before.before.before.before.before.before.before.before.before.before.before
-
 -- The disks that a turn passes over.
-passed : (c : goal.After-next_erased-d) → Passed (start c.before).args.work.now c.loop-size.from c.next_erased-d.result
+passed : (c : goal.After-next_erased-d) → Passed c.args.work.now c.loop-size.from c.next_erased-d.result
 passed c = next_passed _ _ c.next_erased-d.ensures c.loop-size.invariant.1
 
 over : (c : goal.After-next_erased-d) →
-    let a = (start c.before).args in
+    let a = c.args in
     Linking (layout_of a.size a.base) (erasures a.work.now) c.next_erased-d.result c.loop-size.parts c.loop-size.ways c.loop-size.closed
 over c = linking_over _ _ (passed c).after (passed c).none c.loop-size.invariant.0
 
 pub returns-then-work-d : goal.returns-then-work-d
 returns-then-work-d c =
-    let l = linking_all (start c.before.before).pre.1.0 c.if-work-d.true (over (goal.at.returns-then-work-d c).After-next_erased-d) in
+    let l = linking_all c.requires.table c.if-work-d.true (over (goal.at.returns-then-work-d c).After-next_erased-d) in
     record {
       parts = l.parted;
       ways = l.walked;
@@ -63,16 +59,15 @@ returns-then-work-d c =
     }
 
 -- The disk of a turn is erased.
-erased : (c : goal.Else-work-d) → erasures (start c.before.before).args.work.now c.next_erased-d.result ≡ true
+erased : (c : goal.Else-work-d) → erasures c.args.work.now c.next_erased-d.result ≡ true
 erased c = next_erased_lem _ _ c.next_erased-d.ensures (search rules)
 
 pub link-closed-requires : goal.link-closed-requires
 link-closed-requires c =
-    let s = start c.before.before.before.before in
     let now = over (goal.at.link-closed-requires c).After-next_erased-d in
     record {
-      numbered = s.pre.0;
-      table = s.pre.1.0;
+      numbered = c.requires.numbered;
+      table = c.requires.table;
       disk_value = erased (goal.at.link-closed-requires c).Else-work-d;
       parted = now.parted;
       walked = now.walked;

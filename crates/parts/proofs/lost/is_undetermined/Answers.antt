@@ -11,32 +11,26 @@ use Rattle.parts.proofs.Read.{read_undetermined}
 use Rattle.parts.proofs.lost.is_undetermined.Goals.{After-stripes_of-pair}
 use Rattle.parts.proofs.lost.is_undetermined.Goals as goal
 
--- Where the code began.
-abbrev start : goal.After-stripes_of-pair → goal.Start
-start c = c.before.before.before.before
-
 -- The disk with its stripes.
 pair : (c : goal.After-stripes_of-pair) →
-    let a = (start c).args in
+    let a = c.args in
     Crossed (layout_of a.size a.base) a.disk c.stripes_of-pair.result.low c.stripes_of-pair.result.high
 pair c =
-    let s = start c in
-    erased_crossed s.pre.1.0 _ s.pre.1.1.0 (numbered_two s.pre.0) c.stripes_of-pair.ensures
+    erased_crossed c.requires.table _ c.requires.disk_value (numbered_two c.requires.numbered) c.stripes_of-pair.ensures
 
 pub offset_bounds-ways-low : goal.offset_bounds-ways-low
-offset_bounds-ways-low c = omega (arith, stripes_few (start c).requires.0, (pair (goal.at.offset_bounds-ways-low c).After-stripes_of-pair).low_bound)
+offset_bounds-ways-low c = omega (arith, stripes_few c.requires.numbered, (pair (goal.at.offset_bounds-ways-low c).After-stripes_of-pair).low_bound)
 
 pub bounds-ways-low : goal.bounds-ways-low
-bounds-ways-low c = (crossed_places (pair (goal.at.bounds-ways-low c).After-stripes_of-pair) (start c.before).requires.1.1.1.0.stripes_fit).0
+bounds-ways-low c = (crossed_places (pair (goal.at.bounds-ways-low c).After-stripes_of-pair) c.requires.walked.stripes_fit).0
 
 pub offset_bounds-ways-high : goal.offset_bounds-ways-high
-offset_bounds-ways-high c = omega (arith, stripes_few (start c.before).requires.0, (pair (goal.at.offset_bounds-ways-high c).After-stripes_of-pair).high_bound)
+offset_bounds-ways-high c = omega (arith, stripes_few c.requires.numbered, (pair (goal.at.offset_bounds-ways-high c).After-stripes_of-pair).high_bound)
 
 pub bounds-ways-high : goal.bounds-ways-high
-bounds-ways-high c = (crossed_places (pair (goal.at.bounds-ways-high c).After-stripes_of-pair) (start c.before.before).requires.1.1.1.0.stripes_fit).1
+bounds-ways-high c = (crossed_places (pair (goal.at.bounds-ways-high c).After-stripes_of-pair) c.requires.walked.stripes_fit).1
 
 pub returns : goal.returns
 unfolding ◌⊕◌
 returns c =
-    let s = start c.before.before.before in
-    c.holds.ensures ∙ read_undetermined s.pre.1.1.0 (pair (goal.at.returns c).After-stripes_of-pair) s.pre.1.1.1.0 s.pre.1.1.1.1
+    c.holds.ensures ∙ read_undetermined c.requires.disk_value (pair (goal.at.returns c).After-stripes_of-pair) c.requires.walked c.requires.closed_value

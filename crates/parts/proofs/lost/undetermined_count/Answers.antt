@@ -30,33 +30,28 @@ link_all-closed-requires c =
 pub loop-size-init : goal.loop-size-init
 loop-size-init c = (judged_none _ _, omega arith)
 
--- Where the code began.
-abbrev start : goal.At-loop-size → goal.Start
-start l = l.before.before.before.before.before.before.before.before
-
 -- The disks that a turn passes over.
-passed : (c : goal.After-next_erased-d) → Passed (start c.before).args.work.now c.loop-size.from c.next_erased-d.result
+passed : (c : goal.After-next_erased-d) → Passed c.args.work.now c.loop-size.from c.next_erased-d.result
 passed c = next_passed _ _ c.next_erased-d.ensures c.loop-size.invariant.1
 
 over : (c : goal.After-next_erased-d) →
-    let a = (start c.before).args in
+    let a = c.args in
     Judged (layout_of a.size a.base) a.work.now c.next_erased-d.result c.loop-size.count
 over c = judged_over c.loop-size.invariant.0 (passed c)
 
 pub returns-then-work-d : goal.returns-then-work-d
-returns-then-work-d c = judged_all (over (goal.at.returns-then-work-d c).After-next_erased-d) (start c.before.before).pre.1 c.if-work-d.true
+returns-then-work-d c = judged_all (over (goal.at.returns-then-work-d c).After-next_erased-d) c.requires.table c.if-work-d.true
 
 -- The disk of a turn is erased.
-erased : (c : goal.Else-work-d) → erasures (start c.before.before).args.work.now c.next_erased-d.result ≡ true
+erased : (c : goal.Else-work-d) → erasures c.args.work.now c.next_erased-d.result ≡ true
 erased c = next_erased_lem _ _ c.next_erased-d.ensures (search rules)
 
 pub is_undetermined-requires : goal.is_undetermined-requires
 is_undetermined-requires c =
-    let s = start c.before.before.before in
     let all = c.link_all-closed.ensures in
     record {
-      numbered = s.pre.0;
-      table = s.pre.1;
+      numbered = c.requires.numbered;
+      table = c.requires.table;
       disk_value = erased (goal.at.is_undetermined-requires c).Else-work-d;
       walked = all.ways;
       closed_value = all.answer;
@@ -64,10 +59,9 @@ is_undetermined-requires c =
 
 pub overflow_add-count : goal.overflow_add-count
 overflow_add-count c =
-    let s = start c.before.before.before.before.before in
-    let inside = erased-inside s.pre.1 _ (erased (goal.at.overflow_add-count c).Else-work-d) in
-    let same = layout-disks s.args.size s.args.base in
-    let most = disks-bound s.args.size (size_fits_lem s.args.size s.pre.0.fits) in
+    let inside = erased-inside c.requires.table _ (erased (goal.at.overflow_add-count c).Else-work-d) in
+    let same = layout-disks c.args.size c.args.base in
+    let most = disks-bound c.args.size (size_fits_lem c.args.size c.requires.numbered.fits) in
     omega (arith, judged_few (over (goal.at.overflow_add-count c).After-next_erased-d))
 
 pub overflow_add-from : goal.overflow_add-from

@@ -32,40 +32,37 @@ pub loop-size-init : goal.loop-size-init
 loop-size-init c =
     (rest-none c.requires.held.inside (sized_as c.args.size c.args.base c.requires.held), omega arith, refl)
 
--- Where the code began.
-abbrev start : goal.At-loop-size → goal.Start
-start l = l.before.before.before.before.before.before.before.before.before
-
 -- The disks that a turn passes over.
-passed : (c : goal.After-next_erased-d) → Passed (start c.before).args.work.now c.loop-size.from c.next_erased-d.result
+passed : (c : goal.After-next_erased-d) → Passed c.args.work.now c.loop-size.from c.next_erased-d.result
 passed c = next_passed _ _ c.next_erased-d.ensures c.loop-size.invariant.1
 
 over : (c : goal.After-next_erased-d) →
-    let a = (start c.before).args in
+    let a = c.args in
     Rest (layout_of a.size a.base) a.stretch a.work.now a.array.now c.next_erased-d.result c.loop-size.array c.loop-size.number
 over c =
-    let s = start c.before in
-    rest_over s.pre.1.0.inside (sized_as s.args.size s.args.base s.pre.1.0) c.loop-size.invariant.0 s.pre.1.1 (passed c)
+    rest_over c.requires.held.inside (sized_as c.args.size c.args.base c.requires.held) c.loop-size.invariant.0 c.requires.table (passed c)
 
 pub returns-then-work-d : goal.returns-then-work-d
 returns-then-work-d c =
-    let s = start c.before.before in
-    rest_all s.pre.1.0.inside (sized_as s.args.size s.args.base s.pre.1.0) (over (goal.at.returns-then-work-d c).After-next_erased-d) s.pre.1.1 c.if-work-d.true
+    let (h0, h1) = rest_all c.requires.held.inside (sized_as c.args.size c.args.base c.requires.held) (over (goal.at.returns-then-work-d c).After-next_erased-d) c.requires.table c.if-work-d.true in
+    record {
+      number = h0;
+      array = h1;
+    }
 
 -- The disk of a turn is erased.
-erased : (c : goal.Else-work-d) → erasures (start c.before.before).args.work.now c.next_erased-d.result ≡ true
+erased : (c : goal.Else-work-d) → erasures c.args.work.now c.next_erased-d.result ≡ true
 erased c = next_erased_lem _ _ c.next_erased-d.ensures (search rules)
 
 pub sum_disk-requires : goal.sum_disk-requires
 sum_disk-requires c =
-    let s = start c.before.before.before.before.before in
-    let held : Held s.args.size s.args.stretch c.loop-size.array =
-    record { inside = s.pre.1.0.inside; block = s.pre.1.0.block; sized = c.loop-size.invariant.2 ∙ s.pre.1.0.sized } in
+    let held : Held c.args.size c.args.stretch c.loop-size.array =
+    record { inside = c.requires.held.inside; block = c.requires.held.block; sized = c.loop-size.invariant.2 ∙ c.requires.held.sized } in
     let all = c.link_all-closed.ensures in
     record {
-      numbered = s.pre.0;
+      numbered = c.requires.numbered;
       held = held;
-      table = s.pre.1.1;
+      table = c.requires.table;
       disk_value = erased (goal.at.sum_disk-requires c).Else-work-d;
       parted = all.parts;
       walked = all.ways;
@@ -75,16 +72,14 @@ sum_disk-requires c =
 -- Its number is small.
 small : (c : goal.Else-work-d) → c.next_erased-d.result < 256
 small c =
-    let s = start c.before.before in
-    let inside = erased-inside s.pre.1.1 _ (erased c) in
-    let same = layout-disks s.args.size s.args.base in
-    let most = disks-bound s.args.size (size_fits_lem s.args.size s.pre.0.fits) in
+    let inside = erased-inside c.requires.table _ (erased c) in
+    let same = layout-disks c.args.size c.args.base in
+    let most = disks-bound c.args.size (size_fits_lem c.args.size c.requires.numbered.fits) in
     omega arith
 
 pub overflow_add-number : goal.overflow_add-number
 overflow_add-number c =
-    let s = start c.before.before.before.before.before.before.before.before.before in
-    omega (arith, rest-few s.pre.1.0.inside (sized_as s.args.size s.args.base s.pre.1.0) (over (goal.at.overflow_add-number c).After-next_erased-d), small (goal.at.overflow_add-number c).Else-work-d)
+    omega (arith, rest-few c.requires.held.inside (sized_as c.args.size c.args.base c.requires.held) (over (goal.at.overflow_add-number c).After-next_erased-d), small (goal.at.overflow_add-number c).Else-work-d)
 
 pub overflow_add-from : goal.overflow_add-from
 overflow_add-from c = omega (arith, small (goal.at.overflow_add-from c).Else-work-d)
@@ -95,8 +90,8 @@ loop-size-smaller c = omega (arith, c.if-work-d.false, (passed (goal.at.loop-siz
 pub loop-size-preserved : goal.loop-size-preserved
 loop-size-preserved c =
     let summed = c.sum_disk in
-    let s = start c.before.before.before.before.before.before.before.before.before in (
-      rest-next s.pre.1.0.inside (sized_as s.args.size s.args.base s.pre.1.0) (over (goal.at.loop-size-preserved c).After-next_erased-d) summed.ensures.answer summed.ensures.array
+    (
+      rest-next c.requires.held.inside (sized_as c.args.size c.args.base c.requires.held) (over (goal.at.loop-size-preserved c).After-next_erased-d) summed.ensures.answer summed.ensures.array
           (⊎_elim (λ w. inl (w.0.taken, w.1)) (λ w. inr (w.0.left, w.1)) c.if-sum_disk.branch),
       omega (arith, c.if-work-d.false),
       search rules,

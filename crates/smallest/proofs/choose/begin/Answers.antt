@@ -14,34 +14,30 @@ use Rattle.smallest.proofs.Choosing.{wiped_table, wiped_near}
 use Rattle.smallest.proofs.choose.begin.Goals.{After-wipe, Joined-found}
 use Rattle.smallest.proofs.choose.begin.Goals as goal
 
--- Where the code began.
-abbrev start : goal.After-wipe → goal.Start
-start w = w.before.before.before.before.before.before.before.before.before
-
 -- The disks above the lowest one are left, and the table has their stripes.
 left : (w : goal.After-wipe) →
-    let a = (start w).args in
+    let a = w.before.args in
     (erasures w.wipe.new.0 ≡ above a.found.disk (erasures a.work.now))
     × Table (layout_of a.size a.base) w.wipe.new.0 a.stripes.now
-left w = wiped_table (start w).requires.1.0 (start w).args.found.disk w.wipe.ensures
+left w = wiped_table w.before.requires.1.0 w.before.args.found.disk w.wipe.ensures
 
 pub load-requires-clause-numbered : goal.load-requires-clause-numbered
-load-requires-clause-numbered c = (start c.before.before.before.before.before.before.before).requires.0
+load-requires-clause-numbered c = c.requires.numbered
 
 pub load-requires-clause-table : goal.load-requires-clause-table
 load-requires-clause-table c = (left (goal.at.load-requires-clause-table c).After-wipe).1
 
 pub load-requires-clause-near_len : goal.load-requires-clause-near_len
-load-requires-clause-near_len c = (start c.before.before.before.before.before.before.before).requires.1.1.1.0.room
+load-requires-clause-near_len c = c.requires.near.room
 
 -- The table of neighbours is that of these disks, either way.
 neighbours : (j : goal.Joined-found) →
     let w = j.before.before.before.before.before in
-    let a = (start w).args in
+    let a = w.before.args in
     Near (layout_of a.size a.base) (erasures w.wipe.new.0) j.if1.near
 neighbours j =
     let w = j.before.before.before.before.before in
-    let s = start w in
+    let s = w.before in
     ⊎_elim (λ (_, _, _, load, _, _, near). rw near load.ensures)
     (λ (if1, near).
     rw near
@@ -50,15 +46,14 @@ neighbours j =
 
 pub measure-requires : goal.measure-requires
 measure-requires c =
-    let s = start c.before.before.before.before.before.before.before in
-    let x = crossed (numbered_two s.pre.0) s.pre.1.1.0.disk c.stripes_of-ends.ensures in
-    let few = stripes_few s.pre.0 in
+    let x = crossed (numbered_two c.requires.numbered) c.requires.nearest.disk c.stripes_of-ends.ensures in
+    let few = stripes_few c.requires.numbered in
     record {
       near_len = (neighbours (goal.at.measure-requires c).Joined-found).room;
       low_lt_word_stripes = omega (arith, x.low_bound);
       high_lt_word_stripes = omega (arith, x.high_bound);
-      others_lt_word_stripes = s.pre.1.1.0.few;
-      levels_len = s.pre.1.1.1.1;
+      others_lt_word_stripes = c.requires.nearest.few;
+      levels_len = c.requires.levels_len;
     }
 
 pub returns-clause-stripes : goal.returns-clause-stripes

@@ -32,54 +32,46 @@ begin-ends-requires c =
       levels_len = refl;
     }
 
--- Where the code began.
-abbrev start : goal.After-begin-ends → goal.Start
-start b = b.before.before.before.before.before.before.before.before
-
 abbrev layout : goal.After-begin-ends → Layout
-layout b = layout_of (start b).args.size (start b).args.base
+layout b = layout_of b.before.args.size b.before.args.base
 
 -- The working map, which has the disks above the lowest one from here on.
 abbrev map : goal.After-begin-ends → List ℕ
 map b = b.begin.new.1.1.0
 
 -- The lowest disk with its stripes, which have their places in the tables.
-ends : (b : goal.After-begin-ends) → Crossed (layout b) (start b).args.found.disk b.begin.result.low b.begin.result.high
-ends b = crossed (numbered_two (start b).requires.0) (start b).requires.1.1.0.disk b.begin.ensures.0
+ends : (b : goal.After-begin-ends) → Crossed (layout b) b.before.args.found.disk b.begin.result.low b.begin.result.high
+ends b = crossed (numbered_two b.before.requires.0) b.before.requires.1.1.0.disk b.begin.ensures.0
 
 end-places : (b : goal.After-begin-ends) → (b.begin.result.low < word_stripes) × (b.begin.result.high < word_stripes)
 end-places b =
-    let few = stripes_few (start b).requires.0 in
+    let few = stripes_few b.before.requires.0 in
     (omega (arith, (ends b).low_bound), omega (arith, (ends b).high_bound))
 
 -- The disks of the working map below a number have been gone over.
 abbrev Over : (b : goal.After-begin-ends) → (near levels set : List ℕ) → (n many : ℕ) → Type 0
 Over b near levels set n many =
-    Choosing (layout b) b.begin.result.low b.begin.result.high (start b).args.found.others (map b) (start b).args.stripes.now
+    Choosing (layout b) b.begin.result.low b.begin.result.high b.before.args.found.others (map b) b.before.args.stripes.now
     near levels set n many
 
 -- The search for the next one passes over numbers that are none.
 over : (b : goal.After-begin-ends) {near levels set : List ℕ} {n many d : ℕ} → Over b near levels set n many → d ≡ next_erased (map b) n
     → Over b near levels set d many × (d < length (map b) → erasures (map b) d ≡ true)
 over b h is = (
-  choosing_over (layout b) (numbered_two (start b).requires.0) (stripes_few (start b).requires.0) h (next_passed _ _ is h.fits),
+  choosing_over (layout b) (numbered_two b.before.requires.0) (stripes_few b.before.requires.0) h (next_passed _ _ is h.fits),
   next_erased_lem _ _ is,
 )
 
 pub loop-d-init : goal.loop-d-init
 loop-d-init c =
-    let s = start c.before.before.before.before.before.before.before.before.before.before.before in
     let wipe = c.wipe in
     over (goal.at.loop-d-init c).After-begin-ends
-    (choosing_start (layout c.before.before.before.before.before.before.before.before.before.before.before) (numbered_two s.pre.0) (stripes_few s.pre.0) s.pre.1.1.0 (ends (goal.at.loop-d-init c).After-begin-ends) c.begin-ends.ensures.measured
-    c.begin-ends.ensures.left (ap erasures wipe.ensures ∙ wiped_all _) (wipe.auto.a ∙ s.pre.1.1.1.1 ∙ sym c.begin-ends.auto.near.1.0))
+    (choosing_start (layout c.before.before.before.before.before.before.before.before.before.before.before) (numbered_two c.requires.numbered) (stripes_few c.requires.numbered) c.requires.nearest (ends (goal.at.loop-d-init c).After-begin-ends) c.begin-ends.ensures.measured
+    c.begin-ends.ensures.left (ap erasures wipe.ensures ∙ wiped_all _) (wipe.auto.a ∙ c.requires.set_len ∙ sym c.begin-ends.auto.near.1.0))
     c.next_erased-d.ensures
 
-abbrev begun : goal.At-loop-d → goal.After-begin-ends
-begun l = l.before.before.before.before.before.before.before.before.before.before.before.before
-
 -- The disk of a turn is erased.
-erased : (t : goal.In-loop-d) → erasures (map (begun t.before)) t.before.loop.d ≡ true
+erased : (t : goal.In-loop-d) → erasures (map t.before) t.before.loop.d ≡ true
 erased t = t.before.loop.invariant.1 t.loop-test.true
 
 pub stripes_of-pair-requires-clause-table : goal.stripes_of-pair-requires-clause-table
@@ -91,15 +83,15 @@ stripes_of-pair-requires-clause-disk_value c = erased (goal.at.stripes_of-pair-r
 -- The disk with its stripes, which have their places in the tables.
 pair : (p : goal.After-stripes_of-pair) →
     let l = p.before.before.before in
-    Crossed (layout (begun l)) l.loop.d p.stripes-of.result.low p.stripes-of.result.high
+    Crossed (layout l.before) l.loop.d p.stripes-of.result.low p.stripes-of.result.high
 pair p =
     let t = p.before.before in
     let l = t.before in
-    erased_crossed l.loop.invariant.0.measured.table _ (erased t) (numbered_two (start (begun l)).pre.0) p.stripes-of.ensures
+    erased_crossed l.loop.invariant.0.measured.table _ (erased t) (numbered_two l.before.pre.0) p.stripes-of.ensures
 
 places : (p : goal.After-stripes_of-pair) → (p.stripes-of.result.low < word_stripes) × (p.stripes-of.result.high < word_stripes)
 places p =
-    let few = stripes_few (start (begun p.before.before.before)).pre.0 in
+    let few = stripes_few p.before.pre.0 in
     (omega (arith, (pair p).low_bound), omega (arith, (pair p).high_bound))
 
 pub level_of-level-requires : goal.level_of-level-requires
@@ -113,28 +105,25 @@ bounds-set-d c =
 
 pub overflow_add-chosen : goal.overflow_add-chosen
 overflow_add-chosen c =
-    let b = begun c.before.before.before.before.before.before.before in
-    omega (arith, c.loop-d-test.true, choosing_few c.loop-d.invariant.0, b.begin.kept.1.1.0, (start b).good.1.1.0.0)
+    omega (arith, c.loop-d-test.true, choosing_few c.loop-d.invariant.0, c.begin-ends.kept.1.1.0, c.good.1.1.0.0)
 
 pub narrow-requires : goal.narrow-requires
 narrow-requires c =
-    let b = begun c.before.before.before.before.before.before.before.before.before.before in
     let now = c.loop-d.invariant.0.measured in
     record {
       near_len = now.neighbours.room;
       levelled = now.levelled;
-      low_lt_word_stripes = (end-places b).0;
-      high_lt_word_stripes = (end-places b).1;
+      low_lt_word_stripes = (end-places (goal.at.narrow-requires c).After-begin-ends).0;
+      high_lt_word_stripes = (end-places (goal.at.narrow-requires c).After-begin-ends).1;
       low_lt_word_stripes_2 = (places (goal.at.narrow-requires c).After-stripes_of-pair).0;
       high_lt_word_stripes_2 = (places (goal.at.narrow-requires c).After-stripes_of-pair).1;
-      others_lt_word_stripes = (start b).pre.1.1.0.few;
+      others_lt_word_stripes = c.requires.nearest.few;
       level_lt_others = c.if-level-others.true;
     }
 
 pub overflow_add-d : goal.overflow_add-d
 overflow_add-d c =
-    let b = begun c.before.before.before.before.before.before.before.before in
-    omega (arith, c.loop-d-test.true, b.begin.kept.1.1.0, (start b).good.1.1.0.0)
+    omega (arith, c.loop-d-test.true, c.begin-ends.kept.1.1.0, c.good.1.1.0.0)
 
 pub loop-d-smaller : goal.loop-d-smaller
 loop-d-smaller c =
@@ -145,37 +134,34 @@ loop-d-smaller c =
 pub loop-d-preserved : goal.loop-d-preserved
 loop-d-preserved c =
     let h = c.loop-d.invariant.0 in
-    let b = begun c.before.before.before.before.before.before.before.before.before in
-    let numbered = (start b).pre.0 in
+    let numbered = c.requires.numbered in
     let two = numbered_two numbered in
     let room = stripes_few numbered in
     let is = c.level_of-level.ensures in
-    over b
+    over (goal.at.loop-d-preserved c).After-begin-ends
     (⊎_elim
     (λ (if1, _, _, _, narrow, _, _, _, near, set, levels, chosen).
     rw (near, set, levels, chosen)
-    (choosing_take (layout b) two room (grid-apart numbered) h (pair (goal.at.loop-d-preserved c).After-stripes_of-pair) is if1.taken narrow.ensures.0 narrow.ensures.1))
+    (choosing_take (layout c.before.before.before.before.before.before.before.before.before.before) two room (grid-apart numbered) h (pair (goal.at.loop-d-preserved c).After-stripes_of-pair) is if1.taken narrow.ensures.0 narrow.ensures.1))
     (λ (if1, near, set, levels, chosen).
-    rw (near, set, levels, chosen) (choosing_pass (layout b) two room (grid-apart numbered) h (pair (goal.at.loop-d-preserved c).After-stripes_of-pair) is if1.left))
+    rw (near, set, levels, chosen) (choosing_pass (layout c.before.before.before.before.before.before.before.before.before.before) two room (grid-apart numbered) h (pair (goal.at.loop-d-preserved c).After-stripes_of-pair) is if1.left))
     c.if-level-others.branch)
     c.next_erased-d-in-loop-d.ensures
 
 -- In the end all disks of the way are chosen: the working map has no more disks, or so many are chosen.
 done : (c : goal.Left-loop-d) →
-    let b = begun c.before in
-    AllChosen (layout b) (erasures (map b)) b.begin.result.low b.begin.result.high (start b).args.found.others c.loop-d-test.set
-    × (length c.loop-d-test.set ≡ length (map b))
+    AllChosen (layout c.before) (erasures (map c.before)) c.begin-ends.result.low c.begin-ends.result.high c.args.found.others c.loop-d-test.set
+    × (length c.loop-d-test.set ≡ length (map c.before))
 done c =
     let h = c.loop-d.invariant.0 in
-    let b = begun c.before in
-    let numbered = (start b).pre.0 in
+    let numbered = c.requires.numbered in
     let two = numbered_two numbered in
     let room = stripes_few numbered in
-    ⊎_elim (λ (test, set, _). (rw set (choosing_end (layout b) two room h test.left), ap length set ∙ h.long))
+    ⊎_elim (λ (test, set, _). (rw set (choosing_end (layout c.before.before) two room h test.left), ap length set ∙ h.long))
     (λ (test, stripes-of-arg, stripes-of, _, _, level-of, if1, if2, set, _).
     let p : goal.After-stripes_of-pair =
     record { before = record { before = record { before = c.before; loop-test = test }; stripes-of-arg = stripes-of-arg }; stripes-of = stripes-of } in (
-      rw set (choosing_last (layout b) two room (grid-apart numbered) h (pair p) level-of.ensures if1.taken if2.taken),
+      rw set (choosing_last (layout c.before.before) two room (grid-apart numbered) h (pair p) level-of.ensures if1.taken if2.taken),
       ap length set ∙ length-set c.loop-d.set _ 1 ∙ h.long,
     ))
     c.loop-d-test.branch
@@ -183,13 +169,11 @@ done c =
 pub bounds-set-disk : goal.bounds-set-disk
 bounds-set-disk c =
     let fits = c.loop-d.invariant.0.measured.table.disks_fit in
-    omega (arith, (ends (begun c.before)).disk, (done (goal.at.bounds-set-disk c).Left-loop-d).1)
+    omega (arith, (ends (goal.at.bounds-set-disk c).After-begin-ends).disk, (done (goal.at.bounds-set-disk c).Left-loop-d).1)
 
 pub returns : goal.returns
 returns c =
-    let b = begun c.before in
-    let s = start b in
     let fits = c.loop-d.invariant.0.measured.table.disks_fit in
     let (all, long) = done (goal.at.returns c).Left-loop-d in
-    chosen-smallest (layout b) (numbered_two s.pre.0) (stripes_few s.pre.0) s.pre.1.1.0 (ends b) b.begin.ensures.1.0 all
+    chosen-smallest (layout c.before) (numbered_two c.requires.numbered) (stripes_few c.requires.numbered) c.requires.nearest (ends (goal.at.returns c).After-begin-ends) c.begin-ends.ensures.left all
     (omega arith)

@@ -21,42 +21,37 @@ use Rattle.smallest.proofs.search.search.Goals as goal
 pub loop-others-init : goal.loop-others-init
 loop-others-init c = (searched_none _ c.load.ensures, omega arith)
 
--- Where the code began.
-abbrev start : goal.At-loop-others → goal.Start
-start l = l.before.before.before.before.before.before.before.before
-
 -- The disks that a turn passes over.
 passed : (c : goal.After-next_erased-d) →
-    Passed (start c.before.before).args.work.now c.loop-others.from c.next_erased-d.result
+    Passed c.args.work.now c.loop-others.from c.next_erased-d.result
 passed c = next_passed _ _ c.next_erased-d.ensures c.loop-others.invariant.1
 
 over : (c : goal.After-next_erased-d) →
-    let a = (start c.before.before).args in
+    let a = c.args in
     Searched (layout_of a.size a.base) (erasures a.work.now) c.next_erased-d.result c.loop-others.near c.loop-others.disk c.loop-others.others
 over c = searched_over c.loop-others.invariant.0 (passed c).after (passed c).none
 
 -- The disk of a turn is erased.
-erased : (c : goal.Else-work-d) → erasures (start c.before.before.before).args.work.now c.next_erased-d.result ≡ true
+erased : (c : goal.Else-work-d) → erasures c.args.work.now c.next_erased-d.result ≡ true
 erased c = next_erased_lem _ _ c.next_erased-d.ensures (search rules)
 
 pub stripes_of-pair-requires-clause-table : goal.stripes_of-pair-requires-clause-table
-stripes_of-pair-requires-clause-table c = (start c.before.before.before).pre.1.0
+stripes_of-pair-requires-clause-table c = c.requires.table_2
 
 pub stripes_of-pair-requires-clause-disk_value : goal.stripes_of-pair-requires-clause-disk_value
 stripes_of-pair-requires-clause-disk_value c = erased (goal.at.stripes_of-pair-requires-clause-disk_value c).Else-work-d
 
 -- The disk with its stripes.
 pair : (c : goal.After-stripes_of-pair) →
-    let a = (start c.before.before.before.before).args in
+    let a = c.args in
     Crossed (layout_of a.size a.base) c.next_erased-d.result c.stripes_of-pair.result.low c.stripes_of-pair.result.high
 pair c =
-    let s = start c.before.before.before.before in
-    erased_crossed s.pre.1.0 _ (erased c.before) (numbered_two s.pre.0) c.stripes_of-pair.ensures
+    erased_crossed c.requires.table_2 _ (erased c.before) (numbered_two c.requires.numbered) c.stripes_of-pair.ensures
 
 -- Its stripes have their places in the table.
 places : (c : goal.After-stripes_of-pair) → (c.stripes_of-pair.result.low < word_stripes) × (c.stripes_of-pair.result.high < word_stripes)
 places c =
-    let few = stripes_few (start c.before.before.before.before).pre.0 in
+    let few = stripes_few c.requires.numbered in
     (omega (arith, (pair c).low_bound), omega (arith, (pair c).high_bound))
 
 pub toggle-requires-clause-near_len : goal.toggle-requires-clause-near_len
@@ -88,7 +83,7 @@ loop-others-smaller c =
 
 pub loop-others-preserved : goal.loop-others-preserved
 loop-others-preserved c =
-    let s = (start c.before.before.before.before.before.before.before.before.before.before.before).pre.0 in
+    let s = c.requires.numbered in
     let toggle = c.toggle in (
       searched_next (numbered_two s) (grid-apart s) (stripes_few s) (over (goal.at.loop-others-preserved c).After-next_erased-d) (erased (goal.at.loop-others-preserved c).Else-work-d) (pair (goal.at.loop-others-preserved c).After-stripes_of-pair) toggle.ensures
           (omega (arith, c.loop-others-test.true)) c.distance-steps.ensures
@@ -98,17 +93,17 @@ loop-others-preserved c =
 
 pub returns-after-loop-others : goal.returns-after-loop-others
 returns-after-loop-others c =
-    let s = (start c.before).pre in
+    let s = c.requires in
     let done = c.loop-others.invariant.0 in
     record {
-      nearest = searched_end s.0 _ s.1.1.0 s.1.0.inside done (inl c.loop-others-test.false);
+      nearest = searched_end s.numbered _ s.work_value s.table_2.inside done (inl c.loop-others-test.false);
       table = done.table;
     }
 
 pub returns-then-work-d : goal.returns-then-work-d
 returns-then-work-d c =
-    let s = (start c.before.before.before).requires in
+    let s = c.requires in
     record {
-      nearest = searched_end s.0 _ s.1.1.0 s.1.0.inside (over (goal.at.returns-then-work-d c).After-next_erased-d) (inr (omega (arith, c.if-work-d.true, s.1.0.disks_fit)));
+      nearest = searched_end s.numbered _ s.work_value s.table_2.inside (over (goal.at.returns-then-work-d c).After-next_erased-d) (inr (omega (arith, c.if-work-d.true, s.table_2.disks_fit)));
       table = c.loop-others.invariant.0.table;
     }

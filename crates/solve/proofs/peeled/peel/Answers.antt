@@ -42,14 +42,10 @@ peel-made-requires c =
       capacity_in_bounds = p.room.list_fits;
     }
 
--- Where the code began, from the peeling on.
-abbrev start : goal.After-peel-made → goal.Start
-start p = p.before.before.before.before.before.before.before.before.before.before.before.before.before.before.before.before.before.before.before.before.before.before
-
 -- No disk's number is the map's length, so none is held back.
-no_disk : (p : goal.After-peel-made) → (layout_of (start p).args.size (start p).args.base).disks ≤ length (start p).args.map.now
+no_disk : (p : goal.After-peel-made) → (layout_of p.before.args.size p.before.args.base).disks ≤ length p.before.args.map.now
 no_disk p =
-    let s = start p in
+    let s = p.before in
     let long = map-disks _ s.args.base _ s.pre.1.0 in
     omega arith
 

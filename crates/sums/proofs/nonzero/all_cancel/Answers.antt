@@ -4,8 +4,11 @@ use Rattle.model.specs.Grid.{layout_of}
 use Rattle.sums.proofs.Stripes.{none-consistent}
 use Rattle.sums.proofs.nonzero.all_cancel.Goals as goal
 
-pub lowest_nonzero-requires : goal.lowest_nonzero-requires
-lowest_nonzero-requires c = c.requires
+pub lowest_nonzero-requires-clause-numbered : goal.lowest_nonzero-requires-clause-numbered
+lowest_nonzero-requires-clause-numbered c = c.requires.numbered
+
+pub lowest_nonzero-requires-clause-held : goal.lowest_nonzero-requires-clause-held
+lowest_nonzero-requires-clause-held c = c.requires.held
 
 pub bound-requires : goal.bound-requires
 bound-requires c = c.requires.numbered

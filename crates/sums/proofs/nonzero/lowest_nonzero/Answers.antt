@@ -8,8 +8,11 @@ use Rattle.sums.specs.Held.{nonzero}
 use Rattle.sums.proofs.Stripes.{row-answer, column-answer}
 use Rattle.sums.proofs.nonzero.lowest_nonzero.Goals as goal
 
-pub lowest_row-row-requires : goal.lowest_row-row-requires
-lowest_row-row-requires c = c.requires
+pub lowest_row-row-requires-clause-numbered : goal.lowest_row-row-requires-clause-numbered
+lowest_row-row-requires-clause-numbered c = c.requires.numbered
+
+pub lowest_row-row-requires-clause-held : goal.lowest_row-row-requires-clause-held
+lowest_row-row-requires-clause-held c = c.requires.held
 
 pub down-requires : goal.down-requires
 down-requires c = c.requires.numbered.fits

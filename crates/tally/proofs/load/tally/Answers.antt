@@ -24,57 +24,50 @@ loop-size-init c =
     let few = stripes_few c.requires.numbered in
     (search rules, search rules, rw c.wipe.ensures (loaded_none _ _ _ _ (search rules)), omega arith)
 
--- Where the code began.
-abbrev start : goal.At-loop-size → goal.Start
-start l = l.before.before.before.before.before.before.before.before
-
 -- The disks that a turn passes over.
-passed : (c : goal.After-next_erased-d) → Passed (start c.before).args.work.now c.loop-size.from c.next_erased-d.result
+passed : (c : goal.After-next_erased-d) → Passed c.args.work.now c.loop-size.from c.next_erased-d.result
 passed c = next_passed _ _ c.next_erased-d.ensures c.loop-size.invariant.3
 
 over : (c : goal.After-next_erased-d) →
-    Loaded (layout_of (start c.before).args.size (start c.before).args.base) (start c.before).args.work.now c.next_erased-d.result c.loop-size.stripes
+    Loaded (layout_of c.args.size c.args.base) c.args.work.now c.next_erased-d.result c.loop-size.stripes
     c.loop-size.counts c.loop-size.number
 over c = loaded_over c.loop-size.invariant.2 (passed c)
 
 pub returns-then-work-d : goal.returns-then-work-d
 returns-then-work-d c =
-    let s = start c.before.before in
-    let same = layout-disks s.args.size s.args.base in
-    let all = loaded_all (over (goal.at.returns-then-work-d c).After-next_erased-d) (omega arith) (search rules) (λ i h. s.pre.1.1.0 i (omega arith)) c.if-work-d.true in
+    let same = layout-disks c.args.size c.args.base in
+    let all = loaded_all (over (goal.at.returns-then-work-d c).After-next_erased-d) (omega arith) (search rules) (λ i h. c.requires.by_index i (omega arith)) c.if-work-d.true in
     record {
-      number = all.0 ∙ ap (λ (n : ℕ). count n (erasures s.args.work.now)) same;
+      number = all.0 ∙ ap (λ (n : ℕ). count n (erasures c.args.work.now)) same;
       tallied = all.1;
     }
 
 -- The disk of a turn is erased.
-erased : (c : goal.Else-work-d) → erasures (start c.before.before).args.work.now c.next_erased-d.result ≡ true
+erased : (c : goal.Else-work-d) → erasures c.args.work.now c.next_erased-d.result ≡ true
 erased c = next_erased_lem _ _ c.next_erased-d.ensures (search rules)
 
 pub stripes_of-pair-requires : goal.stripes_of-pair-requires
 stripes_of-pair-requires c =
-    let s = start c.before.before in
     record {
-      numbered = s.pre.0;
-      disk_bound = is_inside _ (erasures s.args.work.now) s.pre.1.1.0 _ (erased (goal.at.stripes_of-pair-requires c).Else-work-d);
+      numbered = c.requires.numbered;
+      disk_bound = is_inside _ (erasures c.args.work.now) c.requires.by_index _ (erased (goal.at.stripes_of-pair-requires c).Else-work-d);
     }
 
 -- Its stripes, and its place in the table.
 pair : (c : goal.After-stripes_of-pair) →
-    let a = (start c.before.before.before).args in
+    let a = c.args in
     Crossed (layout_of a.size a.base) c.next_erased-d.result c.stripes_of-pair.result.low c.stripes_of-pair.result.high
 pair c =
-    let s = start c.before.before.before in
-    let same = layout-disks s.args.size s.args.base in
-    let inside = (stripes_of-pair-requires c.before tt).1 in
-    crossed (numbered_two s.pre.0) (omega arith) c.stripes_of-pair.ensures
+    let same = layout-disks c.args.size c.args.base in
+    let inside = (stripes_of-pair-requires c.before).1 in
+    crossed (numbered_two c.requires.numbered) (omega arith) c.stripes_of-pair.ensures
 
 place : (c : goal.Else-work-d) → 2 * c.next_erased-d.result + 1 < length c.loop-size.stripes
-place c = omega (arith, c.if-work-d.false, c.loop-size.invariant.0, (start c.before.before).pre.1.1.1.0)
+place c = omega (arith, c.if-work-d.false, c.loop-size.invariant.0, c.requires.work_in_bounds)
 
 pub enter-requires : goal.enter-requires
 enter-requires c =
-    let few = stripes_few (start c.before.before.before.before).pre.0 in
+    let few = stripes_few c.requires.numbered in
     let x = pair (goal.at.enter-requires c).After-stripes_of-pair in
     record {
       disk_in_bounds = place (goal.at.enter-requires c).Else-work-d;
@@ -84,16 +77,24 @@ enter-requires c =
 
 pub raise-requires : goal.raise-requires
 raise-requires c =
-    low-room (over (goal.at.raise-requires c).After-next_erased-d) (erased (goal.at.raise-requires c).Else-work-d) (pair (goal.at.raise-requires c).After-stripes_of-pair) (held-few (start c.before.before.before.before.before.before.before.before).pre.0)
+    let (h0, h1) = low-room (over (goal.at.raise-requires c).After-next_erased-d) (erased (goal.at.raise-requires c).Else-work-d) (pair (goal.at.raise-requires c).After-stripes_of-pair) (held-few c.requires.numbered) in
+    record {
+      stripe_in_bounds = h0;
+      stripe_bound = h1;
+    }
 
 pub raise-requires-in-loop-size : goal.raise-requires-in-loop-size
 raise-requires-in-loop-size c =
-    high-room (over (goal.at.raise-requires-in-loop-size c).After-next_erased-d) (erased (goal.at.raise-requires-in-loop-size c).Else-work-d) (pair (goal.at.raise-requires-in-loop-size c).After-stripes_of-pair) (held-few (start c.before.before.before.before.before.before.before.before.before.before.before.before).pre.0) c.raise.ensures
+    let (h0, h1) = high-room (over (goal.at.raise-requires-in-loop-size c).After-next_erased-d) (erased (goal.at.raise-requires-in-loop-size c).Else-work-d) (pair (goal.at.raise-requires-in-loop-size c).After-stripes_of-pair) (held-few c.requires.numbered) c.raise.ensures in
+    record {
+      stripe_in_bounds = h0;
+      stripe_bound = h1;
+    }
 
 pub overflow_add-number : goal.overflow_add-number
 overflow_add-number c =
-    let same = layout-disks (start c.before.before.before.before.before.before.before.before.before.before.before.before.before.before.before).args.size (start c.before.before.before.before.before.before.before.before.before.before.before.before.before.before.before).args.base in
-    omega (arith, loaded_few c.loop-size.invariant.2, (start c.before.before.before.before.before.before.before.before.before.before.before.before.before.before.before).requires.1.0)
+    let same = layout-disks c.args.size c.args.base in
+    omega (arith, loaded_few c.loop-size.invariant.2, c.requires.size_in_bounds)
 
 pub overflow_add-from : goal.overflow_add-from
 overflow_add-from c = omega (arith, c.if-work-d.false)
@@ -109,7 +110,7 @@ loop-size-preserved c =
     (
       enter.auto.stripes ∙ c.loop-size.invariant.0,
       c.raise-in-loop-size.auto.counts ∙ raise.auto.counts ∙ c.loop-size.invariant.1,
-      loaded_next (over (goal.at.loop-size-preserved c).After-next_erased-d) (erased (goal.at.loop-size-preserved c).Else-work-d) (pair (goal.at.loop-size-preserved c).After-stripes_of-pair) (held-few (start c.before.before.before.before.before.before.before.before.before.before.before.before.before.before.before).requires.0) raise.ensures (place (goal.at.loop-size-preserved c).Else-work-d) enter.ensures
+      loaded_next (over (goal.at.loop-size-preserved c).After-next_erased-d) (erased (goal.at.loop-size-preserved c).Else-work-d) (pair (goal.at.loop-size-preserved c).After-stripes_of-pair) (held-few c.requires.numbered) raise.ensures (place (goal.at.loop-size-preserved c).Else-work-d) enter.ensures
           c.raise-in-loop-size.ensures,
       omega (arith, c.if-work-d.false),
     )

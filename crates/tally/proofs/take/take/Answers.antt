@@ -28,12 +28,20 @@ bounds-work-disk c = omega (arith, (pair (goal.at.bounds-work-disk c).After-stri
 
 pub lower-requires : goal.lower-requires
 lower-requires c =
-    can_lower (pair (goal.at.lower-requires c).After-stripes_of-pair) (erasures c.args.work.now) c.requires.disk_value c.requires.tallied_2.counted
+    let (h0, h1) = can_lower (pair (goal.at.lower-requires c).After-stripes_of-pair) (erasures c.args.work.now) c.requires.disk_value c.requires.tallied_2.counted in
+    record {
+      stripe_in_bounds = h0;
+      bound = h1;
+    }
 
 pub lower-requires-2 : goal.lower-requires-2
 lower-requires-2 c =
-    can_lower_next (pair (goal.at.lower-requires-2 c).After-stripes_of-pair) (erasures c.args.work.now) c.requires.disk_value c.requires.tallied_2.counted
-    c.lower.ensures
+    let (h0, h1) = can_lower_next (pair (goal.at.lower-requires-2 c).After-stripes_of-pair) (erasures c.args.work.now) c.requires.disk_value c.requires.tallied_2.counted
+    c.lower.ensures in
+    record {
+      stripe_in_bounds = h0;
+      bound = h1;
+    }
 
 pub returns : goal.returns
 returns c =

@@ -1,4 +1,4 @@
--- `wanted::reach::find_in` meets its contract: the others are loaded and joined, and the side with fewer disks is tried first.
+-- `wanted::reach::find_in` meets its contract: the others are and.before joined, and the side with fewer disks is tried first.
 -- Assumes nothing.
 use mathlib.Core.Path.{◌≡◌, refl, ◌∙◌, ap}
 use mathlib.Core.Bool.{false}
@@ -48,72 +48,62 @@ stripes_of-pair-requires c =
       disk_bound = omega arith;
     }
 
--- What was loaded, and where the code began.
-abbrev loaded : goal.After-stripes_of-pair → goal.After-load_others
-loaded c = c.before.before.before.before.before.before.before.before.before
-
-abbrev start : goal.After-stripes_of-pair → goal.Start
-start c = (loaded c).before.before.before.before.before.before.before.before.before.before.before.before
-
 -- The disk with its stripes.
 pair : (c : goal.After-stripes_of-pair) →
-    let a = (start c).args in
+    let a = c.args in
     Crossed (layout_of a.size a.base) a.disk c.stripes_of-pair.result.low c.stripes_of-pair.result.high
 pair c =
-    let s = start c in
-    let l = inside s in
-    let long = map-disks _ s.args.base _ s.pre.1.0 in
-    crossed (numbered_two s.pre.0) (omega arith) c.stripes_of-pair.ensures
+    let l = inside c.before.before.before.before.before.before.before.before.before.before.before.before.before.before.before.before.before.before.before.before.before in
+    let long = map-disks _ c.args.base _ c.requires.map_value in
+    crossed (numbered_two c.requires.numbered) (omega arith) c.stripes_of-pair.ensures
 
 pub slice_reshared_read-number : goal.slice_reshared_read-number
 slice_reshared_read-number c =
     let low = (pair (goal.at.slice_reshared_read-number c).After-stripes_of-pair).low_bound in
-    let fit = (loaded c.before.before.before).load-others.ensures.parted.stripes_fit in
+    let fit = c.load_others.ensures.parted.stripes_fit in
     omega arith
 
 pub slice_reshared_read-number-2 : goal.slice_reshared_read-number-2
 slice_reshared_read-number-2 c =
     let high = (pair (goal.at.slice_reshared_read-number-2 c).After-stripes_of-pair).high_bound in
-    let fit = (loaded c.before.before.before.before.before.before.before).load-others.ensures.parted.stripes_fit in
+    let fit = c.load_others.ensures.parted.stripes_fit in
     omega arith
 
 pub try_both-requires : goal.try_both-requires
 try_both-requires c =
-    let s = start c.before.before.before.before.before.before.before.before.before.before.before.before.before.before.before in
-    let k = (loaded c.before.before.before.before.before.before.before.before.before.before.before.before.before.before.before).load-others.auto in
-    let L = layout_of s.args.size s.args.base in
-    let d = s.args.disk in
+    let k = c.load_others.auto in
+    let L = layout_of c.args.size c.args.base in
+    let d = c.args.disk in
     let (low, high) = listed-on L d c.stripes_of-pair.ensures in
     let first = ⊎_elim (λ w. ap (on L d) w.1 ∙ high) (λ w. ap (on L d) w.1 ∙ low) c.if-fewer-few.branch in
     let second = ⊎_elim (λ w. ap (on L d) w.2 ∙ low) (λ w. ap (on L d) w.2 ∙ high) c.if-fewer-few.branch in
     record {
-      numbered = s.pre.0;
-      map_value = s.pre.1.0;
-      disk_value = s.pre.1.1.0;
+      numbered = c.requires.numbered;
+      map_value = c.requires.map_value;
+      disk_value = c.requires.disk_value;
       first_value = first;
       second_value = second;
-      others = (loaded c.before.before.before.before.before.before.before.before.before.before.before.before.before.before.before).load-others.ensures;
-      room = same-room s.pre.1.1.1.1.0 refl k.1.1.1.1.1.0 k.1.1.1.1.1.1.0 refl;
-      others_len = k.1.1.1.1.0 ∙ s.pre.1.1.1.1.1;
+      others = c.load_others.ensures;
+      room = same-room c.requires.room refl k.stripes.1.1.1.1.0 k.stripes.1.1.1.1.1.0 refl;
+      others_len = k.stripes.1.1.1.0 ∙ c.requires.others_len;
     }
 
 pub returns : goal.returns
 returns c =
-    let s = start c.before.before.before.before.before.before.before.before.before.before.before.before.before.before.before.before.before.before.before.before.before.before.before.before in
-    let a = s.args in
+    let a = c.args in
     let L = layout_of a.size a.base in
     let e = erasures a.map.now in
     let x = pair (goal.at.returns c).After-stripes_of-pair in
-    let o = (loaded c.before.before.before.before.before.before.before.before.before.before.before.before.before.before.before.before.before.before.before.before.before.before.before.before).load-others.ensures in
-    let two = numbered_two s.pre.0 in
-    let long = map-disks _ a.base _ s.pre.1.0 in
+    let o = c.load_others.ensures in
+    let two = numbered_two c.requires.numbered in
+    let long = map-disks _ a.base _ c.requires.map_value in
     let all = layout-disks a.size a.base in
     let out : (c.before.before.before.before.before.before.before.before.before.before.before.before.before.before.before : ℕ) → L.disks ≤ c.before.before.before.before.before.before.before.before.before.before.before.before.before.before.before → erasures a.map.now c.before.before.before.before.before.before.before.before.before.before.before.before.before.before.before ≡ false = λ c.before.before.before.before.before.before.before.before.before.before.before.before.before.before.before h. past_end a.map.now c.before.before.before.before.before.before.before.before.before.before.before.before.before.before.before (omega arith) in
-    let few = c.number-few.ensures ∙ side_number two s.pre.1.1.0 out o _ x.low_bound all in
-    let fewer = c.number-fewer.ensures ∙ side_number two s.pre.1.1.0 out o _ x.high_bound all in
+    let few = c.number-few.ensures ∙ side_number two c.requires.disk_value out o _ x.low_bound all in
+    let fewer = c.number-fewer.ensures ∙ side_number two c.requires.disk_value out o _ x.high_bound all in
     let low = listed-lower L a.disk c.stripes_of-pair.ensures in
     let high = listed-higher L two a.disk x.disk c.stripes_of-pair.ensures in
     ⊎_elim
-    (λ w. found_second two e a.disk s.pre.1.1.0 low high (omega (arith, w.0.taken, few, fewer)) (tried_at two e a.disk s.pre.1.1.0 w.1 w.2 c.try_both.ensures))
-    (λ w. found_first two e a.disk s.pre.1.1.0 low high (omega (arith, w.0.left, few, fewer)) (tried_at two e a.disk s.pre.1.1.0 w.1 w.2 c.try_both.ensures))
+    (λ w. found_second two e a.disk c.requires.disk_value low high (omega (arith, w.0.taken, few, fewer)) (tried_at two e a.disk c.requires.disk_value w.1 w.2 c.try_both.ensures))
+    (λ w. found_first two e a.disk c.requires.disk_value low high (omega (arith, w.0.left, few, fewer)) (tried_at two e a.disk c.requires.disk_value w.1 w.2 c.try_both.ensures))
     c.if-fewer-few.branch

@@ -1,4 +1,4 @@
--- `wanted::reach::try_stripe` meets its contract: the side is loaded with the disk and peeled while the disk is held back.
+-- `wanted::reach::try_stripe` meets its contract: the side is with.before the disk and peeled while the disk is held back.
 -- Assumes nothing.
 use mathlib.Core.Path.{◌≡◌, sym, ◌∙◌, ap}
 use mathlib.Core.Bool.{Bool}
@@ -17,7 +17,7 @@ use Rattle.entries.specs.Listed.{capacity}
 use Rattle.wanted.proofs.Loaded.{side_outside}
 use Rattle.wanted.proofs.Near.{sideWith}
 use Rattle.wanted.proofs.Reached.{loaded_side, held-few, tried_none, tried_list}
-use Rattle.wanted.proofs.reach.try_stripe.Goals.{After-peel-made, Start}
+use Rattle.wanted.proofs.reach.try_stripe.Goals.{After-load, After-peel-made, Start}
 use Rattle.wanted.proofs.reach.try_stripe.Goals as goal
 
 -- The disk is one of the grid, and its stripe has a place in every table.
@@ -79,22 +79,12 @@ peel-made-requires c =
       capacity_in_bounds = p.room.list_fits;
     }
 
--- Where the code began, and what was done since.
-abbrev tallied : goal.After-peel-made → goal.After-tally-erased
-tallied p = p.before.before.before.before.before.before.before.before.before
-
-abbrev loaded : goal.After-peel-made → goal.After-load
-loaded p = (tallied p).before.before.before.before.before.before
-
-abbrev start : goal.After-peel-made → goal.Start
-start p = (loaded p).before.before.before.before.before.before.before.before.before.before.before
-
 -- The stripe has a place in the counts.
-counted : (p : goal.After-peel-made) → (start p).args.stripe < length p.peel.new.1.1.1.1.1.1.0
+counted : (p : goal.After-peel-made) → p.before.args.stripe < length p.peel.new.1.1.1.1.1.1.0
 counted p =
-    let s = start p in
+    let s = p.before in
     let peeled = p.peel.auto.1.1.1.1.1.1.0 in
-    let before = (tallied p).tally.auto.1.1.1.1.0 in
+    let before = p.before.tally.auto.1.1.1.1.0 in
     let room = s.pre.1.1.1.1.1.0.stripes_fit in
     let most = stripes_few s.pre.0 in
     let low = bound s in
@@ -103,7 +93,7 @@ counted p =
 -- There are few enough repairs for one more.
 few : (p : goal.After-peel-made) → p.peel.result < capacity
 few p =
-    let s = start p in
+    let s = p.before in
     held-few _ _ s.pre.0 s.args.disk _ p.peel.ensures.0
 
 -- The side with the disk was loaded.
@@ -120,13 +110,12 @@ bounds-counts-stripe c = counted (goal.at.bounds-counts-stripe c).After-peel-mad
 
 pub returns-then-counts-stripe-ne1 : goal.returns-then-counts-stripe-ne1
 returns-then-counts-stripe-ne1 c =
-    let s = start c.before.before.before.before.before.before.before.before in
-    tried_none (numbered_two s.pre.0) (erasures s.args.map.now) s.args.disk s.pre.1.1.0 (inside s) s.args.stripe s.pre.1.1.1.0 _ (side (loaded c.before.before.before.before.before.before.before.before)) _ _ c.peel-made.ensures (counted (goal.at.returns-then-counts-stripe-ne1 c).After-peel-made) c.if-counts-stripe-ne1.true
+    tried_none (numbered_two c.requires.numbered) (erasures c.args.map.now) c.args.disk c.requires.disk_value (inside (goal.at.returns-then-counts-stripe-ne1 c).Start) c.args.stripe c.requires.stripe_value _ (side (goal.at.returns-then-counts-stripe-ne1 c).After-load) _ _ c.peel-made.ensures (counted (goal.at.returns-then-counts-stripe-ne1 c).After-peel-made) c.if-counts-stripe-ne1.true
 
 -- So there is room for the disk, and it fits a word with its stripe.
-placed : (p : goal.After-peel-made) → (p.peel.result < length p.peel.new.1.1.1.1.1.1.1.0) × (((start p).args.disk < 65536) × ((start p).args.stripe < 65536))
+placed : (p : goal.After-peel-made) → (p.peel.result < length p.peel.new.1.1.1.1.1.1.1.0) × ((p.before.args.disk < 65536) × (p.before.args.stripe < 65536))
 placed p =
-    let s = start p in
+    let s = p.before in
     let less = few p in
     let room = s.pre.1.1.1.1.1.0.list_fits in
     let same = p.peel.auto.1.1.1.1.1.1.1.0 in
@@ -138,13 +127,18 @@ placed p =
     (omega arith, (omega arith, omega arith))
 
 pub put-requires : goal.put-requires
-put-requires c = placed (goal.at.put-requires c).After-peel-made
+put-requires c =
+    let (h0, h1, h2) = placed (goal.at.put-requires c).After-peel-made in
+    record {
+      k_in_bounds = h0;
+      disk_bound = h1;
+      stripe_bound = h2;
+    }
 
 pub overflow_add-result : goal.overflow_add-result
 overflow_add-result c = let less = few (goal.at.overflow_add-result c).After-peel-made in omega arith
 
 pub returns : goal.returns
 returns c =
-    let s = start c.before.before.before.before.before.before.before.before.before.before.before.before in
     let (room, (low, high)) = placed (goal.at.returns c).After-peel-made in
-    tried_list (numbered_two s.pre.0) (erasures s.args.map.now) s.args.disk s.pre.1.1.0 (inside s) s.args.stripe s.pre.1.1.1.0 _ (side (loaded c.before.before.before.before.before.before.before.before.before.before.before.before)) _ _ c.peel-made.ensures (counted (goal.at.returns c).After-peel-made) c.if-counts-stripe-ne1.false room low high c.put.ensures
+    tried_list (numbered_two c.requires.numbered) (erasures c.args.map.now) c.args.disk c.requires.disk_value (inside (goal.at.returns c).Start) c.args.stripe c.requires.stripe_value _ (side (goal.at.returns c).After-load) _ _ c.peel-made.ensures (counted (goal.at.returns c).After-peel-made) c.if-counts-stripe-ne1.false room low high c.put.ensures

@@ -11,22 +11,17 @@ use Rattle.parts.proofs.Parted.{crossed_places, lower_crossed}
 use Rattle.wanted.proofs.side.is_in.Goals.{After-stripes_of-pair}
 use Rattle.wanted.proofs.side.is_in.Goals as goal
 
--- Where the code began.
-abbrev start : goal.After-stripes_of-pair → goal.Start
-start c = c.before.before.before.before
-
 -- The disk with its stripes.
 pair : (c : goal.After-stripes_of-pair) →
-    let a = (start c).args in
+    let a = c.args in
     Crossed (layout_of a.size a.base) a.disk c.stripes_of-pair.result.low c.stripes_of-pair.result.high
 pair c =
-    let s = start c in
-    erased_crossed s.pre.1.0 _ s.pre.1.1.0 (numbered_two s.pre.0) c.stripes_of-pair.ensures
+    erased_crossed c.requires.table _ c.requires.disk_value (numbered_two c.requires.numbered) c.stripes_of-pair.ensures
 
 pub bounds-parts-low : goal.bounds-parts-low
-bounds-parts-low c = (crossed_places (pair (goal.at.bounds-parts-low c).After-stripes_of-pair) (start c.before).requires.1.1.1).0
+bounds-parts-low c = (crossed_places (pair (goal.at.bounds-parts-low c).After-stripes_of-pair) c.requires.base_in_bounds).0
 
 pub returns : goal.returns
 returns c =
-    let a = (start c.before).args in
+    let a = c.args in
     ap (λ (s : ℕ). eqb (get_or a.parts.now s 0) a.name) (sym (lower_crossed (pair (goal.at.returns c).After-stripes_of-pair)))

@@ -22,20 +22,16 @@ copy-requires c = c.requires.map_in_bounds
 pub loop-size-init : goal.loop-size-init
 loop-size-init c = (sided_none _ _ _ _ _ c.copy.ensures, omega arith, refl)
 
--- Where the code began.
-abbrev start : goal.At-loop-size → goal.Start
-start l = l.before.before.before.before.before.before.before.before.before.before
-
 -- The length of `work` stays.
-long : (l : goal.At-loop-size) → length l.loop.work ≡ length (start l).args.work.now
+long : (l : goal.At-loop-size) → length l.loop.work ≡ length l.before.args.work.now
 long l = l.loop.invariant.2 ∙ l.before.before.before.copy.auto.1.0
 
 -- The disks that a turn passes over.
-passed : (c : goal.After-next_erased-d) → Passed (start c.before).args.others.now c.loop-size.from c.next_erased-d.result
+passed : (c : goal.After-next_erased-d) → Passed c.args.others.now c.loop-size.from c.next_erased-d.result
 passed c = next_passed _ _ c.next_erased-d.ensures c.loop-size.invariant.1
 
 over : (c : goal.After-next_erased-d) →
-    let a = (start c.before).args in
+    let a = c.args in
     Sided (layout_of a.size a.base) a.map.now a.others.now a.parts.now a.name c.next_erased-d.result c.loop-size.work
 over c = sided_over c.loop-size.invariant.0 (passed c)
 
@@ -43,22 +39,24 @@ pub returns-then-others-d : goal.returns-then-others-d
 returns-then-others-d c = sided_all (over (goal.at.returns-then-others-d c).After-next_erased-d) c.if-others-d.true
 
 -- The disk of a turn is erased.
-erased : (c : goal.Else-others-d) → erasures (start c.before.before).args.others.now c.next_erased-d.result ≡ true
+erased : (c : goal.Else-others-d) → erasures c.args.others.now c.next_erased-d.result ≡ true
 erased c = next_erased_lem _ _ c.next_erased-d.ensures (search rules)
 
-pub is_in-requires : goal.is_in-requires
-is_in-requires c =
-    let s = start c.before.before in
-    record {
-      numbered = s.pre.0;
-      table = s.pre.1.0;
-      disk_value = erased (goal.at.is_in-requires c).Else-others-d;
-      base_in_bounds = s.pre.1.1.0;
-    }
+pub is_in-requires-clause-numbered : goal.is_in-requires-clause-numbered
+is_in-requires-clause-numbered c = c.requires.numbered
+
+pub is_in-requires-clause-table : goal.is_in-requires-clause-table
+is_in-requires-clause-table c = c.requires.table
+
+pub is_in-requires-clause-disk_value : goal.is_in-requires-clause-disk_value
+is_in-requires-clause-disk_value c = erased (goal.at.is_in-requires-clause-disk_value c).Else-others-d
+
+pub is_in-requires-clause-base_in_bounds : goal.is_in-requires-clause-base_in_bounds
+is_in-requires-clause-base_in_bounds c = c.requires.base_in_bounds
 
 pub bounds-work-d : goal.bounds-work-d
 bounds-work-d c =
-    omega (arith, c.if-others-d.false, long (goal.at.bounds-work-d c).At-loop-size, (start c.before.before.before.before).requires.1.1.1.1.0)
+    omega (arith, c.if-others-d.false, long (goal.at.bounds-work-d c).At-loop-size, c.requires.others_in_bounds)
 
 pub overflow_add-from : goal.overflow_add-from
 overflow_add-from c = omega (arith, c.if-others-d.false)
@@ -74,5 +72,5 @@ came c = ⊎_elim (λ w. inl (not-true _ w.0.taken, w.1)) (λ w. inr (not-false 
 
 pub loop-size-preserved : goal.loop-size-preserved
 loop-size-preserved c =
-    let (next, same) = sided_next (over (goal.at.loop-size-preserved c).After-next_erased-d) (erased (goal.at.loop-size-preserved c).Else-others-d) ((start c.before.before.before.before).requires.1.1.1.1.1 _ (erased (goal.at.loop-size-preserved c).Else-others-d)) c.is_in.ensures (came (goal.at.loop-size-preserved c).Joined-not-is_in) in
+    let (next, same) = sided_next (over (goal.at.loop-size-preserved c).After-next_erased-d) (erased (goal.at.loop-size-preserved c).Else-others-d) (c.requires.by_index _ (erased (goal.at.loop-size-preserved c).Else-others-d)) c.is_in.ensures (came (goal.at.loop-size-preserved c).Joined-not-is_in) in
     (next, omega (arith, c.if-others-d.false), same ∙ c.loop-size.invariant.2)

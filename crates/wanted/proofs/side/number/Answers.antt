@@ -21,46 +21,42 @@ use Rattle.wanted.proofs.side.number.Goals as goal
 pub loop-size-init : goal.loop-size-init
 loop-size-init c = (told_none _ _ _ _, omega arith)
 
--- Where the code began.
-abbrev start : goal.At-loop-size → goal.Start
-start l = l.before.before.before.before
-
 -- The disks that a turn passes over.
-passed : (c : goal.After-next_erased-d) → Passed (start c.before).args.others.now c.loop-size.from c.next_erased-d.result
+passed : (c : goal.After-next_erased-d) → Passed c.args.others.now c.loop-size.from c.next_erased-d.result
 passed c = next_passed _ _ c.next_erased-d.ensures c.loop-size.invariant.1
 
 over : (c : goal.After-next_erased-d) →
-    let a = (start c.before).args in
+    let a = c.args in
     Told (layout_of a.size a.base) a.others.now a.parts.now a.name c.next_erased-d.result c.loop-size.number
 over c = told_over c.loop-size.invariant.0 (passed c)
 
 pub returns-then-others-d : goal.returns-then-others-d
 returns-then-others-d c =
-    let s = start c.before.before in
-    let a = s.args in
-    told_all (over (goal.at.returns-then-others-d c).After-next_erased-d) s.pre.1.0 c.if-others-d.true
+    let a = c.args in
+    told_all (over (goal.at.returns-then-others-d c).After-next_erased-d) c.requires.table c.if-others-d.true
     ∙ ap (λ (n : ℕ). count n (other_in (layout_of a.size a.base) a.others.now a.parts.now a.name)) (layout-disks a.size a.base)
 
 -- The disk of a turn is erased.
-erased : (c : goal.Else-others-d) → erasures (start c.before.before).args.others.now c.next_erased-d.result ≡ true
+erased : (c : goal.Else-others-d) → erasures c.args.others.now c.next_erased-d.result ≡ true
 erased c = next_erased_lem _ _ c.next_erased-d.ensures (search rules)
 
-pub is_in-requires : goal.is_in-requires
-is_in-requires c =
-    let s = start c.before.before in
-    record {
-      numbered = s.pre.0;
-      table = s.pre.1.0;
-      disk_value = erased (goal.at.is_in-requires c).Else-others-d;
-      base_in_bounds = s.pre.1.1;
-    }
+pub is_in-requires-clause-numbered : goal.is_in-requires-clause-numbered
+is_in-requires-clause-numbered c = c.requires.numbered
+
+pub is_in-requires-clause-table : goal.is_in-requires-clause-table
+is_in-requires-clause-table c = c.requires.table
+
+pub is_in-requires-clause-disk_value : goal.is_in-requires-clause-disk_value
+is_in-requires-clause-disk_value c = erased (goal.at.is_in-requires-clause-disk_value c).Else-others-d
+
+pub is_in-requires-clause-base_in_bounds : goal.is_in-requires-clause-base_in_bounds
+is_in-requires-clause-base_in_bounds c = c.requires.base_in_bounds
 
 pub overflow_add-number : goal.overflow_add-number
 overflow_add-number c =
-    let s = start c.before.before.before.before in
-    let inside = erased-inside s.pre.1.0 _ (erased (goal.at.overflow_add-number c).Else-others-d) in
-    let same = layout-disks s.args.size s.args.base in
-    let most = disks-bound s.args.size (size_fits_lem s.args.size s.pre.0.fits) in
+    let inside = erased-inside c.requires.table _ (erased (goal.at.overflow_add-number c).Else-others-d) in
+    let same = layout-disks c.args.size c.args.base in
+    let most = disks-bound c.args.size (size_fits_lem c.args.size c.requires.numbered.fits) in
     omega (arith, told_few (over (goal.at.overflow_add-number c).After-next_erased-d))
 
 pub overflow_add-from : goal.overflow_add-from

@@ -4,6 +4,7 @@ use native.Mathlib.Nat.{le_of_lt, le_of_eq}
 use native.Mathlib.Omega.{arith}
 use Rattle.model.proofs.Grid.{across_positive, disk-below, data_row, data_column, data_below}
 use Rattle.write.proofs.Turns.{start-bound}
+use Rattle.write.proofs.store.find_places.Goals.{After-across-across, After-disk_at, After-disk_at-2}
 use Rattle.write.proofs.store.find_places.Goals as goal
 
 pub overflow_mul-result : goal.overflow_mul-result
@@ -21,7 +22,7 @@ disk_at-requires c =
     }
 
 pub overflow_mul-result-2 : goal.overflow_mul-result-2
-overflow_mul-result-2 c = let (size, (row, column)) = disk_at-requires c.before tt in omega (arith, start-bound _ _ c.requires.size_value c.requires.block_value c.disk_at.result (rw c.disk_at.ensures (disk-below _ _ _ row column)))
+overflow_mul-result-2 c = let (size, (row, column)) = disk_at-requires (goal.at.overflow_mul-result-2 c).After-across-across in omega (arith, start-bound _ _ c.requires.size_value c.requires.block_value c.disk_at.result (rw c.disk_at.ensures (disk-below _ _ _ row column)))
 
 pub nonzero_rem-disk : goal.nonzero_rem-disk
 nonzero_rem-disk c = omega (arith, across_positive c.args.size)
@@ -35,11 +36,11 @@ disk_at-requires-2 c =
     }
 
 pub overflow_mul-result-3 : goal.overflow_mul-result-3
-overflow_mul-result-3 c = let (size, (row, column)) = disk_at-requires-2 c.before tt in omega (arith, start-bound _ _ c.requires.size_value c.requires.block_value c.disk_at-2.result (rw c.disk_at-2.ensures (disk-below _ _ _ row column)))
+overflow_mul-result-3 c = let (size, (row, column)) = disk_at-requires-2 (goal.at.overflow_mul-result-3 c).After-disk_at in omega (arith, start-bound _ _ c.requires.size_value c.requires.block_value c.disk_at-2.result (rw c.disk_at-2.ensures (disk-below _ _ _ row column)))
 
 pub disk_at-requires-3 : goal.disk_at-requires-3
 disk_at-requires-3 c =
-    let (size, (row, column)) = disk_at-requires-2 c.before tt in
+    let (size, (row, column)) = disk_at-requires-2 (goal.at.disk_at-requires-3 c).After-disk_at in
     record {
       size_value = size;
       row_bound = row;
@@ -47,7 +48,7 @@ disk_at-requires-3 c =
     }
 
 pub overflow_mul-result-4 : goal.overflow_mul-result-4
-overflow_mul-result-4 c = let (size, (row, column)) = disk_at-requires-3 c.before tt in omega (arith, start-bound _ _ c.requires.size_value c.requires.block_value c.disk_at-3.result (rw c.disk_at-3.ensures (disk-below _ _ _ row column)))
+overflow_mul-result-4 c = let (size, (row, column)) = disk_at-requires-3 (goal.at.overflow_mul-result-4 c).After-disk_at-2 in omega (arith, start-bound _ _ c.requires.size_value c.requires.block_value c.disk_at-3.result (rw c.disk_at-3.ensures (disk-below _ _ _ row column)))
 
 pub returns : goal.returns
 returns c = cc

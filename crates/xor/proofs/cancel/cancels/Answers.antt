@@ -31,8 +31,11 @@ narrow c =
     zero-after (λ j. strided a.a.now j a.step a.count a.skip) a.first _ _ _ _ _ (le_refl _) (omega arith) refl (middle c.before.before)
     ∙ sym c.parts_cancel-3.ensures ∙ c.if-not-parts_cancel-3.false
 
-pub few_cancel-requires : goal.few_cancel-requires
-few_cancel-requires c = c.requires
+pub few_cancel-requires-clause-within : goal.few_cancel-requires-clause-within
+few_cancel-requires-clause-within c = c.requires.within
+
+pub few_cancel-requires-clause-len_in_bounds : goal.few_cancel-requires-clause-len_in_bounds
+few_cancel-requires-clause-len_in_bounds c = c.requires.len_in_bounds
 
 pub returns-then-len-lt16 : goal.returns-then-len-lt16
 returns-then-len-lt16 c =

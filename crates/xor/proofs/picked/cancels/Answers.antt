@@ -32,8 +32,11 @@ narrow c =
     zero-after (λ j. picked a.a.now j a.step a.list.now a.count) a.first _ _ _ _ _ (le_refl _) (omega arith) refl (middle c.before.before)
     ∙ sym c.parts_cancel-3.ensures ∙ c.if-not-parts_cancel-3.false
 
-pub few_cancel-requires : goal.few_cancel-requires
-few_cancel-requires c = c.requires
+pub few_cancel-requires-clause-chosen : goal.few_cancel-requires-clause-chosen
+few_cancel-requires-clause-chosen c = c.requires.chosen
+
+pub few_cancel-requires-clause-len_in_bounds : goal.few_cancel-requires-clause-len_in_bounds
+few_cancel-requires-clause-len_in_bounds c = c.requires.len_in_bounds
 
 pub returns-then-len-lt16 : goal.returns-then-len-lt16
 returns-then-len-lt16 c =
