@@ -11,16 +11,16 @@ use Rattle.xor.proofs.cancel.cancels.Goals.{Else-not-parts_cancel-3}
 use Rattle.xor.proofs.cancel.cancels.Goals as goal
 
 -- What has passed after the parts of 128 bytes, after those of 32, and after those of 16.
-wide : (c : goal.Else-not-parts_cancel)
+wide : (c : goal.Else-not-parts_cancel-3)
     → let a = c.args in cancelled (128 * (a.len / 128)) a.a.now a.first a.step a.count a.skip ≡ true
 wide c = sym c.parts_cancel.ensures ∙ c.if-not-parts_cancel.false
 
-middle : (c : goal.Else-not-parts_cancel-2)
+middle : (c : goal.Else-not-parts_cancel-3)
     → let a = c.args in cancelled (a.len - a.len % 32) a.a.now a.first a.step a.count a.skip ≡ true
 unfolding cancelled
 middle c =
     let a = c.args in
-    zero-after (λ j. strided a.a.now j a.step a.count a.skip) a.first _ _ _ _ _ (le_refl _) (omega arith) refl (wide c.before.before)
+    zero-after (λ j. strided a.a.now j a.step a.count a.skip) a.first _ _ _ _ _ (le_refl _) (omega arith) refl (wide c)
     ∙ sym c.parts_cancel-2.ensures ∙ c.if-not-parts_cancel-2.false
 
 narrow : (c : goal.Else-not-parts_cancel-3)
@@ -28,7 +28,7 @@ narrow : (c : goal.Else-not-parts_cancel-3)
 unfolding cancelled
 narrow c =
     let a = c.args in
-    zero-after (λ j. strided a.a.now j a.step a.count a.skip) a.first _ _ _ _ _ (le_refl _) (omega arith) refl (middle c.before.before)
+    zero-after (λ j. strided a.a.now j a.step a.count a.skip) a.first _ _ _ _ _ (le_refl _) (omega arith) refl (middle c)
     ∙ sym c.parts_cancel-3.ensures ∙ c.if-not-parts_cancel-3.false
 
 pub few_cancel-requires-clause-within : goal.few_cancel-requires-clause-within

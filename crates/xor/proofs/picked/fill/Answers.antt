@@ -11,7 +11,7 @@ use Rattle.xor.proofs.picked.fill.Goals.{After-fill_parts-3}
 use Rattle.xor.proofs.picked.fill.Goals as goal
 
 -- What is picked_filled after the parts of 32 bytes, and after those of 16.
-middle : (c : goal.After-fill_parts-2)
+middle : (c : goal.After-fill_parts-3)
     → let a = c.args in c.fill_parts-2.new.a ≡ picked_filled (a.len - a.len % 32) a.a.now a.first a.step a.list.now a.count a.target
 unfolding picked_filled
 middle c =
@@ -26,7 +26,7 @@ unfolding picked_filled
 narrow c =
     let a = c.args in
     filled_then (beside_aside c.requires) _ (a.len - a.len % 32) _ _ _ _ _ _ (omega arith) (le_refl _) (omega arith)
-    (omega arith) (middle c.before.before.before.before) refl (omega arith) c.fill_parts-3.ensures
+    (omega arith) (middle c) refl (omega arith) c.fill_parts-3.ensures
 
 pub fill_few-requires : goal.fill_few-requires
 fill_few-requires c = c.requires
