@@ -27,10 +27,10 @@ array_bytes-requires c =
 pub returns-then-len-array_bytes : goal.returns-then-len-array_bytes
 unfolding array_tests
 returns-then-len-array_bytes c =
-    let (size, block) = array_bytes-requires (goal.at.returns-then-len-array_bytes c).Else-not-block_fits in
+    let record { size_value = size; block_value = block } = array_bytes-requires (goal.at.returns-then-len-array_bytes c).Else-not-block_fits in
     sym (passes 1 _ _ size ∙ passes 2 _ _ block ∙ fails 3 _ _ (ne_eqb _ _ (λ e. c.if-len-array_bytes.true (e ∙ sym c.array_bytes.ensures))))
 
 pub returns : goal.returns
 returns c =
-    let (size, block) = array_bytes-requires (goal.at.returns c).Else-not-block_fits in
+    let record { size_value = size; block_value = block } = array_bytes-requires (goal.at.returns c).Else-not-block_fits in
     sym (array-accepted _ _ _ (record { size = size; block = block; long = c.if-len-array_bytes.false ∙ c.array_bytes.ensures }))

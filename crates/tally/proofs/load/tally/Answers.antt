@@ -59,7 +59,7 @@ pair : (c : goal.After-stripes_of-pair) →
     Crossed (layout_of a.size a.base) c.next_erased-d.result c.stripes_of-pair.result.low c.stripes_of-pair.result.high
 pair c =
     let same = layout-disks c.args.size c.args.base in
-    let inside = (stripes_of-pair-requires c.before).1 in
+    let inside = is_inside _ (erasures c.args.work.now) c.requires.by_index _ (next_erased_lem _ _ c.next_erased-d.ensures (search rules)) in
     crossed (numbered_two c.requires.numbered) (omega arith) c.stripes_of-pair.ensures
 
 place : (c : goal.Else-work-d) → 2 * c.next_erased-d.result + 1 < length c.loop-size.stripes

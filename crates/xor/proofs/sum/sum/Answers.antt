@@ -9,6 +9,7 @@ use Rattle.stripes.specs.Fold.{xsum}
 use Rattle.xor.specs.Strided.{strided}
 use Rattle.xor.proofs.Parts.{holds_none, holds_next}
 use Rattle.xor.proofs.Strided.{strided-next, strided_skip}
+use Rattle.xor.proofs.sum.sum.Goals.{then-k-skip, else-k-skip}
 use Rattle.xor.proofs.sum.sum.Goals as goal
 
 pub loop-k-init : goal.loop-k-init
@@ -29,12 +30,13 @@ loop-k-preserved c =
     let a = c.args in
     let l = c.loop-k in (
       search rules,
-      ⊎_elim
-          (λ w.
-          rw w.2
+      elim c.if-k-skip.branch [
+        then-k-skip w ↦
+          rw w.acc-is
           (holds_next a.w a.first a.a.now (l.k * a.step) _ (λ j. strided a.a.now j a.step (l.k + 1) a.skip)
-          (strided-next a.a.now a.step a.skip l.k w.0.taken) l.acc w.1.result l.invariant.1 w.1.ensures))
-          (λ w. rw w.1 (λ i b. l.invariant.1 i b ∙ sym (strided_skip a.a.now a.step a.skip l.k w.0.left (a.first + i)))) c.if-k-skip.branch,
+          (strided-next a.a.now a.step a.skip l.k w.if-k-skip.true) l.acc w.mix-more.result l.invariant.1 w.mix-more.ensures)
+        | else-k-skip w ↦ rw w.acc-is (λ i b. l.invariant.1 i b ∙ sym (strided_skip a.a.now a.step a.skip l.k w.if-k-skip.false (a.first + i)))
+      ],
     )
 
 pub returns : goal.returns
