@@ -1,5 +1,6 @@
 // Plan's order: repairs one after another, until none is allowed. One disk can be held back.
 #![tactic(auto)]
+
 ghost use Rattle.std.specs.Prelude.{◌≡◌, ◌≤◌, length};
 ghost use Rattle.stripes.specs.Fold.{count};
 ghost use Rattle.stripes.specs.Erased.{erasures, without};

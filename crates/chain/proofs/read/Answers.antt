@@ -17,7 +17,7 @@ use Rattle.chain.proofs.read.Goals as goal
 
 pub returns-then-sheet-ne-REPAIR_KIND : goal.returns-then-sheet-ne-REPAIR_KIND
 returns-then-sheet-ne-REPAIR_KIND c =
-    let (h0, h1, h2) = answered _ _ _ 10 (kind_refused narrow _ c.if-sheet-ne-REPAIR_KIND.true) (λ e. omega arith) in
+    let (h0, (h1, h2)) = answered _ _ _ 10 (kind_refused narrow _ c.if-sheet-ne-REPAIR_KIND.true) (λ e. omega arith) in
     record {
       chain = h0;
       list = h1;
@@ -66,7 +66,7 @@ loop-k-preserved c =
 
 pub returns-then-number-eq0 : goal.returns-then-number-eq0
 returns-then-number-eq0 c =
-    let (h0, h1, h2) = listed_all c.loop-k.invariant.0 c.if-number-eq0.true in
+    let (h0, (h1, h2)) = listed_all c.loop-k.invariant.0 c.if-number-eq0.true in
     record {
       chain = h0;
       list = h1;
@@ -75,7 +75,7 @@ returns-then-number-eq0 c =
 
 pub returns-then-number-gt-RECORDS : goal.returns-then-number-gt-RECORDS
 returns-then-number-gt-RECORDS c =
-    let (h0, h1, h2) = answered _ _ _ 10 (number_outside c.loop-k.invariant.0 c.if-number-gt-RECORDS.true) (λ e. omega arith) in
+    let (h0, (h1, h2)) = answered _ _ _ 10 (number_outside c.loop-k.invariant.0 c.if-number-gt-RECORDS.true) (λ e. omega arith) in
     record {
       chain = h0;
       list = h1;
@@ -85,7 +85,7 @@ returns-then-number-gt-RECORDS c =
 pub returns : goal.returns
 returns c =
     let l = c.loop-k in
-    let (h0, h1, h2) = answered _ _ _ 13
+    let (h0, (h1, h2)) = answered _ _ _ 13
     (⊎_elim (λ w. ring_read l.invariant.0 c.if-number-eq0.false c.if-number-gt-RECORDS.false w.left)
     (λ w. absurd (none_found l.invariant.0 c.if-number-eq0.false c.if-number-gt-RECORDS.false _ w.1.ensures w.2.keys2))
     c.loop-k-test.branch)

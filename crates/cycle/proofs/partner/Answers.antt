@@ -11,6 +11,7 @@ use Rattle.model.specs.Grid.{layout_of}
 use Rattle.tally.proofs.Scanned.{next_passed}
 use Rattle.cycle.proofs.Search.{Searched, lies, none_self, none_elsewhere, search_next, partner_found, partner_missed}
 use Rattle.cycle.proofs.partner.Goals.{After-next_erased-d}
+use Rattle.cycle.proofs.partner.Goals.{then-d-disk+else-either_is, else-d-disk}
 use Rattle.cycle.proofs.partner.Goals as goal
 
 pub loop-size-init : goal.loop-size-init
@@ -46,8 +47,8 @@ pub loop-size-preserved : goal.loop-size-preserved
 loop-size-preserved c = (
   search rules,
   below_more _ _ (searched (goal.at.loop-size-preserved c).After-next_erased-d).none
-      (⊎_elim
-      (λ w. none_elsewhere _ _ _ _ (lies _ _ _ w.1.ensures w.2.ensures ∙ w.3.left))
-      (λ w. none_self _ _ _ _ w.left)
-      c.if-d-disk.branch),
+      (elim c.if-d-disk.branch [
+        then-d-disk+else-either_is w ↦ none_elsewhere _ _ _ _ (lies _ _ _ w.stripes_of.ensures w.either_is.ensures ∙ w.if-either_is.false)
+        | else-d-disk w ↦ none_self _ _ _ _ w.if-d-disk.false
+      ]),
 )

@@ -9,7 +9,7 @@ use Rattle.cycle.proofs.Search.{is_other}
 use Rattle.cycle.proofs.partner.Given as goal
 
 abbrev pub invariant-loop-size : goal.invariant-loop-size
-invariant-loop-size l =    (l.from ≤ length l.set) × ((i : ℕ) → i < l.from → is_other (layout_of l.size l.base) l.set (record { l.disk = l.disk; l.stripe = l.stripe }) i ≡ false)
+invariant-loop-size l = (l.from ≤ length l.set) × ((i : ℕ) → i < l.from → is_other (layout_of l.size l.base) l.set (record { disk = l.disk; stripe = l.stripe }) i ≡ false)
 
 abbrev pub decreases-loop-size : goal.decreases-loop-size
 decreases-loop-size l = length l.set - l.from

@@ -26,8 +26,9 @@ begun c =
     (omega arith, omega arith)
 
 -- The disk that follows is one of the set.
-erased : (c : goal.After-partner-disk) → erasures c.args.set.now c.partner-disk.result ≡ true
-erased c = turn_erased (given c.before.before.before.before.before.before.before.before.before.before.before.before.before) c.loop-k.invariant.1 c.partner-disk.ensures
+erased : (c : goal.After-partner-disk) → Traced (layout_of c.args.size c.args.base) c.args.set.now c.args.stripes.now
+    → erasures c.args.set.now c.partner-disk.result ≡ true
+erased c g = turn_erased g c.loop-k.invariant.1 c.partner-disk.ensures
 
 pub stripes_of-stripe-requires-clause-table : goal.stripes_of-stripe-requires-clause-table
 stripes_of-stripe-requires-clause-table c = c.requires.table
@@ -44,7 +45,7 @@ bound-requires c = c.requires.numbered
 pub put-requires : goal.put-requires
 put-requires c =
     let (low, room) = begun (goal.at.put-requires c).In-loop-k in
-    let (h0, h1, h2) = turn_fits (given (goal.at.put-requires c).Start) c.loop-k.invariant.1 low room in
+    let (h0, (h1, h2)) = turn_fits (given (goal.at.put-requires c).Start) c.loop-k.invariant.1 low room in
     record {
       k_in_bounds = h0;
       disk_bound = h1;
@@ -67,12 +68,13 @@ pub stripes_of-requires-clause-table : goal.stripes_of-requires-clause-table
 stripes_of-requires-clause-table c = c.requires.table
 
 pub stripes_of-requires-clause-disk_value : goal.stripes_of-requires-clause-disk_value
-stripes_of-requires-clause-disk_value c = erased (goal.at.stripes_of-requires-clause-disk_value c).After-partner-disk
+stripes_of-requires-clause-disk_value c =
+    erased (goal.at.stripes_of-requires-clause-disk_value c).After-partner-disk (given (goal.at.stripes_of-requires-clause-disk_value c).Start)
 
 pub other_of-stripe-requires : goal.other_of-stripe-requires
 other_of-stripe-requires c =
     let g = given (goal.at.other_of-stripe-requires c).Start in
-    pair_rises g.two (erased-inside g.table _ (erased (goal.at.other_of-stripe-requires c).After-partner-disk)) c.stripes_of.ensures
+    pair_rises g.two (erased-inside g.table _ (erased (goal.at.other_of-stripe-requires c).After-partner-disk g)) c.stripes_of.ensures
 
 pub loop-k-smaller : goal.loop-k-smaller
 loop-k-smaller c = let h = begun (goal.at.loop-k-smaller c).In-loop-k in omega arith

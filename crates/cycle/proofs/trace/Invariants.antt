@@ -8,7 +8,9 @@ use Rattle.cycle.proofs.Turn.{Turn}
 use Rattle.cycle.proofs.trace.Given as goal
 
 abbrev pub invariant-loop-k : goal.invariant-loop-k
-invariant-loop-k l =    (length l.initial.k ≡ length l.initial.list) × Turn (layout_of l.size l.base) l.set l.initial.k (record { l.list = l.list; l.disk = l.disk }) l.stripe
+invariant-loop-k l =
+    (length l.list ≡ length l.initial.list)
+    × Turn (layout_of l.size l.base) l.set l.list (record { disk = l.disk; stripe = l.stripe }) l.k
 
 abbrev pub decreases-loop-k : goal.decreases-loop-k
-decreases-loop-k l = (layout_of l.size l.base).stripe_bound - l.stripe
+decreases-loop-k l = (layout_of l.size l.base).stripe_bound - l.k

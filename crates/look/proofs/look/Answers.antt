@@ -24,13 +24,13 @@ passed c =
       sym c.all_present.ensures ∙ c.if-not-all_present.false,
     )
 
+-- Both clauses of a return.
+clauses : {A B : Type 0} → A × B → record { bytes : A; place : B }
+clauses (bytes, place) = record { bytes = bytes; place = place }
+
 pub returns-then-sector_refusal-ne0 : goal.returns-then-sector_refusal-ne0
 returns-then-sector_refusal-ne0 c =
-    let (h0, h1) = look_nothing _ _ _ _ _ _ (λ (ok, mapped, inside, present). c.if-sector_refusal-ne0.true (c.sector_refusal.ensures ∙ ok)) _ in
-    record {
-      bytes = h0;
-      place = h1;
-    }
+    clauses (look_nothing _ _ _ _ _ _ (λ (ok, mapped, inside, present). c.if-sector_refusal-ne0.true (c.sector_refusal.ensures ∙ ok)) _)
 
 pub nonzero_div-sectors : goal.nonzero_div-sectors
 nonzero_div-sectors c =
@@ -48,11 +48,7 @@ map_fits-requires c =
 
 pub returns-then-not-map_fits : goal.returns-then-not-map_fits
 returns-then-not-map_fits c =
-    let (h0, h1) = look_nothing _ _ _ _ _ _ (λ (ok, mapped, inside, present). true≢false (sym mapped ∙ sym c.map_fits.ensures ∙ c.if-not-map_fits.true)) _ in
-    record {
-      bytes = h0;
-      place = h1;
-    }
+    clauses (look_nothing _ _ _ _ _ _ (λ (ok, mapped, inside, present). true≢false (sym mapped ∙ sym c.map_fits.ensures ∙ c.if-not-map_fits.true)) _)
 
 pub disks-requires : goal.disks-requires
 disks-requires c =
@@ -61,11 +57,7 @@ disks-requires c =
 
 pub returns-then-disks-disk : goal.returns-then-disks-disk
 returns-then-disks-disk c =
-    let (h0, h1) = look_nothing _ _ _ _ _ _ (λ (ok, mapped, inside, present). let e = c.disks.ensures in omega arith) _ in
-    record {
-      bytes = h0;
-      place = h1;
-    }
+    clauses (look_nothing _ _ _ _ _ _ (λ (ok, mapped, inside, present). let e = c.disks.ensures in omega arith) _)
 
 pub all_present-requires : goal.all_present-requires
 unfolding map_bytes
@@ -80,11 +72,7 @@ all_present-requires c =
 
 pub returns-then-not-all_present : goal.returns-then-not-all_present
 returns-then-not-all_present c =
-    let (h0, h1) = look_nothing _ _ _ _ _ _ (λ (ok, mapped, inside, present). true≢false (sym present ∙ sym c.all_present.ensures ∙ c.if-not-all_present.true)) _ in
-    record {
-      bytes = h0;
-      place = h1;
-    }
+    clauses (look_nothing _ _ _ _ _ _ (λ (ok, mapped, inside, present). true≢false (sym present ∙ sym c.all_present.ensures ∙ c.if-not-all_present.true)) _)
 
 pub slice_bounds-result-end-2 : goal.slice_bounds-result-end-2
 slice_bounds-result-end-2 c =

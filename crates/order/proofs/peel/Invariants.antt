@@ -10,7 +10,7 @@ use Rattle.order.proofs.Turns.{Turn}
 use Rattle.order.proofs.peel.Given as goal
 
 abbrev pub invariant-loop-k : goal.invariant-loop-k
-invariant-loop-k l =    Turn (layout_of l.size l.base) (without any_disk l.held) (erasures l.initial.work) l.work l.stripes l.counts l.list l.k
+invariant-loop-k l = Turn (layout_of l.size l.base) (without any_disk l.held) (erasures l.initial.work) l.work l.stripes l.counts l.list l.k
     × (length l.work ≡ length l.initial.work) × (length l.counts ≡ length l.initial.counts) × (length l.list ≡ length l.initial.list)
 
 abbrev pub decreases-loop-k : goal.decreases-loop-k

@@ -2,8 +2,6 @@
 -- Assumes nothing.
 use mathlib.Core.Path.{◌≡◌, ◌∙◌, ap}
 use mathlib.Core.Bool.{true}
-use mathlib.Core.Logic.{⊎_elim}
-use Prim.Native.Nat.{◌-◌}
 use native.Mathlib.Omega.{arith}
 use borrow.Author.Rules.{rules}
 use Rattle.stripes.specs.Erased.{erasures, without}
@@ -15,7 +13,7 @@ use Rattle.tally.proofs.Scanned.{next_passed, next_erased_lem}
 use Rattle.tally.proofs.Counted.{Crossed, erased_crossed, low_held, high_held}
 use Rattle.order.proofs.Picked.{Crowded, crowded_none, crowded_over, crowded_held, crowded_next, picked_none, picked_low, picked_high}
 use Rattle.layout.proofs.Runs.{numbered_two}
-use Rattle.order.proofs.pick.Goals.{After-next_erased-d, After-stripes_of-pair, Else-work-d, Then-d-held}
+use Rattle.order.proofs.pick.Goals.{After-next_erased-d, After-stripes_of-pair, Else-work-d, Then-d-held, then-d-held+else-counts-low-eq1+else-counts-high-eq1, else-d-held}
 use Rattle.order.proofs.pick.Goals as goal
 
 pub loop-size-init : goal.loop-size-init
@@ -48,7 +46,7 @@ pair : (c : goal.After-stripes_of-pair) →
     let a = c.args in
     Crossed (layout_of a.size a.base) c.next_erased-d.result c.stripes_of-pair.result.low c.stripes_of-pair.result.high
 pair c =
-    erased_crossed c.requires.tallied.table _ (erased c.before.before) (numbered_two c.requires.numbered) c.stripes_of-pair.ensures
+    erased_crossed c.requires.tallied.table _ (next_erased_lem _ _ c.next_erased-d.ensures (search rules)) (numbered_two c.requires.numbered) c.stripes_of-pair.ensures
 
 -- It is not held back.
 chosen : (c : goal.Then-d-held) →
@@ -78,12 +76,13 @@ loop-size-smaller c = omega (arith, c.if-work-d.false, (passed (goal.at.loop-siz
 
 pub loop-size-preserved : goal.loop-size-preserved
 loop-size-preserved c =
-    (
-      ⊎_elim
-          (λ w.
-          let p : tie.After-stripes-of invariant-loop decreases-loop = record { before = record { before = c.before; if2 = w.0 }; stripes-of = w.1 } in
-          crowded_next (crowded (goal.at.loop-size-preserved c).After-next_erased-d) (erased (goal.at.loop-size-preserved c).Else-work-d) c.requires.tallied.counted (pair p) w.3.left w.5.left)
-          (λ w. crowded_held (crowded (goal.at.loop-size-preserved c).After-next_erased-d) (ap (without any_disk _) w.left ∙ without_at any_disk _))
-          c.if-d-held.branch,
+    let erased' = erased (goal.at.loop-size-preserved c).Else-work-d in
+    let crowded' = crowded (goal.at.loop-size-preserved c).After-next_erased-d in (
+      elim c.if-d-held.branch [
+        | then-d-held+else-counts-low-eq1+else-counts-high-eq1 w ↦
+            let pair' = erased_crossed c.requires.tallied.table _ erased' (numbered_two c.requires.numbered) w.stripes_of-pair.ensures in
+            crowded_next crowded' erased' c.requires.tallied.counted pair' w.if-counts-low-eq1.false w.if-counts-high-eq1.false
+        | else-d-held w ↦ crowded_held crowded' (ap (without any_disk _) w.if-d-held.false ∙ without_at any_disk _)
+      ],
       omega (arith, c.if-work-d.false),
     )

@@ -44,7 +44,7 @@ drafted c =
 pub returns-then-of_array-ne0 : goal.returns-then-of_array-ne0
 returns-then-of_array-ne0 c =
     let a = c.args in
-    let (h0, h1, h2, h3) = array-refused a.size a.block a.sector a.array.now a.map.now a.sheets.now a.limit _ c.sector_refusal-of_array.ensures
+    let (h0, (h1, (h2, h3))) = array-refused a.size a.block a.sector a.array.now a.map.now a.sheets.now a.limit _ c.sector_refusal-of_array.ensures
     c.if-of_array-ne0.true in
     record {
       outcome = h0;
@@ -69,7 +69,7 @@ sheet_refusal-of_sheets-requires c =
 pub returns-then-of_sheets-ne0 : goal.returns-then-of_sheets-ne0
 returns-then-of_sheets-ne0 c =
     let a = c.args in
-    let (h0, h1, h2, h3) = sheet-refused a.size a.block a.sector a.array.now a.map.now a.sheets.now a.limit (array_ok (goal.at.returns-then-of_sheets-ne0 c).Else-of_array-ne0) _
+    let (h0, (h1, (h2, h3))) = sheet-refused a.size a.block a.sector a.array.now a.map.now a.sheets.now a.limit (array_ok (goal.at.returns-then-of_sheets-ne0 c).Else-of_array-ne0) _
     c.sheet_refusal-of_sheets.ensures c.if-of_sheets-ne0.true in
     record {
       outcome = h0;
@@ -81,7 +81,7 @@ returns-then-of_sheets-ne0 c =
 pub returns-then-limit-eq0 : goal.returns-then-limit-eq0
 returns-then-limit-eq0 c =
     let a = c.args in
-    let (h0, h1, h2, h3) = no-repairs a.size a.block a.sector a.array.now a.map.now a.sheets.now a.limit
+    let (h0, (h1, (h2, h3))) = no-repairs a.size a.block a.sector a.array.now a.map.now a.sheets.now a.limit
     (array_ok (goal.at.returns-then-limit-eq0 c).Else-of_array-ne0) (sym c.sheet_refusal-of_sheets.ensures ∙ c.if-of_sheets-ne0.false) c.if-limit-eq0.true in
     record {
       outcome = h0;
@@ -102,7 +102,7 @@ draft-answer-requires c =
 
 pub returns-in_default : goal.returns-in_default
 returns-in_default c =
-    let (h0, h1, h2, h3) = as-plan (passed (goal.at.returns-in_default c).Else-limit-eq0) _ _ c.draft-answer.ensures.outcome c.draft-answer.ensures.sheets c.in_default.keys2 in
+    let (h0, (h1, (h2, h3))) = as-plan (passed (goal.at.returns-in_default c).Else-limit-eq0) _ _ c.draft-answer.ensures.outcome c.draft-answer.ensures.sheets c.in_default.keys2 in
     record {
       outcome = h0;
       array = h1;
@@ -132,7 +132,7 @@ zero_all-requires c = sheets-long (drafted (goal.at.zero_all-requires c).After-a
 
 pub returns-then-not-make : goal.returns-then-not-make
 returns-then-not-make c =
-    let (h0, h1, h2, h3) = contradicted (drafted (goal.at.returns-then-not-make c).After-at_most-made) _ c.make.ensures.answer (c.if-not-make.true)
+    let (h0, (h1, (h2, h3))) = contradicted (drafted (goal.at.returns-then-not-make c).After-at_most-made) _ c.make.ensures.answer (c.if-not-make.true)
     _ _ c.make.ensures.array c.zero_all.ensures in
     record {
       outcome = h0;
@@ -154,7 +154,7 @@ mark_present-requires c =
 
 pub returns : goal.returns
 returns c =
-    let (h0, h1, h2, h3) = made-them (drafted (goal.at.returns c).After-at_most-made) _ c.make.ensures.answer
+    let (h0, (h1, (h2, h3))) = made-them (drafted (goal.at.returns c).After-at_most-made) _ c.make.ensures.answer
     (c.if-not-make.false) _ _ c.make.ensures.array c.mark_present.ensures in
     record {
       outcome = h0;

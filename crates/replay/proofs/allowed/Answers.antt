@@ -33,7 +33,7 @@ pair : (c : goal.After-stripes_of-pair) →
     let a = c.args in
     Crossed (layout_of a.size a.base) a.disk c.stripes_of-pair.result.low c.stripes_of-pair.result.high
 pair c =
-    erased_crossed c.requires.tallied.table _ (erased c.before) (numbered_two c.requires.numbered) c.stripes_of-pair.ensures
+    erased_crossed c.requires.tallied.table _ (is_erased _ _ (let h = c.if-work-disk-ne1.false in omega arith)) (numbered_two c.requires.numbered) c.stripes_of-pair.ensures
 
 pub bounds-counts-low : goal.bounds-counts-low
 bounds-counts-low c = (low_held (pair (goal.at.bounds-counts-low c).After-stripes_of-pair) c.requires.tallied.counted).0

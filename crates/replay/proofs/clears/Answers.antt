@@ -4,6 +4,7 @@ use mathlib.Core.Path.{sym, ◌∙◌}
 use native.Mathlib.Omega.{arith}
 use lib.Seq.{length-take-le}
 use Rattle.tally.proofs.Column.{disks-few}
+use Rattle.replay.proofs.clears.Goals.{After-disks-disks}
 use Rattle.replay.proofs.clears.Goals as goal
 
 pub slice_bounds-work-end : goal.slice_bounds-work-end
@@ -13,13 +14,13 @@ slice_bounds-work-end c =
     omega arith
 
 pub slice_bounds-clears_in-end : goal.slice_bounds-clears_in-end
-slice_bounds-clears_in-end c = sym (length-take-le _ _ (slice_bounds-work-end c.before))
+slice_bounds-clears_in-end c = sym (length-take-le _ _ (slice_bounds-work-end (goal.at.slice_bounds-clears_in-end c).After-disks-disks))
 
 pub clears_in-requires : goal.clears_in-requires
 clears_in-requires c =
     let p = c.requires in
-    let few = slice_bounds-work-end c.before.before.before in
-    let long = sym (slice_bounds-clears_in-end c.before.before) in
+    let few = slice_bounds-work-end (goal.at.clears_in-requires c).After-disks-disks in
+    let long = length-take-le _ _ few in
     record {
       numbered = p.numbered;
       located = record { positioned = p.positioned; room = long ∙ c.disks-disks.ensures };

@@ -20,7 +20,7 @@ pub tally-erased-requires : goal.tally-erased-requires
 tally-erased-requires c =
     let p = c.requires in
     let room = p.located.room in
-    let same = c.load_position.auto.1.1.1.1.0 in
+    let same = c.load_position.auto.work in
     let past = position_inside p.located.positioned in
     record {
       numbered = p.numbered;

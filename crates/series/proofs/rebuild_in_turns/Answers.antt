@@ -87,7 +87,7 @@ loop-done-preserved c =
 pub returns : goal.returns
 returns c =
     let none = c.loop-done-test.false in
-    let (h0, h1, h2, h3) = ends c.loop-done.invariant.1 (omega arith) in
+    let (h0, (h1, (h2, h3))) = ends c.loop-done.invariant.1 (omega arith) in
     record {
       turns = h0;
       array = h1;
