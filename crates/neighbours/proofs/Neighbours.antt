@@ -4,7 +4,7 @@ use mathlib.Core.Path.{◌≡◌, refl, sym, ◌∙◌, ap, ap₂}
 use mathlib.Core.Bool.{Bool, true, false, cond, not, ◌&&◌, ◌||◌, and-false, or-false}
 use mathlib.Core.Logic.{◌⊎◌, inl, inr, ⊎_elim}
 use mathlib.Core.List.{List}
-use Prim.Native.Nat.{ℕ, zero, suc, ◌+◌, ◌/◌, ◌%◌, ◌^◌, ◌≤◌, ◌<◌, zero-le}
+use Prim.Native.Nat.{ℕ, ◌+◌, ◌/◌, ◌%◌, ◌^◌, ◌≤◌, ◌<◌, zero-le}
 use native.Mathlib.Nat.{le_refl}
 use native.Mathlib.Omega.{arith}
 use borrow.Author.Tests.{eqb-true, eqb-false, eq-eqb, ne_eqb}
@@ -14,7 +14,7 @@ use lib.Seq.{get_or-set_same, get_or-set_other}
 use Rattle.stripes.specs.Fold.{◌⊕◌, bit}
 use Rattle.stripes.specs.System.{Layout, TwoStripes, among, on, other_than}
 use Rattle.stripes.specs.Erased.{below}
-use Rattle.stripes.proofs.Fold.{by_cases, and_left, and_right, and_both, same_test, eqb_comm, count_ext, lowest_ext}
+use Rattle.stripes.proofs.Fold.{by_cases, and_left, and_right, and_both, same_test, eqb_comm, count_ext}
 use Rattle.stripes.proofs.Degree.{on_which, other-first, other_second}
 use Rattle.stripes.proofs.Erased.{below_is, below-not, below_all, below_over, below_last}
 use Rattle.stripes.proofs.Peel.{without_other}

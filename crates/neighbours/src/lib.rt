@@ -1,5 +1,6 @@
 // The table of neighbours: for each stripe the set of the stripes that disks of a set lead to, a word for each.
 #![tactic(auto)]
+
 ghost use Rattle.std.specs.Prelude.{◌≡◌, ℕ, ◌<◌, length, get_or};
 ghost use Rattle.stripes.specs.Erased.{erasures};
 ghost use Rattle.model.specs.Grid.{layout_of};
