@@ -3,6 +3,7 @@
 // between it and the stripe that names the part. A link is an erased disk that joined two parts, and its number is the name that it
 // ended.
 #![tactic(auto)]
+
 pub mod join;
 pub mod link;
 pub mod lost;

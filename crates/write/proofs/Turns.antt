@@ -13,7 +13,7 @@ use lib.Arith.{digits_lt, digits_div, digits_mod}
 use lib.Dec.{eqb, ltb}
 use lib.ListN.{length, get_or}
 use Rattle.stripes.specs.Fold.{◌⊕◌, gate}
-use Rattle.stripes.specs.System.{whole, byte}
+use Rattle.stripes.specs.System.{byte}
 use Rattle.stripes.specs.declared.Stretch.{Stretch}
 use Rattle.model.specs.Grid.{rows, columns, across, disks, disk_at, is_data, array_bytes, size_fits, block_fits}
 use Rattle.model.specs.Array.{is_parity_of, written}

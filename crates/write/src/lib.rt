@@ -1,5 +1,6 @@
 // Write: a new block on a data disk. A refusal leaves the array as it was.
 #![tactic(auto)]
+
 ghost use Rattle.std.specs.Prelude.{◌≡◌};
 ghost use Rattle.model.specs.Array.{write_status, write_array};
 

@@ -19,12 +19,12 @@ returns-then-count-gt-ROOM c = λ wrong. let z : ◌≡◌ {A = ℕ} 0 1 = cc in
 pub loop-k-init : goal.loop-k-init
 loop-k-init c = let zeros = c.wipe.ensures in (omega arith, search rules, binary_none _ zeros, marked-none _ zeros _ _)
 
-few : (l : goal.At-loop-k) → get_or l.before.args.sheet.now 0 0 ≤ 97
-few l = l.before.before.before.before.before.if1.false
+few : (c : goal.At-loop-k) → get_or c.args.sheet.now 0 0 ≤ 97
+few c = c.if-count-gt-ROOM.false
 
 inside : (c : goal.In-loop-k) → get_or c.args.sheet.now (c.loop-k.k + 1) 0 < length c.loop-k.work
 inside c =
-    let low = noted-inside _ _ c.requires.by_index.1 (few c.before) c.loop-k.k c.loop-k-test.true in
+    let low = noted-inside _ _ c.requires.by_index.1 c.if-count-gt-ROOM.false c.loop-k.k c.loop-k-test.true in
     let same = c.loop-k.invariant.1 in
     let kept = c.wipe.auto.a in
     omega arith

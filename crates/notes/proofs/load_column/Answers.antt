@@ -14,13 +14,16 @@ pub load-requires : goal.load-requires
 load-requires c =
     let a = c.args in
     let e : ℕ → Bool = at_position a.sectors a.position (erasures a.map.now) in
-    (c.requires.sheet_len, (e, subst (λ (N : ℕ). Notes N e a.sheet.now) (sym c.requires.located.room) c.requires.notes))
+    record {
+      sheet_len = c.requires.sheet_len;
+      by_index = (e, subst (λ (N : ℕ). Notes N e a.sheet.now) (sym c.requires.located.room) c.requires.notes);
+    }
 
 pub returns-then-load : goal.returns-then-load
 returns-then-load c =
     let a = c.args in
     let e : ℕ → Bool = at_position a.sectors a.position (erasures a.map.now) in
-    let loads = subst (λ (N : ℕ). Loads N a.sheet.now c.load.new.1.0) c.requires.located.room (c.load.ensures c.if-load.true) in
+    let loads = subst (λ (N : ℕ). Loads N a.sheet.now c.load.new.work) c.requires.located.room (c.load.ensures c.if-load.true) in
     record {
       fits = loads.fits;
       erased = loads.erased e c.requires.notes ∙ below_all _ e (position_inside c.requires.located.positioned);

@@ -25,13 +25,13 @@ pub loop-sectors-init : goal.loop-sectors-init
 loop-sectors-init c =
     (omega arith, c.zero_all.auto.sheets ∙ c.requires.sheets_len, noted-none _ _ c.zero_all.ensures)
 
-some : (l : goal.At-loop-sectors) → 0 < l.before.args.sectors
-some l = (sectors-bound _ l.before.requires.1.0).0
+some : (c : goal.At-loop-sectors) → 0 < c.args.sectors
+some c = (sectors-bound _ c.requires.sectors_value).0
 
 -- The map, with any position.
-positioned : (l : goal.At-loop-sectors) (p : ℕ) → p < l.before.args.sectors
-    → Positioned l.before.args.size l.before.args.sectors p l.before.args.map.now
-positioned l p place = let f = l.before.requires in record { size = f.0; sectors = f.1.0; place = place; map = f.1.1.0 }
+positioned : (c : goal.At-loop-sectors) (p : ℕ) → p < c.args.sectors
+    → Positioned c.args.size c.args.sectors p c.args.map.now
+positioned c p place = let f = c.requires in record { size = f.size_value; sectors = f.sectors_value; place = place; map = f.map_value }
 
 -- The sectors that a turn passes over, and what is noted up to the one that it finds.
 passed : (c : goal.After-next_erased-i) → Passed c.args.map.now c.loop-sectors.from c.next_erased-i.result
@@ -46,16 +46,19 @@ returns-then-map-i c =
 
 -- The sector of a turn: its position, its disk, and the sheet of its position.
 at : (c : goal.Else-map-i) → let n = c.args.sectors in c.next_erased-i.result % n < n
-at c = mod-lt _ (some c.before.before)
+at c = mod-lt _ (sectors-bound _ c.requires.sectors_value).0
 
 disk : (c : goal.Else-map-i) → c.next_erased-i.result / c.args.sectors < 256
 disk c =
-    let p = positioned c.before.before 0 (some c.before.before) in
+    let f = c.requires in
+    let some = (sectors-bound _ f.sectors_value).0 in
+    let p : Positioned c.args.size c.args.sectors 0 c.args.map.now =
+    record { size = f.size_value; sectors = f.sectors_value; place = some; map = f.map_value } in
     let all = map-long p in
     let few = disks-few p in
     let below = c.if-map-i.false in
     let low : c.next_erased-i.result / c.args.sectors < disks c.args.size =
-    (div-lt_iff_lt-mul (some c.before.before)).1 (omega arith) in
+    (div-lt_iff_lt-mul some).1 (omega arith) in
     omega arith
 
 part_length : (c : goal.Else-map-i) → length (sheet_at narrow (c.next_erased-i.result % c.args.sectors) c.loop-sectors.sheets) ≡ 98

@@ -18,10 +18,10 @@ use Rattle.plan.proofs.draft_all.Goals.{After-draft_noted-answer}
 use Rattle.plan.proofs.draft_all.Goals as goal
 
 -- The sheets after it keep their length.
-kept : (d : goal.After-draft_noted-answer) → let l = d.before.loop in
-    length (put_sheet l.p d.draft-noted.new.1.1.1.1.0 l.sheets) ≡ 98 * d.before.args.sectors
-kept d =
-    after-length _ _ _ _ d.before.loop.invariant.0 d.before.before.loop-test.true d.draft-noted.ensures.0 d.draft-noted.ensures.1
+kept : (c : goal.After-draft_noted-answer) → let l = c.loop-p in
+    length (put_sheet l.p c.draft_noted-answer.new.1.1.1.1.0 l.sheets) ≡ 98 * c.args.sectors
+kept c =
+    after-length _ _ _ _ c.loop-p.invariant.0 c.loop-p-test.true c.draft_noted-answer.ensures.outcome c.draft_noted-answer.ensures.sheet
 
 pub loop-p-init : goal.loop-p-init
 loop-p-init c = let notes = c.requires.1.1.1 in (begins _ _ _ _ _ c.requires.sheets_len, λ q low high. c.requires.each_notes q high)

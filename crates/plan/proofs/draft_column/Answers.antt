@@ -22,8 +22,8 @@ use Rattle.plan.proofs.draft_column.Goals as goal
 abbrev after : goal.After-solve-answer → List ℕ
 after l = l.solve.new.1.1.1.0
 
-room : (l : goal.After-solve-answer) → 32 ≤ length (after l)
-room l = let same = l.solve.auto.1.1.1.0 in omega arith
+room : (c : goal.After-solve-answer) → 32 ≤ length (after c)
+room c = let same = c.solve-answer.auto.1.1.1.0 in omega arith
 
 -- What is solved, in each case.
 abbrev Found : goal.After-solve-answer → Solved → Type 0

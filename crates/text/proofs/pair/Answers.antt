@@ -10,10 +10,9 @@ byte-next-requires c = omega (arith, number-ends _ c.number-space.ensures)
 
 pub number-feed-requires : goal.number-feed-requires
 number-feed-requires c =
-    let (h0, h1) = omega (arith, number-ends _ c.number-space.ensures) in
     record {
-      at_in_bounds = h0;
-      value_bound = h1;
+      at_in_bounds = omega (arith, number-ends _ c.number-space.ensures);
+      value_bound = omega arith;
     }
 
 pub byte-requires : goal.byte-requires

@@ -5,11 +5,10 @@ use mathlib.Core.Bool.{true}
 use native.Mathlib.Omega.{arith}
 use lib.ListN.{length}
 use Rattle.model.specs.Grid.{is_data}
-use Rattle.model.specs.Array.{write_status}
 use Rattle.model.proofs.Refusal.{ArrayFits, array-fits}
 use Rattle.model.proofs.Write.{write_is, status_first, status_disk, status_length, status_none}
 use Rattle.model.proofs.Demand2.{write_refused}
-use Rattle.write.proofs.write.Goals.{Else-data-block, Else-not-is_data, Else-status-ne0}
+use Rattle.write.proofs.write.Goals.{Else-not-is_data, Else-status-ne0}
 use Rattle.write.proofs.write.Goals as goal
 
 -- What each test that was passed has shown.
@@ -18,9 +17,6 @@ sized c = array-fits _ _ _ (sym c.array_refusal-status.ensures ∙ c.if-status-n
 
 on-data : (c : goal.Else-not-is_data) → let a = c.args in is_data a.size a.disk ≡ true
 on-data c = sym c.is_data.ensures ∙ c.if-not-is_data.false
-
-accepted : (c : goal.Else-data-block) → let a = c.args in write_status a.size a.block a.array.now a.disk a.«data».now ≡ 0
-accepted c = status_none _ _ _ _ _ (sized c.before.before.before) (on-data c.before) c.if-data-block.false
 
 pub returns-then-status-ne0 : goal.returns-then-status-ne0
 returns-then-status-ne0 c =
@@ -51,11 +47,14 @@ returns-then-data-block c =
     }
 
 pub store-requires : goal.store-requires
-store-requires c = accepted (goal.at.store-requires c).Else-data-block
+store-requires c =
+    status_none _ _ _ _ _ (sized (goal.at.store-requires c).Else-status-ne0) (on-data (goal.at.store-requires c).Else-not-is_data)
+    c.if-data-block.false
 
 pub returns : goal.returns
 returns c =
-    let ok = accepted (goal.at.returns c).Else-data-block in
+    let sized = sized (goal.at.returns c).Else-status-ne0 in
+    let ok = status_none _ _ _ _ _ sized (on-data (goal.at.returns c).Else-not-is_data) c.if-data-block.false in
     record {
       status = sym ok;
       array = c.store.ensures ∙ sym (write_is _ _ _ _ _ ok);

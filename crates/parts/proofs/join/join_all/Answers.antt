@@ -2,7 +2,6 @@
 -- Assumes nothing.
 use mathlib.Core.Path.{◌≡◌, refl}
 use mathlib.Core.Bool.{true}
-use Prim.Native.Nat.{◌-◌}
 use native.Mathlib.Omega.{arith}
 use borrow.Author.Rules.{rules}
 use Rattle.stripes.specs.Erased.{erasures}
@@ -57,7 +56,7 @@ pair : (c : goal.After-stripes_of-pair) →
     let a = c.args in
     Crossed (layout_of a.size a.base) c.next_erased-d.result c.stripes_of-pair.result.low c.stripes_of-pair.result.high
 pair c =
-    erased_crossed c.requires.table _ (erased c.before) (numbered_two c.requires.numbered) c.stripes_of-pair.ensures
+    erased_crossed c.requires.table _ (next_erased_lem _ _ c.next_erased-d.ensures (search rules)) (numbered_two c.requires.numbered) c.stripes_of-pair.ensures
 
 pub unite-requires : goal.unite-requires
 unite-requires c =

@@ -50,11 +50,11 @@ returns-then-parts-low c =
     }
 
 -- The name that the disk ends.
-old-small : (p : goal.After-stripes_of-pair) → get_or p.before.args.parts.now p.stripes-of.result.high 0 < 64
-old-small p =
-    let e = p.before.requires in
-    let few = stripes_few e.0 in
-    let small = name_small e.1.1.1.0 (numbered_two e.0) (omega (arith, (pair p).disk)) _ (pair p).high_bound in
+old-small : (c : goal.After-stripes_of-pair) → get_or c.args.parts.now c.stripes_of-pair.result.high 0 < 64
+old-small c =
+    let e = c.requires in
+    let few = stripes_few e.numbered in
+    let small = name_small e.parted (numbered_two e.numbered) (omega (arith, (pair c).disk)) _ (pair c).high_bound in
     omega arith
 
 pub alone-own-requires : goal.alone-own-requires
@@ -96,6 +96,6 @@ returns c =
     let bound = c.bound-bound.ensures in
     record {
       parts = parted-next e.disk_value (pair (goal.at.returns c).After-stripes_of-pair) parted unite.auto.parts bound unite.ensures;
-      ways = walked_next e.disk_value (pair (goal.at.returns c).After-stripes_of-pair) parted walked apart extend.auto.1.0 bound c.alone-own.ensures extend.ensures;
+      ways = walked_next e.disk_value (pair (goal.at.returns c).After-stripes_of-pair) parted walked apart extend.auto.ways bound c.alone-own.ensures extend.ensures;
       answer = answer_link e.disk_value (pair (goal.at.returns c).After-stripes_of-pair) parted walked apart;
     }

@@ -9,7 +9,7 @@ use Rattle.parts.proofs.Parted.{Linking}
 use Rattle.parts.proofs.link.link_all.Given as goal
 
 abbrev pub invariant-loop-size : goal.invariant-loop-size
-invariant-loop-size l =    Linking (layout_of l.size l.base) (erasures l.work) l.from l.parts l.ways l.closed × (l.from ≤ length l.work) × (length l.parts ≡ length l.initial.parts)
+invariant-loop-size l = Linking (layout_of l.size l.base) (erasures l.work) l.from l.parts l.ways l.closed × (l.from ≤ length l.work) × (length l.parts ≡ length l.initial.parts)
     × (length l.ways ≡ length l.initial.ways)
 
 abbrev pub decreases-loop-size : goal.decreases-loop-size

@@ -2,8 +2,7 @@
 -- Assumes nothing.
 use mathlib.Core.Path.{◌≡◌}
 use mathlib.Core.Bool.{true}
-use mathlib.Core.Logic.{⊎_elim, inl, inr}
-use Prim.Native.Nat.{◌-◌}
+use mathlib.Core.Logic.{inl, inr}
 use native.Mathlib.Omega.{arith}
 use borrow.Author.Rules.{rules}
 use Rattle.stripes.specs.Erased.{erasures}
@@ -14,7 +13,7 @@ use Rattle.tally.specs.Tally.{Passed}
 use Rattle.tally.proofs.Scanned.{next_passed, next_erased_lem}
 use Rattle.tally.proofs.Counted.{erased-inside}
 use Rattle.parts.proofs.Judged.{Judged, judged_none, judged_over, judged_few, judged_all, judged_next}
-use Rattle.parts.proofs.lost.undetermined_count.Goals.{After-next_erased-d, Else-work-d}
+use Rattle.parts.proofs.lost.undetermined_count.Goals.{After-next_erased-d, Else-work-d, then-is_undetermined, else-is_undetermined}
 use Rattle.parts.proofs.lost.undetermined_count.Goals as goal
 
 pub link_all-closed-requires : goal.link_all-closed-requires
@@ -71,9 +70,11 @@ pub loop-size-smaller : goal.loop-size-smaller
 loop-size-smaller c = omega (arith, c.if-work-d.false, (passed (goal.at.loop-size-smaller c).After-next_erased-d).after)
 
 pub loop-size-preserved : goal.loop-size-preserved
-loop-size-preserved c =
-    (
-      judged_next (over (goal.at.loop-size-preserved c).After-next_erased-d) c.is_undetermined.ensures
-          (⊎_elim (λ w. inl (w.0.taken, w.1)) (λ w. inr (w.0.left, w.1)) c.if-is_undetermined.branch),
-      omega (arith, c.if-work-d.false),
-    )
+loop-size-preserved c = (
+  judged_next (over (goal.at.loop-size-preserved c).After-next_erased-d) c.is_undetermined.ensures
+      (elim c.if-is_undetermined.branch [
+        | then-is_undetermined w ↦ inl (w.if-is_undetermined.true, w.count-is)
+        | else-is_undetermined w ↦ inr (w.if-is_undetermined.false, w.count-is)
+      ]),
+  omega (arith, c.if-work-d.false),
+)

@@ -1,7 +1,6 @@
 -- `parts::side::mark` meets its contract: the loop judges one stripe after the other.
 -- Assumes nothing.
 use mathlib.Core.Path.{◌∙◌}
-use Prim.Native.Nat.{◌-◌}
 use native.Mathlib.Omega.{arith}
 use Rattle.stripes.specs.Fold.{◌⊕◌}
 use Rattle.model.specs.Grid.{layout_of}
@@ -66,9 +65,6 @@ bounds-side-s c =
     let long = c.loop-s.invariant.long in
     omega (arith, c.loop-s-test.true)
 
-pub bounds-side-s : goal.bounds-side-s
-bounds-side-s c = bounds-side-s c
-
 pub overflow_add-s : goal.overflow_add-s
 overflow_add-s c =
     let is = c.bound-bound.ensures in
@@ -76,7 +72,11 @@ overflow_add-s c =
 
 pub loop-s-preserved : goal.loop-s-preserved
 unfolding ◌⊕◌
-loop-s-preserved c = filled_next c.loop-s.invariant _ (bounds-side-s c) c.beside.ensures
+loop-s-preserved c =
+    let is = c.bound-bound.ensures in
+    let fits = c.requires.base_in_bounds in
+    let long = c.loop-s.invariant.long in
+    filled_next c.loop-s.invariant _ (omega (arith, c.loop-s-test.true)) c.beside.ensures
 
 pub returns : goal.returns
 unfolding ◌⊕◌

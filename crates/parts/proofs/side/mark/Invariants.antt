@@ -10,7 +10,7 @@ use Rattle.parts.proofs.Filled.{Filled}
 use Rattle.parts.proofs.side.mark.Given as goal
 
 abbrev pub invariant-loop-s : goal.invariant-loop-s
-invariant-loop-s l =    Filled (λ i. bit (eqb (get_or l.parts i 0) l.name && not (eqb (bit_or (get_or l.ways i 0 ⊕ l.way) l.link) (get_or l.ways i 0 ⊕ l.way)))) l.initial.side l.s l.side
+invariant-loop-s l = Filled (λ i. bit (eqb (get_or l.parts i 0) l.name && not (eqb (bit_or (get_or l.ways i 0 ⊕ l.way) l.link) (get_or l.ways i 0 ⊕ l.way)))) l.initial.side l.s l.side
 
 abbrev pub decreases-loop-s : goal.decreases-loop-s
 decreases-loop-s l = l.bound - l.s

@@ -1,7 +1,7 @@
 -- `parts::table::extend` meets its contract: the loop changes one way after the other.
 -- Assumes nothing.
 use mathlib.Core.Path.{ap₂}
-use Prim.Native.Nat.{ℕ, ◌-◌}
+use Prim.Native.Nat.{ℕ}
 use native.Mathlib.Nat.{le_refl}
 use borrow.Author.Rules.{rules}
 use Rattle.stripes.specs.Fold.{◌⊕◌}

@@ -1,7 +1,6 @@
 -- `parts::table::start` meets its contract: the loop names one stripe after the other.
 -- Assumes nothing.
 use mathlib.Core.Path.{refl}
-use Prim.Native.Nat.{◌-◌}
 use borrow.Author.Rules.{rules}
 use Rattle.parts.proofs.Filled.{filled_none, filled_next, filled_all}
 use Rattle.parts.proofs.table.start.Goals as goal

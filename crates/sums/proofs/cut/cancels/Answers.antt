@@ -6,16 +6,13 @@ use Rattle.sums.specs.Cut.{in_part}
 use Rattle.sums.proofs.Cuts.{cut-start, cut-chosen, cut-cancelled}
 use Rattle.sums.proofs.cut.cancels.Goals as goal
 
-pub list_cut-count-requires : goal.list_cut-count-requires
-list_cut-count-requires c = (c.requires.numbered, c.requires.1.1)
-
 pub cancels-requires : goal.cancels-requires
 cancels-requires c =
     let a = c.args in
     let l = c.list_cut-count in
     record {
       chosen = cut-chosen a.size a.base a.stretch a.array.now c.requires.held (erasures a.map.now) (in_part a.parts.now a.name)
-          l.new.1.1.1.1.1.0 l.result l.ensures;
+          l.new.list l.result l.ensures;
       len_in_bounds = cut-start a.size a.stretch a.array.now c.requires.held;
     }
 
@@ -25,4 +22,4 @@ returns c =
     let l = c.list_cut-count in
     c.cancels.ensures
     ∙ cut-cancelled a.size a.base a.stretch a.array.now c.requires.held (erasures a.map.now) (in_part a.parts.now a.name)
-    l.new.1.1.1.1.1.0 l.result l.ensures
+    l.new.list l.result l.ensures

@@ -1,7 +1,7 @@
 -- `sums::cut::list_cut` meets its contract: the survivors that the stripes so far bring are listed.
 -- Assumes nothing.
 use mathlib.Core.Path.{◌≡◌, refl}
-use Prim.Native.Nat.{◌<◌, ◌-◌}
+use Prim.Native.Nat.{◌<◌}
 use native.Mathlib.Omega.{arith}
 use borrow.Author.Rules.{rules}
 use lib.ListN.{length}
@@ -48,7 +48,7 @@ loop-s-preserved c =
       search rules,
       search rules,
       cut-next (layout_of a.size a.base) (erasures a.map.now) (in_part a.parts.now a.name) l.s l.list
-          more.new.1.1.1.1.1.1.0 l.n more.result l.invariant.2 more.ensures,
+          more.new.list l.n more.result l.invariant.2 more.ensures,
     )
 
 pub returns : goal.returns

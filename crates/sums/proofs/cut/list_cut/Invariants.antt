@@ -10,7 +10,7 @@ use Rattle.sums.specs.Cut.{in_part, cut_on, cut_over_on, Listed}
 use Rattle.sums.proofs.cut.list_cut.Given as goal
 
 abbrev pub invariant-loop-s : goal.invariant-loop-s
-invariant-loop-s l =    (l.s ≤ l.bound) × (length l.list ≡ length l.initial.list)
+invariant-loop-s l = (l.s ≤ l.bound) × (length l.list ≡ length l.initial.list)
     × Listed (layout_of l.size l.base) (erasures l.map) l.list l.n (total l.s (cut_on (layout_of l.size l.base) (erasures l.map) (in_part l.parts l.name)))
     (λ f. xsum l.s (cut_over_on (layout_of l.size l.base) (erasures l.map) (in_part l.parts l.name) f))
 

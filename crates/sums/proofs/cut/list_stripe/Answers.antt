@@ -1,9 +1,8 @@
 -- `sums::cut::list_stripe` meets its contract: those of the disks so far that are to be listed stand behind what was there.
 -- Assumes nothing.
 use mathlib.Core.Path.{◌≡◌, ◌∙◌, sym, refl, ap, subst}
-use mathlib.Core.Bool.{not, ◌&&◌}
-use mathlib.Core.Logic.{⊎_elim}
-use Prim.Native.Nat.{ℕ, ◌<◌, ◌-◌}
+use mathlib.Core.Bool.{true, not, ◌&&◌}
+use Prim.Native.Nat.{ℕ, ◌<◌}
 use native.Mathlib.Omega.{arith}
 use borrow.Author.Rules.{rules}
 use borrow.Author.Tests.{eq-eqb, ne_eqb, not-true}
@@ -18,7 +17,7 @@ use Rattle.layout.specs.declared.stripe.Run.{Run}
 use Rattle.sums.specs.Cut.{in_part, in_cut}
 use Rattle.sums.proofs.Cuts.{behind-none, behind_skip, behind-next, Along, run_along}
 use Rattle.sums.proofs.Cuts.{stripe-none, stripe-room, stripe_all, outside_none, empty_none}
-use Rattle.sums.proofs.cut.list_stripe.Goals.{After-disks_on-run, After-leaves, After-other_at-other, In-loop-k, Then-leaves}
+use Rattle.sums.proofs.cut.list_stripe.Goals.{After-disks_on-run, After-leaves, After-other_at-other, In-loop-k, then-leaves, else-leaves}
 use Rattle.sums.proofs.cut.list_stripe.Goals as goal
 
 -- The run of a stripe in the part.
@@ -31,9 +30,12 @@ known c =
     (sym c.has_disks.ensures ∙ c.if-not-has_disks.false) c.disks_on-run.result c.disks_on-run.ensures
 
 -- A disk of it has a small number.
-small : (c : goal.In-loop-k) → run_disk c.disks_on-run.result c.loop-k.k < 256
-small c =
-    let inside = (known c.before.before).disk c.loop-k.k c.loop-k-test.true in
+small : (c : goal.In-loop-k)
+    → let a = c.args in
+    Along a.size a.base (erasures a.map.now) (in_part a.parts.now a.name) a.stripe c.disks_on-run.result
+    → run_disk c.disks_on-run.result c.loop-k.k < 256
+small c r =
+    let inside = r.disk c.loop-k.k c.loop-k-test.true in
     let few = disks-bound c.args.size (size_fits_lem c.args.size c.requires.numbered.fits) in
     let same = layout-disks c.args.size c.args.base in
     omega arith
@@ -43,33 +45,33 @@ other-is : (c : goal.After-other_at-other)
     → let a = c.args in
     c.other_at-other.result
     ≡ other_than a.stripe ((layout_of a.size a.base).through (run_disk c.disks_on-run.result c.loop-k.k))
-other-is c =
-    let a = c.args in
-    c.other_at-other.ensures
-    ∙ ap (λ (run : Run). other_than a.stripe ((layout_of a.size a.base).through (run_disk run c.loop-k.k)))
-    (sym c.disks_on-run.ensures)
+other-is c = rw c.disks_on-run.ensures c.other_at-other.ensures
 
 test-is : (c : goal.After-leaves)
     → let a = c.args in
-    c.leaves.result
+    Along a.size a.base (erasures a.map.now) (in_part a.parts.now a.name) a.stripe c.disks_on-run.result
+    → c.leaves.result
     ≡ in_cut (layout_of a.size a.base) (erasures a.map.now) (in_part a.parts.now a.name)
     (run_disk c.disks_on-run.result c.loop-k.k)
-test-is c =
+test-is c r =
     let a = c.args in
     let d = run_disk c.disks_on-run.result c.loop-k.k in
     c.leaves.ensures
-    ∙ ap (λ (o : ℕ). not (erasures a.map.now d) && not (in_part a.parts.now a.name o)) (other-is c.before)
-    ∙ (known c.before.before.before.before).test c.loop-k.k c.loop-k-test.true
+    ∙ ap (λ (o : ℕ). not (erasures a.map.now d) && not (in_part a.parts.now a.name o))
+    (rw c.disks_on-run.ensures c.other_at-other.ensures)
+    ∙ r.test c.loop-k.k c.loop-k-test.true
 
 -- Where it is, there is room for it.
-room : (c : goal.Then-leaves) → c.loop-k.n < length c.loop-k.list
-room c =
+room : (c : goal.After-leaves)
+    → let a = c.args in
+    Along a.size a.base (erasures a.map.now) (in_part a.parts.now a.name) a.stripe c.disks_on-run.result
+    → c.leaves.result ≡ true → c.loop-k.n < length c.loop-k.list
+room c r listed =
     let a = c.args in
     let l = c.loop-k in
     stripe-room a.size a.base (erasures a.map.now) (in_part a.parts.now a.name) a.stripe a.list.now a.have
-    c.disks_on-run.result (known c.before.before.before.before.before) l.k l.list l.n l.invariant.2
-    (length l.list) (rw l.invariant.1 c.requires.stripe_in_bounds) c.loop-k-test.true
-    (sym (test-is c.before) ∙ c.if-leaves.true)
+    c.disks_on-run.result r l.k l.list l.n l.invariant.2
+    (length l.list) (rw l.invariant.1 c.requires.stripe_in_bounds) c.loop-k-test.true (sym (test-is c r) ∙ listed)
 
 pub returns-then-parts-stripe : goal.returns-then-parts-stripe
 returns-then-parts-stripe c =
@@ -100,10 +102,14 @@ loop-k-init c =
     (search rules, refl, behind-none L e a.list.now a.have t (run_disk c.disks_on-run.result) c.requires.survivors)
 
 pub overflow_mul-disk : goal.overflow_mul-disk
-overflow_mul-disk c = let h = small (goal.at.overflow_mul-disk c).In-loop-k in omega arith
+overflow_mul-disk c =
+    let h = small (goal.at.overflow_mul-disk c).In-loop-k (known (goal.at.overflow_mul-disk c).After-disks_on-run) in
+    omega arith
 
 pub overflow_add-disk : goal.overflow_add-disk
-overflow_add-disk c = let h = small (goal.at.overflow_add-disk c).In-loop-k in omega arith
+overflow_add-disk c =
+    let h = small (goal.at.overflow_add-disk c).In-loop-k (known (goal.at.overflow_add-disk c).After-disks_on-run) in
+    omega arith
 
 pub other_at-other-requires-clause-numbered : goal.other_at-other-requires-clause-numbered
 other_at-other-requires-clause-numbered c = c.requires.numbered
@@ -128,16 +134,23 @@ leaves-requires c =
     }
 
 pub overflow_cast-list : goal.overflow_cast-list
-overflow_cast-list c = let h = small (goal.at.overflow_cast-list c).In-loop-k in omega arith
+overflow_cast-list c =
+    let h = small (goal.at.overflow_cast-list c).In-loop-k (known (goal.at.overflow_cast-list c).After-disks_on-run) in
+    omega arith
 
 pub offset_bounds-list-n : goal.offset_bounds-list-n
-offset_bounds-list-n c = let h = room (goal.at.offset_bounds-list-n c).Then-leaves in omega arith
+offset_bounds-list-n c =
+    let h = room (goal.at.offset_bounds-list-n c).After-leaves (known (goal.at.offset_bounds-list-n c).After-disks_on-run) c.if-leaves.true in
+    omega arith
 
 pub bounds-list-n : goal.bounds-list-n
-bounds-list-n c = room (goal.at.bounds-list-n c).Then-leaves
+bounds-list-n c =
+    room (goal.at.bounds-list-n c).After-leaves (known (goal.at.bounds-list-n c).After-disks_on-run) c.if-leaves.true
 
 pub overflow_add-n : goal.overflow_add-n
-overflow_add-n c = let h = room (goal.at.overflow_add-n c).Then-leaves in omega arith
+overflow_add-n c =
+    let h = room (goal.at.overflow_add-n c).After-leaves (known (goal.at.overflow_add-n c).After-disks_on-run) c.if-leaves.true in
+    omega arith
 
 pub loop-k-preserved : goal.loop-k-preserved
 loop-k-preserved c =
@@ -147,17 +160,22 @@ loop-k-preserved c =
     let L = layout_of a.size a.base in
     let e = erasures a.map.now in
     let t = in_cut L e (in_part a.parts.now a.name) in
-    let test : c.leaves.result ≡ t (at l.k) = test-is (goal.at.loop-k-preserved c).After-leaves in (
+    let r = known (goal.at.loop-k-preserved c).After-disks_on-run in
+    let test : c.leaves.result ≡ t (at l.k) = test-is (goal.at.loop-k-preserved c).After-leaves r in (
       search rules,
-      ⊎_elim (λ w. ap length w.1 ∙ simp length-set l.invariant.1) (λ w. ap length w.1 ∙ l.invariant.1) c.if-leaves.branch,
-      ⊎_elim
-          (λ w.
-          rw (w.1, w.2)
-          (behind-next L e a.list.now a.have t at l.k l.list l.n l.invariant.2 (sym test ∙ w.0.taken)
-          (room (record { before = c.before; if3 = w.0 })) ((known (goal.at.loop-k-preserved c).After-disks_on-run).disk l.k c.loop-k-test.true)
-          (not-true _ (and_left (not (e (at l.k))) _ (sym test ∙ w.0.taken)))))
-          (λ w. rw (w.1, w.2) (behind_skip L e a.list.now a.have t at l.k l.list l.n l.invariant.2 (sym test ∙ w.0.left)))
-          c.if-leaves.branch,
+      elim c.if-leaves.branch [
+        | then-leaves w ↦ ap length w.list-is ∙ simp length-set l.invariant.1
+        | else-leaves w ↦ ap length w.list-is ∙ l.invariant.1
+      ],
+      elim c.if-leaves.branch [
+        | then-leaves w ↦
+            rw (w.list-is, w.n-is)
+            (behind-next L e a.list.now a.have t at l.k l.list l.n l.invariant.2 (sym test ∙ w.if-leaves.true)
+            (room (goal.at.loop-k-preserved c).After-leaves r w.if-leaves.true) (r.disk l.k c.loop-k-test.true)
+            (not-true _ (and_left (not (e (at l.k))) _ (sym test ∙ w.if-leaves.true))))
+        | else-leaves w ↦
+            rw (w.list-is, w.n-is) (behind_skip L e a.list.now a.have t at l.k l.list l.n l.invariant.2 (sym test ∙ w.if-leaves.false))
+      ],
     )
 
 pub returns : goal.returns

@@ -10,7 +10,7 @@ use Rattle.sums.proofs.Cuts.{Behind}
 use Rattle.sums.proofs.cut.list_stripe.Given as goal
 
 abbrev pub invariant-loop-k : goal.invariant-loop-k
-invariant-loop-k l =    (l.k ≤ l.count) × (length l.list ≡ length l.initial.list)
+invariant-loop-k l = (l.k ≤ l.count) × (length l.list ≡ length l.initial.list)
     × Behind (layout_of l.size l.base) (erasures l.map) l.initial.list l.have (in_cut (layout_of l.size l.base) (erasures l.map) (in_part l.parts l.name))
     (λ j. l.first + j * l.step) l.k l.list l.n
 

@@ -16,9 +16,6 @@ overflow_mul-row_bytes c =
     let small = (row-bytes-small c.args.size c.requires.numbered.fits c.args.stretch.block c.requires.held.block).0 in
     rw c.across-across.ensures (omega arith)
 
-pub columns-requires : goal.columns-requires
-columns-requires c = tt
-
 pub overflow_mul-rest : goal.overflow_mul-rest
 overflow_mul-rest c =
     let small = (row-bytes-small c.args.size c.requires.numbered.fits c.args.stretch.block c.requires.held.block).1 in
@@ -26,8 +23,9 @@ overflow_mul-rest c =
 
 pub cancels-requires : goal.cancels-requires
 cancels-requires c =
+    let reach = rest_reach c.args.size c.args.stretch c.args.array.now c.requires.held in
     rw (c.across-across.ensures, c.down-down.ensures, c.columns.ensures)
-    (rest_reach c.args.size c.args.stretch c.args.array.now c.requires.held)
+    (record { within = reach.0; len_in_bounds = reach.1 })
 
 pub returns-then-cancels : goal.returns-then-cancels
 returns-then-cancels c =
@@ -40,8 +38,8 @@ returns-then-cancels c =
 
 pub lowest_nonzero-requires : goal.lowest_nonzero-requires
 lowest_nonzero-requires c =
-    rw (c.across-across.ensures, c.down-down.ensures)
-    (columns_reach c.args.size c.args.stretch c.args.array.now c.requires.held)
+    let reach = columns_reach c.args.size c.args.stretch c.args.array.now c.requires.held in
+    rw (c.across-across.ensures, c.down-down.ensures) (record { by_index = reach.0; by_index_2 = reach.1 })
 
 pub returns : goal.returns
 returns c =

@@ -18,7 +18,8 @@ overflow_mul-row_bytes c =
 
 pub lowest_nonzero-requires : goal.lowest_nonzero-requires
 lowest_nonzero-requires c =
-    rw (c.across-across.ensures, c.down-down.ensures) (rows_reach c.args.size c.args.stretch c.args.array.now c.requires.held)
+    let reach = rows_reach c.args.size c.args.stretch c.args.array.now c.requires.held in
+    rw (c.across-across.ensures, c.down-down.ensures) (record { by_index = reach.0; by_index_2 = reach.1 })
 
 pub returns : goal.returns
 returns c =

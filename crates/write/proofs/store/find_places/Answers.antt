@@ -22,7 +22,9 @@ disk_at-requires c =
     }
 
 pub overflow_mul-result-2 : goal.overflow_mul-result-2
-overflow_mul-result-2 c = let (size, (row, column)) = disk_at-requires (goal.at.overflow_mul-result-2 c).After-across-across in omega (arith, start-bound _ _ c.requires.size_value c.requires.block_value c.disk_at.result (rw c.disk_at.ensures (disk-below _ _ _ row column)))
+overflow_mul-result-2 c =
+    let r = disk_at-requires (goal.at.overflow_mul-result-2 c).After-across-across in
+    omega (arith, start-bound _ _ c.requires.size_value c.requires.block_value c.disk_at.result (rw c.disk_at.ensures (disk-below _ _ _ r.row_bound r.column_bound)))
 
 pub nonzero_rem-disk : goal.nonzero_rem-disk
 nonzero_rem-disk c = omega (arith, across_positive c.args.size)
@@ -36,19 +38,23 @@ disk_at-requires-2 c =
     }
 
 pub overflow_mul-result-3 : goal.overflow_mul-result-3
-overflow_mul-result-3 c = let (size, (row, column)) = disk_at-requires-2 (goal.at.overflow_mul-result-3 c).After-disk_at in omega (arith, start-bound _ _ c.requires.size_value c.requires.block_value c.disk_at-2.result (rw c.disk_at-2.ensures (disk-below _ _ _ row column)))
+overflow_mul-result-3 c =
+    let r = disk_at-requires-2 (goal.at.overflow_mul-result-3 c).After-disk_at in
+    omega (arith, start-bound _ _ c.requires.size_value c.requires.block_value c.disk_at-2.result (rw c.disk_at-2.ensures (disk-below _ _ _ r.row_bound r.column_bound)))
 
 pub disk_at-requires-3 : goal.disk_at-requires-3
 disk_at-requires-3 c =
-    let (size, (row, column)) = disk_at-requires-2 (goal.at.disk_at-requires-3 c).After-disk_at in
+    let r = disk_at-requires-2 (goal.at.disk_at-requires-3 c).After-disk_at in
     record {
-      size_value = size;
-      row_bound = row;
+      size_value = r.size_value;
+      row_bound = r.row_bound;
       column_bound = le_of_eq c.columns-last_column.ensures;
     }
 
 pub overflow_mul-result-4 : goal.overflow_mul-result-4
-overflow_mul-result-4 c = let (size, (row, column)) = disk_at-requires-3 (goal.at.overflow_mul-result-4 c).After-disk_at-2 in omega (arith, start-bound _ _ c.requires.size_value c.requires.block_value c.disk_at-3.result (rw c.disk_at-3.ensures (disk-below _ _ _ row column)))
+overflow_mul-result-4 c =
+    let r = disk_at-requires-3 (goal.at.overflow_mul-result-4 c).After-disk_at-2 in
+    omega (arith, start-bound _ _ c.requires.size_value c.requires.block_value c.disk_at-3.result (rw c.disk_at-3.ensures (disk-below _ _ _ r.row_bound r.column_bound)))
 
 pub returns : goal.returns
 returns c = cc

@@ -7,7 +7,7 @@ use Rattle.write.specs.Store.{parts}
 use Rattle.write.proofs.store.store_parts.Given as goal
 
 abbrev pub invariant-loop-i : goal.invariant-loop-i
-invariant-loop-i l =    (l.i ≤ l.count) × (length l.array ≡ length l.initial.array) × (l.array ≡ parts (record { own = l.own; row = l.row; column = l.column; corner = l.corner }) l.data l.from l.w l.initial.array l.i)
+invariant-loop-i l = (l.i ≤ l.count) × (length l.array ≡ length l.initial.array) × (l.array ≡ parts (record { own = l.own; row = l.row; column = l.column; corner = l.corner }) l.data l.from l.w l.initial.array l.i)
 
 abbrev pub decreases-loop-i : goal.decreases-loop-i
 decreases-loop-i l = l.count - l.i
