@@ -1,6 +1,7 @@
-// The reader of a lent sheet: the sheet and the number of the next record. No function over such a struct is covered by the
-// checker's own walk, so `new` and `next` do no work of their own: `record_at` does it, and everyone else calls `read`.
+// The reader of a lent sheet: the sheet and the number of the next record. `new` and `next` do no work of their own:
+// `record_at` does it, and other crates call `record_at` or `read`.
 #![tactic(auto)]
+
 ghost use Rattle.std.specs.Prelude.{◌≡◌};
 ghost use Rattle.reader.specs.Found.{found_at};
 

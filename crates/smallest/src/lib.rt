@@ -1,6 +1,7 @@
 // The smallest cycle of erased disks: the shortest, and of equal ones that whose disk numbers in ascending order come first. It is met at its
 // lowest disk: first that disk is searched for, then the others are chosen in rising order.
 #![tactic(auto)]
+
 ghost use Rattle.std.specs.Prelude.{◌≡◌, true, length};
 ghost use Rattle.stripes.specs.Erased.{erasures};
 ghost use Rattle.stripes.specs.Repair.{fatal};

@@ -1,7 +1,6 @@
 -- `reader::record_at` meets its contract.
 -- Assumes nothing.
 use native.Mathlib.Nat.{add-zero}
-use mir.Facts.{Fits-widen}
 use borrow.Author.Tests.{eq-eqb, ne_eqb, le-leb, lt-leb}
 use lib.ListN.{get_or}
 use Rattle.model.specs.Sheet.{narrow, record_at, number_at}
@@ -20,15 +19,6 @@ returns-then-number-gt-RECORDS c = rw (ne_eqb _ _ c.if-number-eq0.false, lt-leb 
 pub returns-then-sheet-ne-BYTES : goal.returns-then-sheet-ne-BYTES
 unfolding found_at
 returns-then-sheet-ne-BYTES c = rw (ne_eqb _ _ c.if-number-eq0.false, le-leb _ 32 c.if-number-gt-RECORDS.false, ne_eqb _ _ c.if-sheet-ne-BYTES.true)
-
-pub overflow_cast-result : goal.overflow_cast-result
-overflow_cast-result c = Fits-widen tt (c.shared_slice_known-1.given _)
-
-pub overflow_cast-result-2 : goal.overflow_cast-result-2
-overflow_cast-result-2 c = Fits-widen tt (c.shared_slice_known-2-1.given _)
-
-pub overflow_cast-result-3 : goal.overflow_cast-result-3
-overflow_cast-result-3 c = Fits-widen tt (c.shared_slice_known-3-1.given _)
 
 pub returns : goal.returns
 unfolding found_at entry_at next_number number_at

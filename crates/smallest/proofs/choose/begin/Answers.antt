@@ -2,7 +2,6 @@
 -- it already, and measured.
 -- Assumes nothing.
 use mathlib.Core.Path.{◌≡◌}
-use mathlib.Core.Logic.{⊎_elim}
 use native.Mathlib.Omega.{arith}
 use Rattle.stripes.specs.Erased.{erasures, above}
 use Rattle.model.specs.Grid.{layout_of}
@@ -11,15 +10,15 @@ use Rattle.tally.specs.Tally.{Table}
 use Rattle.tally.proofs.Counted.{crossed}
 use Rattle.smallest.specs.Leads.{Near}
 use Rattle.smallest.proofs.Choosing.{wiped_table, wiped_near}
-use Rattle.smallest.proofs.choose.begin.Goals.{After-wipe, Joined-found}
+use Rattle.smallest.proofs.choose.begin.Goals.{After-wipe, Joined-found, then-found, else-found}
 use Rattle.smallest.proofs.choose.begin.Goals as goal
 
 -- The disks above the lowest one are left, and the table has their stripes.
 left : (w : goal.After-wipe) →
-    let a = w.before.args in
-    (erasures w.wipe.new.0 ≡ above a.found.disk (erasures a.work.now))
-    × Table (layout_of a.size a.base) w.wipe.new.0 a.stripes.now
-left w = wiped_table w.before.requires.1.0 w.before.args.found.disk w.wipe.ensures
+    let a = w.args in
+    (erasures w.wipe.new.a ≡ above a.found.disk (erasures a.work.now))
+    × Table (layout_of a.size a.base) w.wipe.new.a a.stripes.now
+left w = wiped_table w.requires.table w.args.found.disk w.wipe.ensures
 
 pub load-requires-clause-numbered : goal.load-requires-clause-numbered
 load-requires-clause-numbered c = c.requires.numbered
@@ -32,17 +31,14 @@ load-requires-clause-near_len c = c.requires.near.room
 
 -- The table of neighbours is that of these disks, either way.
 neighbours : (j : goal.Joined-found) →
-    let w = j.before.before.before.before.before in
-    let a = w.before.args in
-    Near (layout_of a.size a.base) (erasures w.wipe.new.0) j.if1.near
+    let a = j.args in
+    Near (layout_of a.size a.base) (erasures j.wipe.new.a) j.if-found.near
 neighbours j =
-    let w = j.before.before.before.before.before in
-    let s = w.before in
-    ⊎_elim (λ (_, _, _, load, _, _, near). rw near load.ensures)
-    (λ (if1, near).
-    rw near
-    (wiped_near (erasures s.args.work.now) s.args.found.disk s.args.found.from if1.left s.pre.1.1.1.0 (left w).0))
-    j.if1.branch
+    let d = j.args.found.disk in
+    elim j.if-found.branch [
+      | then-found w ↦ rw w.near-is w.load.ensures
+      | else-found w ↦ rw w.near-is (wiped_near (erasures j.args.work.now) d j.args.found.from w.if-found.false j.requires.near (wiped_table j.requires.table d j.wipe.ensures).0)
+    ]
 
 pub measure-requires : goal.measure-requires
 measure-requires c =

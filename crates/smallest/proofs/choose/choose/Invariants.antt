@@ -10,7 +10,7 @@ use Rattle.smallest.proofs.Choosing.{Choosing}
 use Rattle.smallest.proofs.choose.choose.Given as goal
 
 abbrev pub invariant-loop-d : goal.invariant-loop-d
-invariant-loop-d l =    Choosing (layout_of l.size l.base) l.ends.low l.ends.high l.others l.work l.stripes l.near l.levels l.set l.d l.chosen × (l.d < length l.work → erasures l.work l.d ≡ true)
+invariant-loop-d l = Choosing (layout_of l.size l.base) l.ends.low l.ends.high l.others l.work l.stripes l.near l.levels l.set l.d l.chosen × (l.d < length l.work → erasures l.work l.d ≡ true)
 
 abbrev pub decreases-loop-d : goal.decreases-loop-d
 decreases-loop-d l = length l.work - l.d

@@ -1,6 +1,5 @@
 -- `smallest::near::clear` meets its contract: the loop writes one zero after the other.
 -- Assumes nothing.
-use Prim.Native.Nat.{◌-◌}
 use native.Mathlib.Omega.{arith}
 use borrow.Author.Rules.{rules}
 use Rattle.reach.proofs.Levelled.{filled_none, filled_next}

@@ -41,4 +41,4 @@ loop-rest-preserved c =
 pub returns : goal.returns
 returns c = λ y.
     gathered_all c.loop-rest.invariant c.loop-rest-test.false y
-    ∙ crossing_all _ _ c.ranges.inside.fits (λ x. (c.shared_slice_known-1.given x).fits) y
+    ∙ crossing_all _ _ c.ranges.inside.fits (λ x. (c.type_inv.near x).fits) y

@@ -2,7 +2,6 @@
 -- Assumes nothing.
 use mathlib.Core.Path.{◌≡◌}
 use mathlib.Core.Bool.{true}
-use Prim.Native.Nat.{◌-◌}
 use native.Mathlib.Omega.{arith}
 use borrow.Author.Rules.{rules}
 use Rattle.stripes.specs.Erased.{erasures, below}
@@ -48,7 +47,7 @@ pair : (c : goal.After-stripes_of) →
     let a = c.args in
     Crossed (layout_of a.size a.base) c.next_erased-d.result c.stripes_of.result.low c.stripes_of.result.high
 pair c =
-    erased_crossed c.requires.table _ (erased c.before.before) (numbered_two c.requires.numbered) c.stripes_of.ensures
+    erased_crossed c.requires.table _ (next_erased_lem _ _ c.next_erased-d.ensures (search rules)) (numbered_two c.requires.numbered) c.stripes_of.ensures
 
 pub toggle-requires : goal.toggle-requires
 toggle-requires c =
@@ -66,9 +65,8 @@ pub loop-size-smaller : goal.loop-size-smaller
 loop-size-smaller c = omega (arith, c.if-work-d.false, (passed (goal.at.loop-size-smaller c).After-next_erased-d).after)
 
 pub loop-size-preserved : goal.loop-size-preserved
-loop-size-preserved c =
-    (
-      near_next _ _ (numbered_two c.requires.numbered) (grid-apart c.requires.numbered) (stripes_few c.requires.numbered) (pair (goal.at.loop-size-preserved c).After-stripes_of) (erased (goal.at.loop-size-preserved c).Else-work-d) (over (goal.at.loop-size-preserved c).After-next_erased-d)
-          c.toggle.ensures,
-      omega (arith, c.if-work-d.false),
-    )
+loop-size-preserved c = (
+  near_next _ _ (numbered_two c.requires.numbered) (grid-apart c.requires.numbered) (stripes_few c.requires.numbered) (pair (goal.at.loop-size-preserved c).After-stripes_of) (erased (goal.at.loop-size-preserved c).Else-work-d) (over (goal.at.loop-size-preserved c).After-next_erased-d)
+      c.toggle.ensures,
+  omega (arith, c.if-work-d.false),
+)

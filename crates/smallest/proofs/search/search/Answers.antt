@@ -2,8 +2,8 @@
 -- Assumes nothing.
 use mathlib.Core.Path.{◌≡◌}
 use mathlib.Core.Bool.{true}
-use mathlib.Core.Logic.{inl, inr, ⊎_elim}
-use Prim.Native.Nat.{◌-◌, ◌<◌}
+use mathlib.Core.Logic.{inl, inr}
+use Prim.Native.Nat.{◌<◌}
 use native.Mathlib.Omega.{arith}
 use borrow.Author.Rules.{rules}
 use Rattle.stripes.specs.Erased.{erasures}
@@ -15,7 +15,7 @@ use Rattle.tally.proofs.Counted.{Crossed, erased_crossed}
 use Rattle.reach.specs.Reached.{word_stripes}
 use Rattle.smallest.proofs.Neighbours.{grid-apart}
 use Rattle.smallest.proofs.Searched.{Searched, searched_none, searched_over, searched_next, searched_end}
-use Rattle.smallest.proofs.search.search.Goals.{After-next_erased-d, After-stripes_of-pair, Else-work-d}
+use Rattle.smallest.proofs.search.search.Goals.{After-next_erased-d, After-stripes_of-pair, Else-work-d, then-steps-others, else-steps-others}
 use Rattle.smallest.proofs.search.search.Goals as goal
 
 pub loop-others-init : goal.loop-others-init
@@ -46,7 +46,7 @@ pair : (c : goal.After-stripes_of-pair) →
     let a = c.args in
     Crossed (layout_of a.size a.base) c.next_erased-d.result c.stripes_of-pair.result.low c.stripes_of-pair.result.high
 pair c =
-    erased_crossed c.requires.table_2 _ (erased c.before) (numbered_two c.requires.numbered) c.stripes_of-pair.ensures
+    erased_crossed c.requires.table_2 _ (next_erased_lem _ _ c.next_erased-d.ensures (search rules)) (numbered_two c.requires.numbered) c.stripes_of-pair.ensures
 
 -- Its stripes have their places in the table.
 places : (c : goal.After-stripes_of-pair) → (c.stripes_of-pair.result.low < word_stripes) × (c.stripes_of-pair.result.high < word_stripes)
@@ -87,7 +87,10 @@ loop-others-preserved c =
     let toggle = c.toggle in (
       searched_next (numbered_two s) (grid-apart s) (stripes_few s) (over (goal.at.loop-others-preserved c).After-next_erased-d) (erased (goal.at.loop-others-preserved c).Else-work-d) (pair (goal.at.loop-others-preserved c).After-stripes_of-pair) toggle.ensures
           (omega (arith, c.loop-others-test.true)) c.distance-steps.ensures
-          (⊎_elim (λ (w, disk, others). inl (w.taken, disk, others)) (λ (w, disk, others). inr (w.left, disk, others)) c.if-steps-others.branch),
+          (elim c.if-steps-others.branch [
+            | then-steps-others w ↦ inl (w.if-steps-others.true, w.disk-is, w.others-is)
+            | else-steps-others w ↦ inr (w.if-steps-others.false, w.disk-is, w.others-is)
+          ]),
       omega (arith, c.if-work-d.false),
     )
 

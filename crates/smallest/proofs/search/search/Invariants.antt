@@ -8,7 +8,7 @@ use Rattle.smallest.proofs.Searched.{Searched}
 use Rattle.smallest.proofs.search.search.Given as goal
 
 abbrev pub invariant-loop-others : goal.invariant-loop-others
-invariant-loop-others l =    Searched (layout_of l.size l.base) (erasures l.work) l.from l.near l.disk l.others × (l.from ≤ length l.work)
+invariant-loop-others l = Searched (layout_of l.size l.base) (erasures l.work) l.from l.near l.disk l.others × (l.from ≤ length l.work)
 
 abbrev pub decreases-loop-others : goal.decreases-loop-others
 decreases-loop-others l = length l.work - l.from

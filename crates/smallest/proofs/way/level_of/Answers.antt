@@ -24,12 +24,12 @@ held c = sym c.has.ensures ∙ c.if-not-has.false
 -- What is read is a byte.
 pub overflow_add-here : goal.overflow_add-here
 overflow_add-here c =
-    omega (arith, c.shared_slice_known-4-1.given c.args.pair.low)
+    omega (arith, c.type_inv.levels c.args.pair.low)
 
 pub overflow_add-here-2 : goal.overflow_add-here-2
 overflow_add-here-2 c =
-    let given = c.shared_slice_known-5-1.given in
-    omega (arith, given c.args.pair.low, given (64 + c.args.pair.high))
+    let fits = c.type_inv.levels in
+    omega (arith, fits c.args.pair.low, fits (64 + c.args.pair.high))
 
 pub returns-then-here-wide : goal.returns-then-here-wide
 returns-then-here-wide c =
@@ -39,12 +39,12 @@ returns-then-here-wide c =
 
 pub overflow_add-there : goal.overflow_add-there
 overflow_add-there c =
-    omega (arith, c.shared_slice_known-6-1.given c.args.pair.high)
+    omega (arith, c.type_inv.levels c.args.pair.high)
 
 pub overflow_add-there-2 : goal.overflow_add-there-2
 overflow_add-there-2 c =
-    let given = c.shared_slice_known-7-1.given in
-    omega (arith, given c.args.pair.high, given (64 + c.args.pair.low))
+    let fits = c.type_inv.levels in
+    omega (arith, fits c.args.pair.high, fits (64 + c.args.pair.low))
 
 pub returns-then-there-wide : goal.returns-then-there-wide
 returns-then-there-wide c =

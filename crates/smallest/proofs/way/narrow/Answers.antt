@@ -24,6 +24,6 @@ pub returns : goal.returns
 returns c =
     let ball = c.ball-inside in
     record {
-      cut = record { inside = ball.result; reaches = ball.ensures; c.before.before.before.before.before.before.before = inl c.cut.ensures };
+      cut = record { inside = ball.result; reaches = ball.ensures; cut = inl c.cut.ensures };
       levels = c.measure.ensures;
     }
