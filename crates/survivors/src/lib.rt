@@ -1,5 +1,6 @@
 // The survivors judged: whether they belong to a sealed array.
 #![tactic(auto)]
+
 ghost use Rattle.std.specs.Prelude.{◌≡◌, true, not, ◌||◌, ◌/◌, ◌≤◌, ◌<◌, eqb, length, get_or};
 ghost use Rattle.stripes.specs.Fold.{every};
 ghost use Rattle.stripes.specs.System.{whole};

@@ -10,7 +10,7 @@ use Rattle.survivors.proofs.ByPosition.{fits_at}
 use Rattle.survivors.proofs.all_fit.Given as goal
 
 abbrev pub invariant-loop-p : goal.invariant-loop-p
-invariant-loop-p l =    (every l.p (fits_at (layout_of l.size l.base) l.block l.sector (erasures l.map) l.array) ≡ true) × (l.p ≤ l.block / l.sector)
+invariant-loop-p l = (every l.p (fits_at (layout_of l.size l.base) l.block l.sector (erasures l.map) l.array) ≡ true) × (l.p ≤ l.block / l.sector)
 
 abbrev pub decreases-loop-p : goal.decreases-loop-p
 decreases-loop-p l = l.block / l.sector - l.p

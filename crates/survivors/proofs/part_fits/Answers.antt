@@ -10,7 +10,7 @@ bounds-parts-stripe c = search rules
 
 pub overflow_cast-name : goal.overflow_cast-name
 overflow_cast-name c =
-    let small = c.shared_slice_known-3-1.given c.args.stripe in
+    let small = c.type_inv.parts c.args.stripe in
     let h = c.requires.stripe_in_bounds in
     record { fits = omega arith }
 

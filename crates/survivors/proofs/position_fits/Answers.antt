@@ -1,7 +1,8 @@
 -- `save::judge::position_fits` meets its contract: the position is loaded, and its survivors are judged.
 -- Assumes nothing.
-use mathlib.Core.Path.{sym, ◌∙◌}
+use mathlib.Core.Path.{◌≡◌, sym, ◌∙◌}
 use native.Mathlib.Omega.{arith}
+use lib.ListN.{length}
 use lib.Seq.{length-take-le}
 use Rattle.tally.proofs.Column.{disks-few}
 use Rattle.survivors.proofs.ByPosition.{loaded_inside}
@@ -14,13 +15,18 @@ slice_bounds-memory-end c =
     omega arith
 
 pub slice_bounds-work-end : goal.slice_bounds-work-end
-slice_bounds-work-end c = sym (length-take-le _ _ (slice_bounds-memory-end c.before))
+slice_bounds-work-end c =
+    let few = disks-few c.requires.positioned in
+    let all = c.disks-disks.ensures in
+    sym (length-take-le _ _ (omega arith))
 
 pub load_position-requires : goal.load_position-requires
 load_position-requires c =
+    let few = disks-few c.requires.positioned in
+    let all = c.disks-disks.ensures in
     record {
       positioned = c.requires.positioned;
-      room = sym (slice_bounds-work-end c.before) ∙ c.disks-disks.ensures;
+      room = length-take-le _ _ (omega arith) ∙ all;
     }
 
 pub tally-requires : goal.tally-requires
@@ -28,8 +34,7 @@ tally-requires c =
     let p = c.requires in
     let few = disks-few p.positioned in
     let all = c.disks-disks.ensures in
-    let room = slice_bounds-work-end c.before.before.before.before.before.before.before in
-    let kept = c.load_position.auto.1.1.1.1.0 in
+    let long : length c.load_position.new.work ≡ c.disks-disks.result = c.load_position.auto.work ∙ length-take-le _ _ (omega arith) in
     record {
       numbered = p.numbered;
       size_in_bounds = omega arith;

@@ -1,7 +1,7 @@
 -- `save::judge::survivors_fit` meets its contract: the loop tests each stripe that names its part.
 -- Assumes nothing.
 use mathlib.Core.Path.{◌≡◌, refl, subst}
-use Prim.Native.Nat.{ℕ, ◌-◌}
+use Prim.Native.Nat.{ℕ}
 use native.Mathlib.Omega.{arith}
 use borrow.Author.Rules.{rules}
 use Rattle.stripes.specs.Erased.{erasures}
@@ -77,4 +77,4 @@ returns c =
     let L = layout_of c.args.size c.args.base in
     let end : c.loop-s.s ≡ L.stripe_bound = omega (arith, c.loop-s-test.false, c.loop-s.invariant.1) in
     all_pass (layout-two c.args.size c.args.base c.requires.numbered.above) c.args.stretch c.join_all.ensures c.args.array.now
-    (subst (λ (k : ℕ). Passing L c.args.stretch (erasures c.args.work.now) c.args.array.now c.join_all.new.1.1.1.1.0 k) end c.loop-s.invariant.0)
+    (subst (λ (k : ℕ). Passing L c.args.stretch (erasures c.args.work.now) c.args.array.now c.join_all.new.parts k) end c.loop-s.invariant.0)

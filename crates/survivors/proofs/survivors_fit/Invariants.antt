@@ -9,7 +9,7 @@ use Rattle.survivors.proofs.Judged.{Passing}
 use Rattle.survivors.proofs.survivors_fit.Given as goal
 
 abbrev pub invariant-loop-s : goal.invariant-loop-s
-invariant-loop-s l =    Passing (layout_of l.size l.base) l.stretch (erasures l.work) l.array l.parts l.s × (l.s ≤ l.bound) × (length l.list ≡ length l.initial.list)
+invariant-loop-s l = Passing (layout_of l.size l.base) l.stretch (erasures l.work) l.array l.parts l.s × (l.s ≤ l.bound) × (length l.list ≡ length l.initial.list)
 
 abbrev pub decreases-loop-s : goal.decreases-loop-s
 decreases-loop-s l = l.bound - l.s
