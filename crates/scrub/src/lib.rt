@@ -1,5 +1,6 @@
 // Check: tests whether an array is sealed. In the field's words, a scrub.
 #![tactic(auto)]
+
 ghost use Rattle.std.specs.Prelude.{◌≡◌};
 ghost use Rattle.model.specs.Array.{checked};
 

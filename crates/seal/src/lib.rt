@@ -1,5 +1,6 @@
 // Seal: fills the parities. A refusal leaves the array as it was.
 #![tactic(auto)]
+
 ghost use Rattle.std.specs.Prelude.{◌≡◌};
 ghost use Rattle.model.specs.Array.{seal_status, seal_array};
 

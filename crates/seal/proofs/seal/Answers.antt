@@ -32,7 +32,7 @@ pub fill_last_row-requires : goal.fill_last_row-requires
 unfolding seal_status
 fill_last_row-requires c =
     let a = c.args in
-    ap (λ (len : ℕ). refusal (array_tests a.size a.block len)) c.fill_rows.auto.1.1.0 ∙ accepted (goal.at.fill_last_row-requires c).Else-status-ne0
+    ap (λ (len : ℕ). refusal (array_tests a.size a.block len)) c.fill_rows.auto.array ∙ accepted (goal.at.fill_last_row-requires c).Else-status-ne0
 
 pub returns : goal.returns
 returns c =

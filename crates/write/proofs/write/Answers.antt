@@ -53,8 +53,8 @@ store-requires c =
 
 pub returns : goal.returns
 returns c =
-    let sized = sized (goal.at.returns c).Else-status-ne0 in
-    let ok = status_none _ _ _ _ _ sized (on-data (goal.at.returns c).Else-not-is_data) c.if-data-block.false in
+    let fits = sized (goal.at.returns c).Else-status-ne0 in
+    let ok = status_none _ _ _ _ _ fits (on-data (goal.at.returns c).Else-not-is_data) c.if-data-block.false in
     record {
       status = sym ok;
       array = c.store.ensures ∙ sym (write_is _ _ _ _ _ ok);

@@ -1,11 +1,10 @@
 -- `seal::parity::fill_rows` meets its contract: after each turn one row parity more is filled.
 -- Assumes nothing.
 use mathlib.Core.Path.{◌≡◌, refl, ◌∙◌, ap}
-use Prim.Native.Nat.{◌*◌, ◌-◌}
+use Prim.Native.Nat.{◌*◌}
 use native.Mathlib.Omega.{arith}
 use borrow.Author.Rules.{rules}
 use lib.ListN.{length}
-use Rattle.model.specs.Grid.{rows}
 use Rattle.model.proofs.Grid.{size_fits_lem}
 use Rattle.model.proofs.Refusal.{ArrayFits}
 use Rattle.model.proofs.Seal.{seal_fits}
@@ -13,14 +12,14 @@ use Rattle.xor.specs.Strided.{Spaced}
 use Rattle.sums.proofs.Stripes.{row-bytes-small}
 use Rattle.seal.specs.Parity.{row_filled, rows_filled}
 use Rattle.seal.proofs.Rows.{row_spaced, rows-length, rows_next}
-use Rattle.seal.proofs.parity.fill_rows.Goals.{At-loop-row, In-loop-row, Start}
+use Rattle.seal.proofs.parity.fill_rows.Goals.{In-loop-row, Start}
 use Rattle.seal.proofs.parity.fill_rows.Goals as goal
 
 sized : (s : goal.Start) → ArrayFits s.args.size s.args.block (length s.args.array.now)
 sized s = seal_fits _ _ _ s.requires
 
 -- The array keeps its length.
-kept : (c : goal.At-loop-row) → length c.loop-row.array ≡ length c.args.array.now
+kept : (c : goal.In-loop-row) → length c.loop-row.array ≡ length c.args.array.now
 kept c = ap length c.loop-row.invariant.1 ∙ rows-length _ _ _ c.loop-row.row
 
 pub across-across-requires : goal.across-across-requires
@@ -41,10 +40,10 @@ spaced : (c : goal.In-loop-row) → Spaced c.loop-row.array (c.loop-row.row * (c
 spaced c =
     let e = c.rows.ensures in
     rw (c.columns-last.ensures, c.across-across.ensures)
-    (row_spaced _ _ _ (rw (kept c.before.before) (sized c.before.before.before.before.before.before)) c.loop-row.row (omega arith))
+    (row_spaced _ _ _ (rw (kept c) (seal_fits _ _ _ c.requires)) c.loop-row.row (omega arith))
 
 pub overflow_mul-row : goal.overflow_mul-row
-overflow_mul-row c = let s = spaced (goal.at.overflow_mul-row c).In-loop-row in omega (arith, s.within _ s.one, kept (goal.at.overflow_mul-row c).At-loop-row)
+overflow_mul-row c = let s = spaced (goal.at.overflow_mul-row c).In-loop-row in omega (arith, s.within _ s.one, kept (goal.at.overflow_mul-row c).In-loop-row)
 
 pub fill-requires : goal.fill-requires
 fill-requires c = spaced (goal.at.fill-requires c).In-loop-row
