@@ -1,23 +1,22 @@
 -- When all stripes are reached: the disks of the links that are not closed are the determined ones, and all other disks of the set are not.
 -- Assumes nothing.
 use mathlib.Core.Path.{◌≡◌, refl, sym, ◌∙◌, ap, ap₂}
-use mathlib.Core.Bool.{Bool, true, false, not, ◌&&◌, ◌||◌, or-false, true≢false}
+use mathlib.Core.Bool.{Bool, true, false, not, ◌&&◌, ◌||◌, true≢false}
 use mathlib.Core.Logic.{⊎_elim}
 use Prim.Native.Nat.{ℕ, ◌+◌, ◌<◌}
 use native.Mathlib.Nat.{le_antisymm}
-use native.Mathlib.Omega.{arith}
-use borrow.Author.Tests.{eq-eqb, ne_eqb, eqb-true, eqb-false, not-true}
+use borrow.Author.Tests.{eq-eqb, eqb-true, eqb-false, not-true}
 use lib.Dec.{eqb}
 use Rattle.stripes.specs.Fold.{count, bit}
-use Rattle.stripes.specs.System.{Layout, TwoStripes, on, other_than, lower, higher}
+use Rattle.stripes.specs.System.{Layout, TwoStripes, on, lower, higher}
 use Rattle.stripes.specs.Erased.{without}
 use Rattle.stripes.specs.Joined.{joined}
 use Rattle.stripes.specs.Undetermined.{undetermined, determined, lost}
 use Rattle.stripes.proofs.Fold.{by_cases, and_both, and_left, and_right, count_split}
 use Rattle.stripes.proofs.Counts.{count_injects}
-use Rattle.stripes.proofs.Degree.{on-low, on-high, other-first}
+use Rattle.stripes.proofs.Degree.{on-low}
 use Rattle.stripes.proofs.Peel.{without_sub, without-apart, without_other}
-use Rattle.stripes.proofs.Joined.{lower_is, higher_is, joined_self, joined_back, joined_chain, joined-disk, joined-least}
+use Rattle.stripes.proofs.Joined.{lower_is, joined_back, joined_chain, joined-least}
 use Rattle.reach.specs.Reached.{word_stripes}
 use Rattle.neighbours.specs.Near.{Met}
 use Rattle.neighbours.proofs.Meeting.{or_second}

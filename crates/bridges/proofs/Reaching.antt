@@ -1,12 +1,12 @@
 -- The stripes that are reached, as words: one stripe more, a part from its beginning to its end, and all parts.
 -- Assumes nothing.
-use mathlib.Core.Path.{◌≡◌, refl, sym, ◌∙◌, ap, ap₂, subst}
+use mathlib.Core.Path.{◌≡◌, refl, sym, ◌∙◌, ap, subst}
 use mathlib.Core.Bool.{Bool, true, false, cond, not, ◌&&◌, ◌||◌, or-false, true≢false}
 use mathlib.Core.Logic.{⊎_elim}
 use mathlib.Core.List.{List}
-use Prim.Native.Nat.{ℕ, ◌+◌, ◌-◌, ◌^◌, ◌<◌}
+use Prim.Native.Nat.{ℕ, ◌^◌, ◌<◌}
 use native.Mathlib.Omega.{arith}
-use borrow.Author.Tests.{eq-eqb, ne_eqb, eqb-true, eqb-false, not-true}
+use borrow.Author.Tests.{ne_eqb, eqb-false, not-true}
 use lib.Bits.{bit_and, bit_or, bit_xor}
 use lib.Dec.{eqb}
 use lib.ListN.{length, get_or, set, length-set}
@@ -14,13 +14,13 @@ use lib.Seq.{get_or-set_same, get_or-set_other}
 use Rattle.stripes.specs.Fold.{◌⊕◌, count, bit}
 use Rattle.stripes.specs.System.{Layout, TwoStripes}
 use Rattle.stripes.proofs.Fold.{by_cases, and_both, and_left, and_right, or_left, count_but}
-use Rattle.reach.specs.Reached.{has, some, next_in, word_stripes}
+use Rattle.reach.specs.Reached.{has, next_in, word_stripes}
 use Rattle.reach.proofs.Words.{Without, has-none, has_one, has_or, has_and, has_xor, has-without, has_room}
-use Rattle.neighbours.specs.Near.{meets, Met, Near}
+use Rattle.neighbours.specs.Near.{Met, Near}
 use Rattle.neighbours.proofs.Meeting.{or_which, or_first, or_second, some_found, some_of, meets_is, meets_of}
 use Rattle.neighbours.proofs.Neighbours.{Apart}
-use Rattle.bridges.specs.Forest.{Forest, way_in, Grown, Growing, Beside, on_one}
-use Rattle.bridges.proofs.Forest.{With, with_u, with_old, was_old, split, put, put_same, put_other, met_back, no_loop, forest-none, forest-root, forest_link}
+use Rattle.bridges.specs.Forest.{way_in, Grown, Growing, Beside, on_one}
+use Rattle.bridges.proofs.Forest.{With, with_u, with_old, was_old, split, put_same, put_other, met_back, no_loop, forest-none, forest-root, forest_link}
 
 -- A stripe put into a set.
 pub with_one : (a u : ℕ) → With (has a) u (has (bit_or a (2 ^ u)))

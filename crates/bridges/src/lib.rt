@@ -3,6 +3,7 @@
 // from the beginning of its part to it. Every other disk closes a cycle with the links that only one of its two stripes has on its way. The disk
 // of a link on no such cycle, a bridge, is determined, and all other disks are not.
 #![tactic(auto)]
+
 ghost use Rattle.std.specs.Prelude.{◌≡◌, true, false, ◌||◌, ℕ, ◌<◌, eqb, length};
 ghost use Rattle.stripes.specs.Fold.{count};
 ghost use Rattle.stripes.specs.Erased.{erasures};

@@ -132,11 +132,12 @@ module _ {s l m : List ℕ} {number k : ℕ} (p : Listed s l m number k) where
   ring_read some most all = let count = p.counted in walked_ring p.walked p.kind (omega arith) (pos_of_ne-zero some) most
 
   -- Where no record was found, the number is not one of a record.
-  pub none_found : (number ≡ 0 → ⊥) → number ≤ 32 → (f : Found) → f ≡ found_at s number → OneOf (1 ∷ 2 ∷ []) (tag_of found.the_type f) → ⊥
+  pub none_found : (number ≡ 0 → ⊥) → number ≤ 32 → (f : Found) → f ≡ found_at s number
+      → ((disk stripe following : ℕ) → f ≡ Record disk stripe following → ⊥) → ⊥
   none_found some most f e other = go f other (found_says s number f p.long e)
     where
-      go : (f : Found) → OneOf (1 ∷ 2 ∷ []) (tag_of found.the_type f) → Says s number f → ⊥
-      go (Record d t m) h w = ⊎_elim (λ (e : ◌≡◌ {A = ℕ} 0 1). omega arith) (λ (e : ◌≡◌ {A = ℕ} 0 2). omega arith) h
+      go : (f : Found) → ((disk stripe following : ℕ) → f ≡ Record disk stripe following → ⊥) → Says s number f → ⊥
+      go (Record d t m) h w = h d t m refl
       go End h w = some w
       go Outside h w = omega arith
 

@@ -1,5 +1,6 @@
 // The repairs of a loss in plan's order, or for a fatal loss the cycle that shows it, as a list.
 #![tactic(auto)]
+
 ghost use Rattle.std.specs.Prelude.{◌≡◌, true, ◌≤◌, length};
 ghost use Rattle.stripes.specs.Erased.{erasures};
 ghost use Rattle.model.specs.Grid.{layout_of, disks, map_fits};

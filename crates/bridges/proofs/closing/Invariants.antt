@@ -1,6 +1,5 @@
 -- `bridges::closing` meets its contract: each turn takes the lowest stripe out of what is left of the set.
 -- Assumes nothing.
-use Prim.Native.Nat.{◌-◌}
 use lib.ListN.{get_or}
 use Rattle.stripes.specs.Fold.{◌⊕◌}
 use Rattle.reach.specs.Reached.{has}

@@ -1,7 +1,7 @@
 -- `bridges::members` meets its contract: each turn takes the lowest stripe out of what is left of the set, and counts it.
 -- Assumes nothing.
 use mathlib.Core.Path.{◌≡◌}
-use Prim.Native.Nat.{◌+◌, ◌-◌, ◌^◌, ◌<◌}
+use Prim.Native.Nat.{◌+◌, ◌^◌, ◌<◌}
 use Rattle.stripes.specs.Fold.{count}
 use Rattle.reach.specs.Reached.{has, word_stripes}
 use Rattle.bridges.proofs.members.Given as goal

@@ -1,17 +1,14 @@
 -- `bridges::reach_all` meets its contract: each turn of the loop reaches one stripe, with its part if it is not reached yet.
 -- Assumes nothing.
 use mathlib.Core.Path.{sym, ◌∙◌}
-use mathlib.Core.Bool.{true}
-use mathlib.Core.Logic.{⊎_elim}
-use Prim.Native.Nat.{◌+◌, ◌-◌, ◌≤◌}
+use Prim.Native.Nat.{◌+◌, ◌≤◌}
 use native.Mathlib.Nat.{not-suc-le-zero}
 use native.Mathlib.Omega.{arith}
 use borrow.Author.Count.{below_more}
-use borrow.Author.Tests.{not-false}
 use Rattle.model.specs.Grid.{layout_of}
 use Rattle.layout.proofs.Runs.{stripes_few}
-use Rattle.reach.specs.Reached.{has}
 use Rattle.bridges.proofs.Reaching.{none_grown}
+use Rattle.bridges.proofs.reach_all.Goals.{then-not-has, else-not-has}
 use Rattle.bridges.proofs.reach_all.Goals as goal
 
 pub loop-s-init : goal.loop-s-init
@@ -50,11 +47,13 @@ loop-s-preserved c =
     let h = c.loop-s.invariant in
     let most : c.loop-s.s + 1 ≤ (layout_of c.args.size c.args.base).stripe_bound =
     omega (arith, c.loop-s-test.true, c.bound.ensures) in
-    ⊎_elim
-    (λ (_, _, part, _, _, ways, done).
-    rw (ways, done) (part.ensures.0, below_more _ _ (λ i l. part.ensures.1.1 i (h.1 i l)) part.ensures.1.0, most))
-    (λ (if2, ways, done). rw (ways, done) (h.0, below_more _ _ h.1 (sym c.has.ensures ∙ not-false _ if2.left), most))
-    c.if-not-has.branch
+    elim c.if-not-has.branch [
+      | then-not-has w ↦
+          let part = w.reach_part-more.ensures in
+          rw (w.ways-is, w.done-is) (part.grown, below_more _ _ (λ i l. part.others i (h.1 i l)) part.own, most)
+      | else-not-has w ↦
+          rw (w.ways-is, w.done-is) (h.0, below_more _ _ h.1 (sym c.has.ensures ∙ w.if-not-has.false), most)
+    ]
 
 pub returns : goal.returns
 returns c =

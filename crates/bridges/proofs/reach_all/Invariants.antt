@@ -10,7 +10,7 @@ use Rattle.bridges.specs.Forest.{Grown}
 use Rattle.bridges.proofs.reach_all.Given as goal
 
 abbrev pub invariant-loop-s : goal.invariant-loop-s
-invariant-loop-s l =    Grown (layout_of l.size l.base) (erasures l.work) l.done.seen l.done.links l.done.closed l.ways
+invariant-loop-s l = Grown (layout_of l.size l.base) (erasures l.work) l.done.seen l.done.links l.done.closed l.ways
     × ((i : ℕ) → i < l.s → has l.done.seen i ≡ true)
     × (l.s ≤ (layout_of l.size l.base).stripe_bound)
 

@@ -9,42 +9,42 @@ use Rattle.layout.proofs.Runs.{numbered_two}
 use Rattle.reach.proofs.Words.{Without, lowest_out}
 use Rattle.neighbours.proofs.Neighbours.{grid-apart}
 use Rattle.bridges.proofs.Reaching.{with_one, back_some, reached-one}
-use Rattle.bridges.proofs.reach_one.Goals.{After-struct_known-1}
+use Rattle.bridges.proofs.reach_one.Goals.{Start}
 use Rattle.bridges.proofs.reach_one.Goals as goal
 
 -- The neighbours that are reached, and the lowest of them.
 abbrev back : goal.Start → ℕ
 back s = bit_and (get_or s.args.near.now s.args.stripe 0) s.args.before.seen
 
-seen-fits : (c : goal.After-struct_known-1) → c.args.seen < 2 ^ 64
-seen-fits c = c.struct_known-1.given.0.fits
-
-out : (c : goal.After-struct_known-1) → let w = back c.before.before.before.before.before in Without w (count_trailing_zeros 64 w) (bit_and w (w - 1))
-out c =
-    let p = c.requires in
-    let less = and_le_r (get_or c.args.near.now c.args.stripe 0) c.args.seen in
+out : (s : goal.Start) → s.args.before.seen < 2 ^ 64 → let w = back s in Without w (count_trailing_zeros 64 w) (bit_and w (w - 1))
+out s fits =
+    let p = s.requires in
+    let less = and_le_r (get_or s.args.near.now s.args.stripe 0) s.args.before.seen in
     lowest_out _
-    (back_some _ (numbered_two p.numbered) (grid-apart p.numbered) p.near (seen-fits c) p.growing_2 p.stripe_lt_word_stripes p.beside)
-    (omega (arith, seen-fits c))
+    (back_some _ (numbered_two p.numbered) (grid-apart p.numbered) p.near fits p.growing_2 p.stripe_lt_word_stripes p.beside)
+    (omega arith)
 
 pub overflow_cast-from : goal.overflow_cast-from
-overflow_cast-from c = omega (arith, (out (goal.at.overflow_cast-from c).After-struct_known-1).small)
+overflow_cast-from c = omega (arith, (out (goal.at.overflow_cast-from c).Start (omega arith)).small)
 
 pub offset_bounds-ways-from : goal.offset_bounds-ways-from
-offset_bounds-ways-from c = omega (arith, (out (goal.at.offset_bounds-ways-from c).After-struct_known-1).small)
+offset_bounds-ways-from c = omega (arith, (out (goal.at.offset_bounds-ways-from c).Start (omega arith)).small)
 
 pub bounds-ways-from : goal.bounds-ways-from
-bounds-ways-from c = omega (arith, (out (goal.at.bounds-ways-from c).After-struct_known-1).small, c.requires.growing_2.room)
+bounds-ways-from c = omega (arith, (out (goal.at.bounds-ways-from c).Start (omega arith)).small, c.requires.growing_2.room)
 
 pub overflow_sub-back : goal.overflow_sub-back
-overflow_sub-back c = omega (arith, (out (goal.at.overflow_sub-back c).After-struct_known-1).less)
+overflow_sub-back c = omega (arith, (out (goal.at.overflow_sub-back c).Start (omega arith)).less)
 
 pub returns : goal.returns
 returns c =
     let p = c.requires in
+    let fits : c.args.before.seen < 2 ^ 64 = omega arith in
     let shut = c.closing-closed in
-    rw c.one-own.ensures (
-      reached-one _ (numbered_two p.numbered) (grid-apart p.numbered) p.near (seen-fits (goal.at.returns c).After-struct_known-1) p.growing_2 p.stripe_lt_word_stripes p.beside (out (goal.at.returns c).After-struct_known-1) shut.result
-          (rw c.one-own.ensures at shut.ensures),
-      (with_one c.args.seen c.args.stripe).is,
-    )
+    rw c.one-own.ensures
+    record {
+      growing =
+          reached-one _ (numbered_two p.numbered) (grid-apart p.numbered) p.near fits p.growing_2 p.stripe_lt_word_stripes p.beside
+          (out (goal.at.returns c).Start fits) shut.result (rw c.one-own.ensures at shut.ensures);
+      seen = (with_one c.args.before.seen c.args.stripe).is;
+    }

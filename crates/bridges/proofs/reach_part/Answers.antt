@@ -1,6 +1,6 @@
 -- `bridges::reach_part` meets its contract: each turn of the loop reaches one of the stripes ahead.
 -- Assumes nothing.
-use Prim.Native.Nat.{◌-◌}
+use Prim.Native.Nat.{◌-◌, ◌<◌, ◌^◌}
 use native.Mathlib.Omega.{arith}
 use lib.Bits.{bit_and, or_lt, xor_lt}
 use lib.Count.{count_trailing_zeros}
@@ -18,9 +18,10 @@ loop-ahead-init c =
     let p = c.requires in
     let one = c.one.ensures in
     let power = pow-lt {i = c.args.stripe} {j = 64} p.stripe_lt_word_stripes in
+    let fits : c.args.before.seen < 2 ^ 64 = omega arith in
     rw one
     (spread_begin _ (numbered_two p.numbered) (grid-apart p.numbered) p.near p.grown_2 c.args.stripe p.stripe_lt_word_stripes p.stripe_value
-    (or_lt 64 _ _ c.struct_known-1.given.0.fits power) (c.shared_slice_known-3-1.given c.args.stripe).fits)
+    (or_lt 64 _ _ fits power) (c.type_inv.near c.args.stripe).fits)
 
 -- The stripe of a turn, which is ahead.
 out : (c : goal.In-loop-ahead) → let w = c.loop-ahead.ahead in Without w (count_trailing_zeros 64 w) (bit_and w (w - 1))
@@ -55,9 +56,9 @@ pub loop-ahead-preserved : goal.loop-ahead-preserved
 loop-ahead-preserved c =
     let p = c.requires in
     let more = c.reach_one-more in
-    let fits = c.struct_known-in-loop-ahead-1.given.0.fits in
+    let fits : more.result.seen < 2 ^ 64 = omega arith in
     spread_next _ (numbered_two p.numbered) (grid-apart p.numbered) p.near c.loop-ahead.invariant _ (out (goal.at.loop-ahead-preserved c).In-loop-ahead).small more.ensures.growing fits more.ensures.seen
-    (xor_lt 64 _ _ (or_lt 64 _ _ (or_lt 64 _ _ c.loop-ahead.invariant.ahead_fits (c.shared_slice_known-in-loop-ahead-1.given _).fits) fits) fits)
+    (xor_lt 64 _ _ (or_lt 64 _ _ (or_lt 64 _ _ c.loop-ahead.invariant.ahead_fits (c.type_inv.near _).fits) fits) fits)
 
 pub returns : goal.returns
 returns c =
@@ -66,6 +67,6 @@ returns c =
     let first = rw c.one.ensures at h.kept in
     record {
       grown = spread_end _ (numbered_two p.numbered) (grid-apart p.numbered) p.near h c.loop-ahead-test.false;
-      own = first c.args.stripe (with_u (with_one c.args.seen c.args.stripe));
-      others = λ t k. first t (with_old (with_one c.args.seen c.args.stripe) t k);
+      own = first c.args.stripe (with_u (with_one c.args.before.seen c.args.stripe));
+      others = λ t k. first t (with_old (with_one c.args.before.seen c.args.stripe) t k);
     }

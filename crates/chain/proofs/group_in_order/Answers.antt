@@ -11,6 +11,7 @@ use Rattle.stripes.specs.Fold.{every}
 use Rattle.stripes.proofs.Fold.{and_both, every-not}
 use Rattle.chain.specs.Read.{in_order}
 use Rattle.chain.proofs.Groups.{off_and_not_zero, zero-byte, on_record}
+use Rattle.chain.proofs.group_in_order.Goals.{then-sheet-at-ne0+else-marks-at-ne1, else-sheet-at-ne0}
 use Rattle.chain.proofs.group_in_order.Goals as goal
 
 pub loop-j-init : goal.loop-j-init
@@ -33,8 +34,10 @@ loop-j-preserved c =
       search rules,
       rw add-one
           (and_both l.invariant.1
-          (⊎_elim (λ w. on_record a.marks.now a.sheet.now (a.at + l.j) w.2.left)
-          (λ w. zero-byte a.marks.now a.sheet.now (a.at + l.j) w.left) c.if-sheet-at-ne0.branch)),
+          (elim c.if-sheet-at-ne0.branch [
+            then-sheet-at-ne0+else-marks-at-ne1 w ↦ on_record a.marks.now a.sheet.now (a.at + l.j) w.if-marks-at-ne1.false
+            | else-sheet-at-ne0 w ↦ zero-byte a.marks.now a.sheet.now (a.at + l.j) w.if-sheet-at-ne0.false
+          ])),
     )
 
 pub returns : goal.returns

@@ -14,17 +14,13 @@ read-chain-requires-clause-by_index c = none-marked 33
 
 pub returns-in_default : goal.returns-in_default
 returns-in_default c =
-    let refusal = by_number _ _ _ c.read-chain.ensures.chain _ c.enum_told-1.given.1 in
-    let (h0, h1) = absurd (refusal.1 c.requires.sheet_value) in
-    record {
-      number = h0;
-      list = h1;
-    }
+    let refusal = by_number _ _ _ c.read-chain.ensures.chain _ c.in_default.is in
+    record { number = absurd (refusal.1 c.requires.sheet_value); list = absurd (refusal.1 c.requires.sheet_value) }
 
 pub returns : goal.returns
 returns c =
-    let (fits, count) = by_records _ _ _ c.read-chain.ensures.chain _ c.chain-1.given.1 in
+    let (fits, count) = by_records _ _ _ c.read-chain.ensures.chain _ c.in-Records.is in
     record {
       number = count;
-      list = ap (listed c.read-chain.new.marks.0) count ∙ c.read-chain.ensures.list fits;
+      list = ap (listed c.read-chain.new.list) count ∙ c.read-chain.ensures.list fits;
     }

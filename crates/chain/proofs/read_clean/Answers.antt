@@ -13,7 +13,7 @@ read-chain-requires-clause-by_index c = none-marked 33
 pub returns-in_default : goal.returns-in_default
 returns-in_default c =
     let read = c.read-chain in
-    let (h0, h1) = refused _ _ _ _ read.ensures.chain c.enum_told-1.given.1 in
+    let (h0, h1) = refused _ _ _ _ read.ensures.chain c.in_default.is in
     record {
       chain = h0;
       list = h1;
@@ -22,7 +22,7 @@ returns-in_default c =
 pub returns-then-not-rest_is_zero : goal.returns-then-not-rest_is_zero
 returns-then-not-rest_is_zero c =
     let read = c.read-chain in
-    let (h0, h1) = left_over _ _ _ _ _ read.ensures.chain c.chain-1.given.1 read.ensures.list read.ensures.marks _ c.rest_is_zero.ensures
+    let (h0, h1) = left_over _ _ _ _ _ read.ensures.chain c.in-Records.is read.ensures.list read.ensures.marks _ c.rest_is_zero.ensures
     (c.if-not-rest_is_zero.true) in
     record {
       chain = h0;
@@ -32,7 +32,7 @@ returns-then-not-rest_is_zero c =
 pub returns : goal.returns
 returns c =
     let read = c.read-chain in
-    let (h0, h1) = clean _ _ _ _ _ read.ensures.chain c.chain-1.given.1 read.ensures.list read.ensures.marks _ c.rest_is_zero.ensures
+    let (h0, h1) = clean _ _ _ _ _ read.ensures.chain c.in-Records.is read.ensures.list read.ensures.marks _ c.rest_is_zero.ensures
     (c.if-not-rest_is_zero.false) in
     record {
       chain = h0;

@@ -10,6 +10,7 @@ use borrow.Author.Tests.{not-false}
 use Rattle.stripes.specs.Fold.{every}
 use Rattle.chain.specs.Read.{in_order}
 use Rattle.chain.proofs.Groups.{group_zero, group_next, group_fails}
+use Rattle.chain.proofs.rest_is_zero.Goals.{then-not-all_zero16+else-not-group_in_order, else-not-all_zero16}
 use Rattle.chain.proofs.rest_is_zero.Goals as goal
 
 pub loop-at-init : goal.loop-at-init
@@ -30,8 +31,10 @@ loop-at-preserved c =
       search rules,
       search rules,
       group_next a.marks.now a.sheet.now l.at l.invariant.3
-          (⊎_elim (λ w. sym w.1.ensures ∙ not-false _ w.2.left)
-          (λ w. group_zero a.marks.now a.sheet.now l.at (sym c.all_zero16.ensures ∙ not-false _ w.left)) c.if-not-all_zero16.branch),
+          (elim c.if-not-all_zero16.branch [
+            then-not-all_zero16+else-not-group_in_order w ↦ sym w.group_in_order.ensures ∙ w.if-not-group_in_order.false
+            | else-not-all_zero16 w ↦ group_zero a.marks.now a.sheet.now l.at (sym c.all_zero16.ensures ∙ w.if-not-all_zero16.false)
+          ]),
     )
 
 pub returns : goal.returns

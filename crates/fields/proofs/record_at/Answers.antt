@@ -27,7 +27,7 @@ beyond k v high = rw (lt-leb k 32 high, le-leb 1 k (omega arith))
 pub returns-in-Record : goal.returns-in-Record
 returns-in-Record c =
     let a = c.args in
-    let is = found_says a.sheet.now a.number _ c.record_at-arg-1.given.0 (sym c.found-1.given.1 ∙ c.record_at-found.ensures) in
+    let is = found_says a.sheet.now a.number _ c.told-sheet (sym c.in-Record.is ∙ c.record_at-found.ensures) in
     let same = sym is.2 in
     let of : (v : ℕ) → v ≡ if_record narrow a.number v = λ v. field a.number v is.0 is.1 in
     record {
@@ -39,7 +39,7 @@ returns-in-Record c =
 pub returns-in-End : goal.returns-in-End
 returns-in-End c =
     let a = c.args in
-    let is = found_says a.sheet.now a.number End c.record_at-arg-1.given.0 (sym c.enum_told-1.given.1 ∙ c.record_at-found.ensures) in
+    let is = found_says a.sheet.now a.number End c.told-sheet (sym c.in-End.is ∙ c.record_at-found.ensures) in
     record {
       disk = none _ _ is;
       stripe = none _ _ is;
@@ -49,7 +49,7 @@ returns-in-End c =
 pub returns-in-Outside : goal.returns-in-Outside
 returns-in-Outside c =
     let a = c.args in
-    let is = found_says a.sheet.now a.number Outside c.record_at-arg-1.given.0 (sym c.enum_told-in-Outside-1.given.1 ∙ c.record_at-found.ensures) in
+    let is = found_says a.sheet.now a.number Outside c.told-sheet (sym c.in-Outside.is ∙ c.record_at-found.ensures) in
     record {
       disk = beyond _ _ is;
       stripe = beyond _ _ is;

@@ -14,10 +14,8 @@ pub show-requires : goal.show-requires
 show-requires c =
     let few = map-few _ _ c.requires.numbered _ c.requires.map_value in
     let long = map-disks _ c.args.base _ c.requires.map_value in
-    let kept = c.peel-found.auto.stripes.1.1 in
     let room = c.requires.room.disks_fit in
-    let work = kept.0 in
-    let list = kept.1.1.1.0 in
+    let kept = c.peel-found.auto in
     let fits = c.requires.room.list_fits in
     record {
       numbered = c.requires.numbered;

@@ -31,7 +31,7 @@ write-requires c =
     let read = c.read-chain in
     let sheet = c.args.sheet.now in
     let bytes : Bytes sheet = λ i l. omega (arith, c.slice_known-1.given i) in
-    let few = small sheet c.if-sheet-ne-BYTES.false _ read.ensures.chain _ read.ensures.list _ c.chain-1.given.1 bytes in
+    let few = small sheet c.if-sheet-ne-BYTES.false _ read.ensures.chain _ read.ensures.list _ c.in-Records.is bytes in
     let most = few.few in
     record {
       sheet_len = c.if-sheet-ne-BYTES.false;
@@ -43,7 +43,7 @@ write-requires c =
 pub returns-in-Records : goal.returns-in-Records
 returns-in-Records c =
     let read = c.read-chain in
-    let (h0, h1) = rewritten _ c.if-sheet-ne-BYTES.false _ read.ensures.chain _ read.ensures.list _ c.chain-1.given.1 _ c.write.ensures in
+    let (h0, h1) = rewritten _ c.if-sheet-ne-BYTES.false _ read.ensures.chain _ read.ensures.list _ c.in-Records.is _ c.write.ensures in
     record {
       status = h0;
       sheet = h1;
@@ -51,7 +51,7 @@ returns-in-Records c =
 
 pub returns-in-Refused : goal.returns-in-Refused
 returns-in-Refused c =
-    let (h0, h1) = refused _ c.if-sheet-ne-BYTES.false _ c.read-chain.ensures.chain _ c.chain-in-Refused-1.given.1 in
+    let (h0, h1) = refused _ c.if-sheet-ne-BYTES.false _ c.read-chain.ensures.chain _ c.in-Refused.is in
     record {
       status = h0;
       sheet = h1;

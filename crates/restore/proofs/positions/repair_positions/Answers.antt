@@ -2,7 +2,7 @@
 -- Assumes nothing.
 use mathlib.Core.Path.{◌≡◌, sym, ◌∙◌, ap}
 use mathlib.Core.List.{List}
-use Prim.Native.Nat.{ℕ, ◌+◌, ◌*◌, ◌-◌, ◌/◌, ◌≤◌}
+use Prim.Native.Nat.{ℕ, ◌+◌, ◌*◌, ◌/◌, ◌≤◌}
 use native.Mathlib.Omega.{arith}
 use borrow.Author.Rules.{rules}
 use lib.ListN.{length}
@@ -23,26 +23,27 @@ use Rattle.entries.specs.Listed.{listed}
 use Rattle.sheet.proofs.Part.{part_sheet}
 use Rattle.restore.proofs.Judged.{on-disks, on_stripes}
 use Rattle.restore.proofs.ByPosition.{peels_at, positions-none, positions-next}
-use Rattle.restore.proofs.positions.repair_positions.Goals.{After-list-in-loop-p-1, At-loop-p, In-loop-p, Start}
+use Rattle.restore.proofs.positions.repair_positions.Goals.{After-list-count, In-loop-p, Start}
 use Rattle.restore.proofs.positions.repair_positions.Goals as goal
 
 -- The block is cut into sectors, and the array holds a block for each disk.
 cut : (s : goal.Start) → s.args.block ≡ s.args.block / s.args.sector * s.args.sector
-cut s = sector-cut s.args.block s.args.sector s.requires.1.0.sector
+cut s = sector-cut s.args.block s.args.sector s.requires.sectored.sector
 
 sized : (s : goal.Start)
     → length s.args.array.now ≡ (layout_of s.args.size s.args.base).disks * s.args.block
-sized s = s.requires.1.0.sized ∙ ap (λ (n : ℕ). n * s.args.block) (sym (layout-disks s.args.size s.args.base))
+sized s = s.requires.sectored.sized ∙ ap (λ (n : ℕ). n * s.args.block) (sym (layout-disks s.args.size s.args.base))
 
 -- The array keeps its length.
-kept : (c : goal.At-loop-p) → length c.loop-p.array ≡ length c.args.array.now
+kept : (c : goal.In-loop-p) → length c.loop-p.array ≡ length c.args.array.now
 kept c = ap length c.loop-p.invariant.2 ∙ length-rebuilt _ _ _ _
 
 -- The stretch of the position lies within the block.
 inside : (c : goal.In-loop-p) → let a = c.args in
     c.loop-p.p * a.sector + a.sector ≤ a.block
 inside c =
-    stretch_inside (c.args.block / c.args.sector) c.args.sector c.args.block (cut c.before.before.before.before.before) c.loop-p-test.true
+    stretch_inside (c.args.block / c.args.sector) c.args.sector c.args.block
+    (sector-cut c.args.block c.args.sector c.requires.sectored.sector) c.loop-p-test.true
 
 pub nonzero_div-sectors : goal.nonzero_div-sectors
 nonzero_div-sectors c = sector-some c.args.block c.args.sector c.requires.sectored.sector
@@ -69,19 +70,19 @@ pub overflow_mul-stretch : goal.overflow_mul-stretch
 overflow_mul-stretch c = let h = inside (goal.at.overflow_mul-stretch c).In-loop-p in omega arith
 
 -- The list has the entries of the sheet, and they are allowed at the position.
-lists : (c : goal.After-list-in-loop-p-1) →
+lists : (c : goal.After-list-count) →
     let a = c.args in
     let r = c.list-count in
-    listed r.new.1.0 r.result ≡ chain_entries narrow (sheet_at narrow c.loop-p.p a.sheets.now)
+    listed r.new.list r.result ≡ chain_entries narrow (sheet_at narrow c.loop-p.p a.sheets.now)
 lists c =
     let a = c.args in
     c.list-count.ensures.list ∙ ap (chain_entries narrow) (part_sheet narrow c.loop-p.p a.sheets.now)
 
-allowed-there : (c : goal.After-list-in-loop-p-1) →
+allowed-there : (c : goal.After-list-count) →
     let a = c.args in
     let r = c.list-count in
     Peels (layout_of a.size a.base) (at_position (a.block / a.sector) c.loop-p.p (erasures a.map.now))
-    (listed r.new.1.0 r.result)
+    (listed r.new.list r.result)
 unfolding sheets_entries
 allowed-there c =
     let a = c.args in
@@ -89,7 +90,7 @@ allowed-there c =
     (peels_at (a.block / a.sector) (layout_of a.size a.base) (erasures a.map.now) _ c.requires.peels c.loop-p.p
     c.loop-p-test.true)
 
-few : (c : goal.After-list-in-loop-p-1) → c.list-count.result ≤ 32
+few : (c : goal.After-list-count) → c.list-count.result ≤ 32
 few c =
     let is = part_sheet narrow c.loop-p.p c.args.sheets.now in
     let most = chain_few narrow _ (c.requires.by_index c.loop-p.p c.loop-p-test.true) in
@@ -101,17 +102,17 @@ repair_all-requires c =
     let a = c.args in
     let r = c.list-count in
     let e = at_position (a.block / a.sector) c.loop-p.p (erasures a.map.now) in
-    let most = few (goal.at.repair_all-requires c).After-list-in-loop-p-1 in
+    let most = few (goal.at.repair_all-requires c).After-list-count in
     record {
       numbered = c.requires.numbered;
       held = record {
-          inside = inside (goal.at.repair_all-requires c).In-loop-p;
-          block = c.requires.sectored.block;
-          sized = kept (goal.at.repair_all-requires c).At-loop-p ∙ c.requires.sectored.sized;
-        };
+        inside = inside (goal.at.repair_all-requires c).In-loop-p;
+        block = c.requires.sectored.block;
+        sized = kept (goal.at.repair_all-requires c).In-loop-p ∙ c.requires.sectored.sized;
+      };
       count_in_bounds = search rules;
-      by_index = on-disks a.size a.base e r.new.1.0 r.result (allowed-there (goal.at.repair_all-requires c).After-list-in-loop-p-1);
-      by_index_2 = on_stripes a.size a.base e r.new.1.0 r.result (allowed-there (goal.at.repair_all-requires c).After-list-in-loop-p-1);
+      by_index = on-disks a.size a.base e r.new.list r.result (allowed-there (goal.at.repair_all-requires c).After-list-count);
+      by_index_2 = on_stripes a.size a.base e r.new.list r.result (allowed-there (goal.at.repair_all-requires c).After-list-count);
     }
 
 pub loop-p-preserved : goal.loop-p-preserved
@@ -120,7 +121,7 @@ loop-p-preserved c =
     let L = layout_of a.size a.base in (
       search rules,
       search rules,
-      c.repair_all.ensures ∙ ap (rebuilt L (stretch_at a.block a.sector c.loop-p.p) c.loop-p.array) (lists (goal.at.loop-p-preserved c).After-list-in-loop-p-1)
+      c.repair_all.ensures ∙ ap (rebuilt L (stretch_at a.block a.sector c.loop-p.p) c.loop-p.array) (lists (goal.at.loop-p-preserved c).After-list-count)
           ∙ positions-next (a.block / a.sector) a.sector a.block (cut (goal.at.loop-p-preserved c).Start) L a.array.now (sized (goal.at.loop-p-preserved c).Start) _ c.loop-p.p
           c.loop-p-test.true c.loop-p.array c.loop-p.invariant.2,
     )

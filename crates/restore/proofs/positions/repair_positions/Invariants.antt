@@ -12,7 +12,7 @@ use Rattle.model.specs.Chain.{chain_entries}
 use Rattle.restore.proofs.positions.repair_positions.Given as goal
 
 abbrev pub invariant-loop-p : goal.invariant-loop-p
-invariant-loop-p l =    (l.p ≤ l.block / l.sector) × (length l.list ≡ 32)
+invariant-loop-p l = (l.p ≤ l.block / l.sector) × (length l.list ≡ 32)
     × (l.array
     ≡ rebuilt (sectored (l.block / l.sector) (layout_of l.size l.base)) (whole l.sector) l.initial.array
     (rising (l.block / l.sector) (λ q. chain_entries narrow (sheet_at narrow q l.sheets)) l.p))

@@ -1,7 +1,7 @@
 -- `restore::repair::repair_all` meets its contract: after k turns the first k repairs are made.
 -- Assumes nothing.
 use mathlib.Core.Path.{◌≡◌, ◌∙◌, ap, ap₂}
-use Prim.Native.Nat.{ℕ, ◌-◌}
+use Prim.Native.Nat.{ℕ}
 use native.Mathlib.Omega.{arith}
 use borrow.Author.Rules.{rules}
 use lib.ListN.{length}
@@ -11,11 +11,11 @@ use Rattle.model.specs.Grid.{layout_of}
 use Rattle.stripes.proofs.Restore.{length-rebuilt}
 use Rattle.entries.specs.Listed.{listed}
 use Rattle.restore.proofs.Steps.{steps_none, steps_next}
-use Rattle.restore.proofs.repair.repair_all.Goals.{At-loop-k}
+use Rattle.restore.proofs.repair.repair_all.Goals.{In-loop-k}
 use Rattle.restore.proofs.repair.repair_all.Goals as goal
 
 -- The array keeps its length.
-kept : (c : goal.At-loop-k) → length c.loop-k.array ≡ length c.args.array.now
+kept : (c : goal.In-loop-k) → length c.loop-k.array ≡ length c.args.array.now
 kept c =
     let a = c.args in
     ap length c.loop-k.invariant.1
@@ -36,10 +36,10 @@ repair-requires c =
     record {
       numbered = c.requires.numbered;
       held = record {
-          inside = c.requires.held.inside;
-          block = c.requires.held.block;
-          sized = kept (goal.at.repair-requires c).At-loop-k ∙ c.requires.held.sized;
-        };
+        inside = c.requires.held.inside;
+        block = c.requires.held.block;
+        sized = kept (goal.at.repair-requires c).In-loop-k ∙ c.requires.held.sized;
+      };
       disk_bound = rw disk (c.requires.by_index k more);
       stripe_value = ap₂ (on (layout_of a.size a.base)) disk stripe ∙ c.requires.by_index_2 k more;
     }

@@ -8,7 +8,7 @@ use Rattle.entries.specs.Listed.{listed}
 use Rattle.restore.proofs.repair.repair_all.Given as goal
 
 abbrev pub invariant-loop-k : goal.invariant-loop-k
-invariant-loop-k l =    (l.k ≤ l.count) × (l.array ≡ rebuilt (layout_of l.size l.base) l.stretch l.initial.array (listed l.list l.k))
+invariant-loop-k l = (l.k ≤ l.count) × (l.array ≡ rebuilt (layout_of l.size l.base) l.stretch l.initial.array (listed l.list l.k))
 
 abbrev pub decreases-loop-k : goal.decreases-loop-k
 decreases-loop-k l = l.count - l.k

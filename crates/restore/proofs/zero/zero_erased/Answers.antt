@@ -1,8 +1,7 @@
 -- `restore::zero::zero_erased` meets its contract: after i turns the erased sectors below number i are zero.
 -- Assumes nothing.
 use mathlib.Core.Path.{◌≡◌, ◌∙◌, ap}
-use mathlib.Core.Logic.{⊎_elim}
-use Prim.Native.Nat.{ℕ, ◌+◌, ◌*◌, ◌≤◌, ◌-◌}
+use Prim.Native.Nat.{ℕ, ◌+◌, ◌*◌, ◌≤◌}
 use native.Mathlib.Omega.{arith}
 use borrow.Author.Rules.{rules}
 use borrow.Author.Tests.{eq-eqb, ne_eqb}
@@ -12,11 +11,11 @@ use Rattle.stripes.specs.Erased.{erasures, below}
 use Rattle.stripes.specs.Repair.{zeroed}
 use Rattle.stripes.proofs.Bytes.{block-before}
 use Rattle.restore.proofs.Zeros.{length-zeroed, zeroed-none, zeroed-present, zeroed-erased, zeroed_all}
-use Rattle.restore.proofs.zero.zero_erased.Goals.{At-loop-i, In-loop-i}
+use Rattle.restore.proofs.zero.zero_erased.Goals.{In-loop-i, then-map-i-eq1, else-map-i-eq1}
 use Rattle.restore.proofs.zero.zero_erased.Goals as goal
 
 -- The array keeps its length, and the sector lies within it.
-kept : (c : goal.At-loop-i) → length c.loop-i.array ≡ length c.args.array.now
+kept : (c : goal.In-loop-i) → length c.loop-i.array ≡ length c.args.array.now
 kept c =
     let a = c.args in
     ap length c.loop-i.invariant.1 ∙ length-zeroed (whole a.sector) a.array.now (below c.loop-i.i (erasures a.map.now))
@@ -38,7 +37,7 @@ overflow_mul-i c = let h = inside (goal.at.overflow_mul-i c).In-loop-i in omega 
 pub wipe-requires : goal.wipe-requires
 wipe-requires c =
     let h = inside (goal.at.wipe-requires c).In-loop-i in
-    let k = kept (goal.at.wipe-requires c).At-loop-i in
+    let k = kept (goal.at.wipe-requires c).In-loop-i in
     omega arith
 
 pub loop-i-preserved : goal.loop-i-preserved
@@ -49,16 +48,16 @@ loop-i-preserved c =
     let e = erasures a.map.now in
     let more = c.loop-i-test.true in (
       search rules,
-      ⊎_elim
-          (λ w.
-          w.5 ∙ w.2.ensures
-          ∙ zeroed-erased a.sector (length a.map.now) a.array.now c.requires.array_len e l.i more l.array l.invariant.1
-          (eq-eqb _ 1 w.0.taken))
-          (λ w.
-          w.1
-          ∙ zeroed-present a.sector (length a.map.now) a.array.now c.requires.array_len e l.i more l.array l.invariant.1
-          (ne_eqb _ 1 w.0.left))
-          c.if-map-i-eq1.branch,
+      elim c.if-map-i-eq1.branch [
+        | then-map-i-eq1 w ↦
+            w.array-is ∙ w.wipe.ensures
+            ∙ zeroed-erased a.sector (length a.map.now) a.array.now c.requires.array_len e l.i more l.array l.invariant.1
+            (eq-eqb _ 1 w.if-map-i-eq1.true)
+        | else-map-i-eq1 w ↦
+            w.array-is
+            ∙ zeroed-present a.sector (length a.map.now) a.array.now c.requires.array_len e l.i more l.array l.invariant.1
+            (ne_eqb _ 1 w.if-map-i-eq1.false)
+      ],
     )
 
 pub returns : goal.returns

@@ -9,7 +9,7 @@ use Rattle.stripes.specs.Repair.{zeroed}
 use Rattle.restore.proofs.zero.zero_erased.Given as goal
 
 abbrev pub invariant-loop-i : goal.invariant-loop-i
-invariant-loop-i l =    (l.i ≤ length l.map) × (l.array ≡ zeroed (whole l.sector) l.initial.array (below l.i (erasures l.map)))
+invariant-loop-i l = (l.i ≤ length l.map) × (l.array ≡ zeroed (whole l.sector) l.initial.array (below l.i (erasures l.map)))
 
 abbrev pub decreases-loop-i : goal.decreases-loop-i
 decreases-loop-i l = length l.map - l.i

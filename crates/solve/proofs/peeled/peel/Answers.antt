@@ -1,10 +1,14 @@
 -- `solve::peeled::peel` meets its contract: the erased disks are loaded, then peeled.
 -- Assumes nothing.
-use Prim.Native.Nat.{◌≤◌}
+use mathlib.Core.Path.{◌≡◌}
 use native.Mathlib.Omega.{arith}
 use lib.ListN.{length}
+use Rattle.stripes.specs.Erased.{erasures}
+use Rattle.stripes.specs.Repair.{repairs, residual}
 use Rattle.model.specs.Grid.{layout_of}
 use Rattle.model.proofs.Grid.{layout-disks}
+use Rattle.entries.specs.Listed.{listed}
+use Rattle.tally.specs.Tally.{Tallied}
 use Rattle.order.proofs.Held.{none-held}
 use Rattle.solve.proofs.Memory.{map-disks, loaded_inside, made_some, peeled}
 use Rattle.solve.proofs.peeled.peel.Goals.{After-peel-made}
@@ -19,7 +23,7 @@ copy-requires c =
 pub tally-erased-requires : goal.tally-erased-requires
 tally-erased-requires c =
     let room = c.requires.room in
-    let same = c.copy.auto.1.0 in
+    let same = c.copy.auto.work in
     let few = layout-disks c.args.size c.args.base in
     let a = room.disks_fit in
     let b = room.table_fits in
@@ -43,18 +47,23 @@ peel-made-requires c =
     }
 
 -- No disk's number is the map's length, so none is held back.
-no_disk : (p : goal.After-peel-made) → (layout_of p.before.args.size p.before.args.base).disks ≤ length p.before.args.map.now
-no_disk p =
-    let s = p.before in
-    let long = map-disks _ s.args.base _ s.pre.1.0 in
-    omega arith
+unheld : (c : goal.After-peel-made) →
+    let a = c.args in
+    let L = layout_of a.size a.base in
+    let e = erasures c.copy.new.work in
+    (c.peel-made.result ≡ length (repairs L e))
+    × ((erasures c.peel-made.new.work ≡ residual L e)
+    × ((listed c.peel-made.new.list c.peel-made.result ≡ repairs L e)
+    × Tallied L c.peel-made.new.work c.tally-erased.new.stripes c.peel-made.new.counts))
+unheld c =
+    let long = map-disks _ c.args.base _ c.requires.map_value in
+    let h = c.peel-made.ensures in
+    none-held (omega arith) _ _ (h.number, (h.left, (h.list, h.tallied)))
 
 pub overflow_sub-result : goal.overflow_sub-result
-overflow_sub-result c =
-    made_some _ _ _ c.tally-erased.ensures.number
-    (none-held (no_disk (goal.at.overflow_sub-result c).After-peel-made) _ _ c.peel-made.ensures).0
+overflow_sub-result c = made_some _ _ _ c.tally-erased.ensures.number (unheld (goal.at.overflow_sub-result c).After-peel-made).0
 
 pub returns : goal.returns
 returns c =
-    let (number, (rest, (entries, tallied))) = none-held (no_disk (goal.at.returns c).After-peel-made) _ _ c.peel-made.ensures in
+    let (number, (rest, (entries, tallied))) = unheld (goal.at.returns c).After-peel-made in
     peeled _ _ _ c.tally-erased.ensures.number number c.copy.ensures entries rest tallied.table
