@@ -7,6 +7,7 @@ use Rattle.stripes.specs.Erased.{erasures}
 use Rattle.order.proofs.Held.{none-held}
 use Rattle.restore.proofs.Judged.{on-disks, on_stripes, still_held}
 use Rattle.save.proofs.Answers.{peels, made-few, number-few, all_saved}
+use Rattle.save.proofs.save_determined.Goals.{After-peel-made}
 use Rattle.save.proofs.save_determined.Goals as goal
 
 pub peel-made-requires : goal.peel-made-requires
@@ -24,12 +25,12 @@ repair_all-requires c =
     let a = c.args in
     let p = c.peel-made in
     let e = erasures a.work.now in
-    let list = p.new.counts.1.1.1.1.1.1.0 in
-    let (number, (left, (entries, tallied))) = none-held c.requires.tallied.table.disks_fit _ _ p.ensures in
+    let list = p.new.list in
+    let (number, (left, (entries, tallied))) = none-held c.requires.tallied.table.disks_fit _ _ (p.ensures.number, (p.ensures.left, (p.ensures.list, p.ensures.tallied))) in
     let allowed = peels a.size a.base c.requires.numbered e list p.result number entries in
     let few = made-few a.size a.base c.requires.numbered e list p.result number entries in
     let room = c.requires.capacity_in_bounds in
-    let kept = p.auto.counts.1.1.1.1.1.1.0 in
+    let kept = p.auto.list in
     record {
       numbered = c.requires.numbered;
       held = c.requires.held;
@@ -43,8 +44,8 @@ sum_rest-requires c =
     let a = c.args in
     let p = c.peel-made in
     let e = erasures a.work.now in
-    let list = p.new.counts.1.1.1.1.1.1.0 in
-    let (number, (left, (entries, tallied))) = none-held c.requires.tallied.table.disks_fit _ _ p.ensures in
+    let list = p.new.list in
+    let (number, (left, (entries, tallied))) = none-held c.requires.tallied.table.disks_fit _ _ (p.ensures.number, (p.ensures.left, (p.ensures.list, p.ensures.tallied))) in
     let allowed = peels a.size a.base c.requires.numbered e list p.result number entries in
     record {
       numbered = c.requires.numbered;
@@ -56,20 +57,23 @@ pub overflow_add-result : goal.overflow_add-result
 overflow_add-result c =
     let a = c.args in
     let p = c.peel-made in
-    let (number, (left, (entries, tallied))) = none-held c.requires.tallied.table.disks_fit _ _ p.ensures in
+    let (number, (left, (entries, tallied))) = none-held c.requires.tallied.table.disks_fit _ _ (p.ensures.number, (p.ensures.left, (p.ensures.list, p.ensures.tallied))) in
     let few =
-    number-few a.size a.base c.requires.numbered (erasures a.work.now) p.new.counts.1.1.1.1.1.1.0 p.result number entries _ c.sum_rest.ensures.number in
+    number-few a.size a.base c.requires.numbered (erasures a.work.now) p.new.list p.result number entries _ c.sum_rest.ensures.number in
     omega arith
+
+-- The array that is passed holds bytes.
+small : (c : goal.After-peel-made) → Bytes c.args.array.now
+small c = λ i l. (c.type_inv.array i).fits
 
 pub returns : goal.returns
 returns c =
     let a = c.args in
     let p = c.peel-made in
-    let (number, (left, (entries, tallied))) = none-held c.requires.tallied.table.disks_fit _ _ p.ensures in
-    let found = c.slice_known-1.given in
-    let small : Bytes a.array.now = λ i l. omega (arith, found i) in
+    let (number, (left, (entries, tallied))) = none-held c.requires.tallied.table.disks_fit _ _ (p.ensures.number, (p.ensures.left, (p.ensures.list, p.ensures.tallied))) in
+    let small = small (goal.at.returns c).After-peel-made in
     let summed = c.sum_rest.ensures in
-    let (h0, h1) = all_saved a.size a.base c.requires.numbered (erasures a.work.now) p.new.counts.1.1.1.1.1.1.0 p.result number entries a.stretch a.array.now
+    let (h0, h1) = all_saved a.size a.base c.requires.numbered (erasures a.work.now) p.new.list p.result number entries a.stretch a.array.now
     c.requires.held small c.requires.array_value c.repair_all.ensures left summed.number summed.array in
     record {
       number = h0;

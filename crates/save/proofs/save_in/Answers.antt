@@ -11,7 +11,7 @@ tally-erased-requires c =
     let long = located.room in
     let room = p.room in
     let table = room.table_fits in
-    let kept = c.load_position.auto.1.1.1.1.0 in
+    let kept = c.load_position.auto.work in
     record {
       numbered = p.numbered;
       size_in_bounds = omega arith;
@@ -36,4 +36,7 @@ save_determined-requires c =
 
 pub returns : goal.returns
 returns c =
-    rw (← c.load_position.ensures) c.save_determined.ensures
+    record {
+      number = rw (← c.load_position.ensures) c.save_determined.ensures.number;
+      array = rw (← c.load_position.ensures) c.save_determined.ensures.array;
+    }

@@ -15,16 +15,20 @@ slice_bounds-work-end c =
     omega arith
 
 pub slice_bounds-save_in-end : goal.slice_bounds-save_in-end
-slice_bounds-save_in-end c = sym (length-take-le _ _ (slice_bounds-work-end c.before))
+slice_bounds-save_in-end c =
+    let few = disks-few c.requires.positioned in
+    let all = c.disks-disks.ensures in
+    sym (length-take-le _ _ (omega arith))
 
 pub save_in-requires : goal.save_in-requires
 save_in-requires c =
     let record { numbered = numbered; held = held; positioned = positioned; array_value = fit } = c.requires in
-    let long = sym (slice_bounds-save_in-end c.before.before.before) ∙ c.disks-disks.ensures in
+    let few = disks-few positioned in
+    let all = c.disks-disks.ensures in
     record {
       numbered = numbered;
       held = held;
-      located = record { positioned = positioned; room = long };
-      room = position_room positioned c.args.base long refl refl (search rules);
+      located = record { positioned = positioned; room = length-take-le _ _ (omega arith) ∙ all };
+      room = position_room positioned c.args.base (length-take-le _ _ (omega arith) ∙ all) refl refl (search rules);
       array_value = fit;
     }

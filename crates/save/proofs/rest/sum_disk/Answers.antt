@@ -56,7 +56,7 @@ fill-requires c =
     let below = erased-inside c.requires.table c.args.disk c.requires.disk_value in
     let few = stripes_few c.requires.numbered in
     let most = disks-bound c.args.size (size_fits_lem c.args.size c.requires.numbered.fits) in
-    let long = c.mark.auto.1.1.1.1.1.1.1.0 in
+    let long = c.mark.auto.side in
     record {
       numbered = c.requires.numbered;
       held = c.requires.held;
@@ -76,5 +76,5 @@ returns c =
     record {
       answer = sym (determined-not L e a.disk c.requires.disk_value ∙ ap not off);
       array = saved_by (layout-two a.size a.base c.requires.numbered.above) a.stretch c.requires.held.inside e a.array.now
-          (sized_as a.size a.base c.requires.held) a.disk c.mark.new.1.1.1.1.1.1.1.0 c.mark.ensures c.fill.ensures;
+          (sized_as a.size a.base c.requires.held) a.disk c.mark.new.side c.mark.ensures c.fill.ensures;
     }

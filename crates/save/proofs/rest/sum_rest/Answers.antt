@@ -2,7 +2,7 @@
 -- Assumes nothing.
 use mathlib.Core.Path.{◌≡◌, refl, ◌∙◌}
 use mathlib.Core.Bool.{true}
-use mathlib.Core.Logic.{⊎_elim, inl, inr}
+use mathlib.Core.Logic.{inl, inr}
 use Prim.Native.Nat.{◌-◌, ◌<◌}
 use native.Mathlib.Omega.{arith}
 use borrow.Author.Rules.{rules}
@@ -15,7 +15,7 @@ use Rattle.tally.proofs.Scanned.{next_passed, next_erased_lem}
 use Rattle.tally.proofs.Counted.{erased-inside}
 use Rattle.sums.specs.Held.{Held}
 use Rattle.save.proofs.Summed.{Rest, sized_as, rest-none, rest_over, rest-few, rest_all, rest-next}
-use Rattle.save.proofs.rest.sum_rest.Goals.{After-next_erased-d, Else-work-d}
+use Rattle.save.proofs.rest.sum_rest.Goals.{After-next_erased-d, Else-work-d, then-sum_disk, else-sum_disk}
 use Rattle.save.proofs.rest.sum_rest.Goals as goal
 
 pub link_all-closed-requires : goal.link_all-closed-requires
@@ -92,7 +92,10 @@ loop-size-preserved c =
     let summed = c.sum_disk in
     (
       rest-next c.requires.held.inside (sized_as c.args.size c.args.base c.requires.held) (over (goal.at.loop-size-preserved c).After-next_erased-d) summed.ensures.answer summed.ensures.array
-          (⊎_elim (λ w. inl (w.0.taken, w.1)) (λ w. inr (w.0.left, w.1)) c.if-sum_disk.branch),
+          (elim c.if-sum_disk.branch [
+            then-sum_disk w ↦ inl (w.if-sum_disk.true, w.number-is)
+            | else-sum_disk w ↦ inr (w.if-sum_disk.false, w.number-is)
+          ]),
       omega (arith, c.if-work-d.false),
       search rules,
     )
