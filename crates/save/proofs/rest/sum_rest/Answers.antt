@@ -3,7 +3,7 @@
 use mathlib.Core.Path.{◌≡◌, refl, ◌∙◌}
 use mathlib.Core.Bool.{true}
 use mathlib.Core.Logic.{inl, inr}
-use Prim.Native.Nat.{◌-◌, ◌<◌}
+use Prim.Native.Nat.{◌<◌}
 use native.Mathlib.Omega.{arith}
 use borrow.Author.Rules.{rules}
 use Rattle.stripes.specs.Erased.{erasures}
@@ -89,11 +89,10 @@ loop-size-smaller c = omega (arith, c.if-work-d.false, (passed (goal.at.loop-siz
 
 pub loop-size-preserved : goal.loop-size-preserved
 loop-size-preserved c =
-    let summed = c.sum_disk in
-    (
+    let summed = c.sum_disk in (
       rest-next c.requires.held.inside (sized_as c.args.size c.args.base c.requires.held) (over (goal.at.loop-size-preserved c).After-next_erased-d) summed.ensures.answer summed.ensures.array
           (elim c.if-sum_disk.branch [
-            then-sum_disk w ↦ inl (w.if-sum_disk.true, w.number-is)
+            | then-sum_disk w ↦ inl (w.if-sum_disk.true, w.number-is)
             | else-sum_disk w ↦ inr (w.if-sum_disk.false, w.number-is)
           ]),
       omega (arith, c.if-work-d.false),

@@ -8,7 +8,7 @@ use Rattle.save.proofs.Summed.{Rest}
 use Rattle.save.proofs.rest.sum_rest.Given as goal
 
 abbrev pub invariant-loop-size : goal.invariant-loop-size
-invariant-loop-size l =    Rest (layout_of l.size l.base) l.stretch l.work l.initial.array l.from l.array l.number × (l.from ≤ length l.work) × (length l.array ≡ length l.initial.array)
+invariant-loop-size l = Rest (layout_of l.size l.base) l.stretch l.work l.initial.array l.from l.array l.number × (l.from ≤ length l.work) × (length l.array ≡ length l.initial.array)
 
 abbrev pub decreases-loop-size : goal.decreases-loop-size
 decreases-loop-size l = length l.work - l.from
