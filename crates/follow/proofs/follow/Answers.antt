@@ -35,7 +35,7 @@ passed : (c : goal.Else-of_sheets-ne0) → let a = c.args in
     buffer_refusal a.size a.block a.sector a.array.now a.map.now a.sheets.now ≡ 0
 passed c =
     let a = c.args in
-    tests_left a.size a.block a.sector a.array.now a.map.now a.sheets.now (sized c.before.before)
+    tests_left a.size a.block a.sector a.array.now a.map.now a.sheets.now (sym c.sector_refusal-of_array.ensures ∙ c.if-of_array-ne0.false)
     ∙ sym c.sheet_refusal-of_sheets.ensures ∙ c.if-of_sheets-ne0.false
 
 fit : (c : goal.Else-of_sheets-ne0) → let a = c.args in
@@ -92,7 +92,7 @@ read_all-chains-requires-clause-sheets_len c = (fit (goal.at.read_all-chains-req
 
 pub returns-in-Refused : goal.returns-in-Refused
 returns-in-Refused c =
-    let (h0, h1) = unclean _ _ _ _ _ _ (passed (goal.at.returns-in-Refused c).Else-of_sheets-ne0) _ c.read_all-chains.ensures _ c.chains-in-Refused-1.given.1 in
+    let (h0, h1) = unclean _ _ _ _ _ _ (passed (goal.at.returns-in-Refused c).Else-of_sheets-ne0) _ c.read_all-chains.ensures _ c.in-Refused.is in
     record {
       outcome = h0;
       array = h1;
@@ -107,12 +107,12 @@ all_clear-requires c =
       sectors_value = some-sectors (goal.at.all_clear-requires c).Else-of_array-ne0;
       map_value = f.map;
       sheets_len = f.long;
-      by_index = chains-fit _ _ _ _ _ _ (passed (goal.at.all_clear-requires c).Else-of_sheets-ne0) _ c.read_all-chains.ensures _ c.chains-1.given.1;
+      by_index = chains-fit _ _ _ _ _ _ (passed (goal.at.all_clear-requires c).Else-of_sheets-ne0) _ c.read_all-chains.ensures _ c.in-Records.is;
     }
 
 pub returns-then-not-all_clear : goal.returns-then-not-all_clear
 returns-then-not-all_clear c =
-    let (h0, h1) = steps-refused _ _ _ _ _ _ (passed (goal.at.returns-then-not-all_clear c).Else-of_sheets-ne0) _ c.read_all-chains.ensures _ c.chains-1.given.1
+    let (h0, h1) = steps-refused _ _ _ _ _ _ (passed (goal.at.returns-then-not-all_clear c).Else-of_sheets-ne0) _ c.read_all-chains.ensures _ c.in-Records.is
     (sym c.all_clear.ensures ∙ c.if-not-all_clear.true) in
     record {
       outcome = h0;
@@ -128,13 +128,13 @@ restore-requires c =
       sectored = held (goal.at.restore-requires c).Else-of_sheets-ne0;
       map_value = f.map;
       sheets_len = f.long;
-      by_index = chains-fit _ _ _ _ _ _ (passed (goal.at.restore-requires c).Else-of_sheets-ne0) _ c.read_all-chains.ensures _ c.chains-1.given.1;
+      by_index = chains-fit _ _ _ _ _ _ (passed (goal.at.restore-requires c).Else-of_sheets-ne0) _ c.read_all-chains.ensures _ c.in-Records.is;
       peels = clears_peels (sectors a.size a.block a.sector) (erasures a.map.now) _ (cleared (goal.at.restore-requires c).Else-not-all_clear);
     }
 
 pub returns-then-not-restore : goal.returns-then-not-restore
 returns-then-not-restore c =
-    let (h0, h1) = contradicted _ _ _ _ _ _ (passed (goal.at.returns-then-not-restore c).Else-of_sheets-ne0) _ c.read_all-chains.ensures _ c.chains-1.given.1 (cleared (goal.at.returns-then-not-restore c).Else-not-all_clear)
+    let (h0, h1) = contradicted _ _ _ _ _ _ (passed (goal.at.returns-then-not-restore c).Else-of_sheets-ne0) _ c.read_all-chains.ensures _ c.in-Records.is (cleared (goal.at.returns-then-not-restore c).Else-not-all_clear)
     _ c.restore.ensures.array (sym c.restore.ensures.answer ∙ c.if-not-restore.true) in
     record {
       outcome = h0;
@@ -143,7 +143,7 @@ returns-then-not-restore c =
 
 pub returns : goal.returns
 returns c =
-    let (h0, h1) = agreed _ _ _ _ _ _ (passed (goal.at.returns c).Else-of_sheets-ne0) _ c.read_all-chains.ensures _ c.chains-1.given.1 (cleared (goal.at.returns c).Else-not-all_clear)
+    let (h0, h1) = agreed _ _ _ _ _ _ (passed (goal.at.returns c).Else-of_sheets-ne0) _ c.read_all-chains.ensures _ c.in-Records.is (cleared (goal.at.returns c).Else-not-all_clear)
     _ c.restore.ensures.array (sym c.restore.ensures.answer ∙ c.if-not-restore.false) in
     record {
       outcome = h0;

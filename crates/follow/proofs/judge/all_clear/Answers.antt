@@ -32,7 +32,7 @@ pub clears-requires : goal.clears-requires
 clears-requires c =
     let place = c.loop-p-test.true in
     let most = part-few c.args.sectors c.args.sheets.now c.requires.sheets_len c.loop-p.p place c.requires.by_index _ _
-    c.list-count.ensures in
+    (c.list-count.ensures.number, c.list-count.ensures.list) in
     record {
       numbered = c.requires.numbered;
       positioned = record {
@@ -53,7 +53,7 @@ judged c =
     c.clears.ensures
     ∙ ap (clears (layout_of a.size a.base) (at_position a.sectors c.loop-p.p (erasures a.map.now)))
     (part-lists a.sectors a.sheets.now c.requires.sheets_len c.loop-p.p c.loop-p-test.true
-    c.requires.by_index _ _ c.list-count.ensures)
+    c.requires.by_index _ _ (c.list-count.ensures.number, c.list-count.ensures.list))
 
 pub returns-then-not-clears : goal.returns-then-not-clears
 returns-then-not-clears c =

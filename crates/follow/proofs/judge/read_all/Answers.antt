@@ -13,6 +13,7 @@ use Rattle.sheet.proofs.Part.{part_sheet}
 use Rattle.chain.proofs.Place.{part-long}
 use Rattle.follow.proofs.Judged.{SoFar, none_read, more_few, more_read, more_refused, all_refused, all_read}
 use Rattle.follow.proofs.judge.read_all.Goals.{After-loop-p, After-read_clean-own}
+use Rattle.follow.proofs.judge.read_all.Goals.{in-Records, in-Refused}
 use Rattle.follow.proofs.judge.read_all.Goals as goal
 
 pub loop-p-init : goal.loop-p-init
@@ -31,21 +32,27 @@ answered c =
 
 pub overflow_add-number : goal.overflow_add-number
 overflow_add-number c =
-    let most = more_few _ _ _ _ _ c.loop-p.invariant.2 _ (answered (goal.at.overflow_add-number c).After-read_clean-own) _ c.own-1.given.1 in
+    let most = more_few _ _ _ _ _ c.loop-p.invariant.2 _ (answered (goal.at.overflow_add-number c).After-read_clean-own) _ c.in-Records.is in
     let so_far = c.loop-p.invariant.2.few in
     search rules
 
 pub loop-p-preserved : goal.loop-p-preserved
 loop-p-preserved c =
     let so_far = c.loop-p.invariant.2 in
-    ⊎_elim
-    (λ w. (search rules, search rules, rw (w.3, w.4) (more_read _ _ _ _ _ so_far _ (answered (goal.at.loop-p-preserved c).After-read_clean-own) _ w.1.given.1)))
-    (λ w. (
-      search rules,
-      search rules,
-      rw w.5 (more_refused _ _ _ _ _ so_far _ (answered (goal.at.loop-p-preserved c).After-read_clean-own) _ w.1.given.1 _ (w.4 ∙ w.3.ensures)),
-    ))
-    c.match-own.branch
+    elim c.match-own.branch [
+      in-Records w ↦ (
+        search rules,
+        search rules,
+        rw (w.status-is, w.number-is) (more_read _ _ _ _ _ so_far _ (answered (goal.at.loop-p-preserved c).After-read_clean-own) _ w.in-Records.is),
+      )
+      | in-Refused w ↦ (
+        search rules,
+        search rules,
+        rw w.number-is
+            (more_refused _ _ _ _ _ so_far _ (answered (goal.at.loop-p-preserved c).After-read_clean-own) _ w.in-Refused.is _
+            (w.status-is ∙ w.first_of-status.ensures)),
+      )
+    ]
 
 -- All sheets are read.
 finished : (c : goal.After-loop-p) →
