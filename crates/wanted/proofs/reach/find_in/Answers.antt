@@ -1,8 +1,8 @@
--- `wanted::reach::find_in` meets its contract: the others are and.before joined, and the side with fewer disks is tried first.
+-- `wanted::reach::find_in` meets its contract: the others are loaded and joined, and the side with fewer disks is tried first.
 -- Assumes nothing.
 use mathlib.Core.Path.{◌≡◌, refl, ◌∙◌, ap}
-use mathlib.Core.Bool.{false}
-use mathlib.Core.Logic.{⊎_elim}
+use mathlib.Core.Bool.{true, false}
+use mathlib.Core.List.{List}
 use Prim.Native.Nat.{ℕ, ◌≤◌, ◌<◌}
 use native.Mathlib.Omega.{arith}
 use lib.ListN.{length}
@@ -15,12 +15,12 @@ use Rattle.layout.proofs.Runs.{numbered_two}
 use Rattle.tally.proofs.Counted.{Crossed, crossed}
 use Rattle.solve.proofs.Memory.{map-disks, same-room}
 use Rattle.wanted.proofs.Reached.{listed-on, listed-lower, listed-higher, side_number, tried_at, found_first, found_second}
-use Rattle.wanted.proofs.reach.find_in.Goals.{After-stripes_of-pair, Start}
+use Rattle.wanted.proofs.reach.find_in.Goals.{After-stripes_of-pair, then-fewer-few, else-fewer-few}
 use Rattle.wanted.proofs.reach.find_in.Goals as goal
 
 -- The disk is one of the map.
-inside : (s : goal.Start) → s.args.disk < length s.args.map.now
-inside s = is_inside (length s.args.map.now) (erasures s.args.map.now) (past_end s.args.map.now) _ s.requires.1.1.0
+inside : (map : List ℕ) {d : ℕ} → erasures map d ≡ true → d < length map
+inside map erased = is_inside (length map) (erasures map) (past_end map) _ erased
 
 pub load_others-requires : goal.load_others-requires
 load_others-requires c =
@@ -32,7 +32,7 @@ load_others-requires c =
     record {
       numbered = c.requires.numbered;
       map_value = c.requires.map_value;
-      disk_in_bounds = inside (goal.at.load_others-requires c).Start;
+      disk_in_bounds = inside c.args.map.now c.requires.disk_value;
       map_in_bounds = omega arith;
       others_in_bounds = omega arith;
       stripe_limit_in_bounds = room.stripes_fit;
@@ -41,7 +41,7 @@ load_others-requires c =
 
 pub stripes_of-pair-requires : goal.stripes_of-pair-requires
 stripes_of-pair-requires c =
-    let l = inside (goal.at.stripes_of-pair-requires c).Start in
+    let l = inside c.args.map.now c.requires.disk_value in
     let long = map-length _ _ c.requires.map_value in
     record {
       numbered = c.requires.numbered;
@@ -53,7 +53,7 @@ pair : (c : goal.After-stripes_of-pair) →
     let a = c.args in
     Crossed (layout_of a.size a.base) a.disk c.stripes_of-pair.result.low c.stripes_of-pair.result.high
 pair c =
-    let l = inside c.before.before.before.before.before.before.before.before.before.before.before.before.before.before.before.before.before.before.before.before.before in
+    let l = inside c.args.map.now c.requires.disk_value in
     let long = map-disks _ c.args.base _ c.requires.map_value in
     crossed (numbered_two c.requires.numbered) (omega arith) c.stripes_of-pair.ensures
 
@@ -75,8 +75,10 @@ try_both-requires c =
     let L = layout_of c.args.size c.args.base in
     let d = c.args.disk in
     let (low, high) = listed-on L d c.stripes_of-pair.ensures in
-    let first = ⊎_elim (λ w. ap (on L d) w.1 ∙ high) (λ w. ap (on L d) w.1 ∙ low) c.if-fewer-few.branch in
-    let second = ⊎_elim (λ w. ap (on L d) w.2 ∙ low) (λ w. ap (on L d) w.2 ∙ high) c.if-fewer-few.branch in
+    let first : on L d c.if-fewer-few.first ≡ true =
+    elim c.if-fewer-few.branch [ then-fewer-few w ↦ ap (on L d) w.first-is ∙ high | else-fewer-few w ↦ ap (on L d) w.first-is ∙ low ] in
+    let second : on L d c.if-fewer-few.second ≡ true =
+    elim c.if-fewer-few.branch [ then-fewer-few w ↦ ap (on L d) w.second-is ∙ low | else-fewer-few w ↦ ap (on L d) w.second-is ∙ high ] in
     record {
       numbered = c.requires.numbered;
       map_value = c.requires.map_value;
@@ -84,8 +86,8 @@ try_both-requires c =
       first_value = first;
       second_value = second;
       others = c.load_others.ensures;
-      room = same-room c.requires.room refl k.stripes.1.1.1.1.0 k.stripes.1.1.1.1.1.0 refl;
-      others_len = k.stripes.1.1.1.0 ∙ c.requires.others_len;
+      room = same-room c.requires.room refl k.stripes k.counts refl;
+      others_len = k.others ∙ c.requires.others_len;
     }
 
 pub returns : goal.returns
@@ -98,12 +100,16 @@ returns c =
     let two = numbered_two c.requires.numbered in
     let long = map-disks _ a.base _ c.requires.map_value in
     let all = layout-disks a.size a.base in
-    let out : (c.before.before.before.before.before.before.before.before.before.before.before.before.before.before.before : ℕ) → L.disks ≤ c.before.before.before.before.before.before.before.before.before.before.before.before.before.before.before → erasures a.map.now c.before.before.before.before.before.before.before.before.before.before.before.before.before.before.before ≡ false = λ c.before.before.before.before.before.before.before.before.before.before.before.before.before.before.before h. past_end a.map.now c.before.before.before.before.before.before.before.before.before.before.before.before.before.before.before (omega arith) in
+    let out : (i : ℕ) → L.disks ≤ i → erasures a.map.now i ≡ false = λ i h. past_end a.map.now i (omega arith) in
     let few = c.number-few.ensures ∙ side_number two c.requires.disk_value out o _ x.low_bound all in
     let fewer = c.number-fewer.ensures ∙ side_number two c.requires.disk_value out o _ x.high_bound all in
     let low = listed-lower L a.disk c.stripes_of-pair.ensures in
     let high = listed-higher L two a.disk x.disk c.stripes_of-pair.ensures in
-    ⊎_elim
-    (λ w. found_second two e a.disk c.requires.disk_value low high (omega (arith, w.0.taken, few, fewer)) (tried_at two e a.disk c.requires.disk_value w.1 w.2 c.try_both.ensures))
-    (λ w. found_first two e a.disk c.requires.disk_value low high (omega (arith, w.0.left, few, fewer)) (tried_at two e a.disk c.requires.disk_value w.1 w.2 c.try_both.ensures))
-    c.if-fewer-few.branch
+    elim c.if-fewer-few.branch [
+      then-fewer-few w ↦
+        found_second two e a.disk c.requires.disk_value low high (omega (arith, w.if-fewer-few.true, few, fewer))
+        (tried_at two e a.disk c.requires.disk_value w.first-is w.second-is c.try_both.ensures)
+      | else-fewer-few w ↦
+        found_first two e a.disk c.requires.disk_value low high (omega (arith, w.if-fewer-few.false, few, fewer))
+        (tried_at two e a.disk c.requires.disk_value w.first-is w.second-is c.try_both.ensures)
+    ]

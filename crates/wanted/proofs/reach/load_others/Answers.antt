@@ -12,7 +12,7 @@ tally-requires c =
     let long = map-length _ _ c.requires.map_value in
     let room = c.requires.map_in_bounds in
     let table = c.requires.others_in_bounds in
-    let same = c.copy.auto.1.0 in
+    let same = c.copy.auto.work in
     record {
       numbered = c.requires.numbered;
       size_in_bounds = rw (length-set _ _ _) (omega arith);

@@ -37,8 +37,8 @@ tally-requires c =
     let same = c.requires.others_len in
     let few = layout-disks c.args.size c.args.base in
     let long = map-length _ _ c.requires.map_value in
-    let stripes = c.try_stripe-count.auto.stripes.1.1.1.1.1.1.1.0 in
-    let counts = c.try_stripe-count.auto.stripes.1.1.1.1.1.1.1.1.0 in
+    let stripes = c.try_stripe-count.auto.stripes in
+    let counts = c.try_stripe-count.auto.counts in
     record {
       numbered = c.requires.numbered;
       size_in_bounds = omega arith;
@@ -59,8 +59,8 @@ try_stripe-requires c =
       disk_value = p.disk_value;
       stripe_value = p.second_value;
       others = record { erased = o.erased; table = c.tally.ensures.tallied.table; parted = o.parted };
-      room = same-room p.room k.stripes.1.1.1.1.1.1.0 (m.counts.1.1.0 ∙ k.stripes.1.1.1.1.1.1.1.0) (m.counts.1.1.1.0 ∙ k.stripes.1.1.1.1.1.1.1.1.0) k.stripes.1.1.1.1.1.1.1.1.1.0;
-      others_len = p.others_len ∙ sym k.stripes.1.1.1.1.1.1.0;
+      room = same-room p.room k.work (m.stripes ∙ k.stripes) (m.counts ∙ k.counts) k.list;
+      others_len = p.others_len ∙ sym k.work;
     }
 
 pub returns : goal.returns

@@ -2,18 +2,17 @@
 -- Assumes nothing.
 use mathlib.Core.Path.{◌≡◌, refl, ◌∙◌}
 use mathlib.Core.Bool.{true, false}
-use mathlib.Core.Logic.{◌⊎◌, ⊎_elim, inl, inr}
+use mathlib.Core.Logic.{◌⊎◌, inl, inr}
 use Prim.Native.Nat.{◌-◌}
 use native.Mathlib.Omega.{arith}
 use borrow.Author.Rules.{rules}
-use borrow.Author.Tests.{not-true, not-false}
 use lib.ListN.{length, set}
 use Rattle.stripes.specs.Erased.{erasures}
 use Rattle.model.specs.Grid.{layout_of}
 use Rattle.tally.specs.Tally.{Passed}
 use Rattle.tally.proofs.Scanned.{next_passed, next_erased_lem}
 use Rattle.wanted.proofs.Sided.{Sided, sided_none, sided_over, sided_next, sided_all}
-use Rattle.wanted.proofs.side.load.Goals.{After-next_erased-d, At-loop-size, Else-others-d, Joined-not-is_in}
+use Rattle.wanted.proofs.side.load.Goals.{After-next_erased-d, At-loop-size, Else-others-d, Joined-not-is_in, then-not-is_in, else-not-is_in}
 use Rattle.wanted.proofs.side.load.Goals as goal
 
 pub copy-requires : goal.copy-requires
@@ -23,8 +22,8 @@ pub loop-size-init : goal.loop-size-init
 loop-size-init c = (sided_none _ _ _ _ _ c.copy.ensures, omega arith, refl)
 
 -- The length of `work` stays.
-long : (l : goal.At-loop-size) → length l.loop.work ≡ length l.before.args.work.now
-long l = l.loop.invariant.2 ∙ l.before.before.before.copy.auto.1.0
+long : (c : goal.At-loop-size) → length c.loop-size.work ≡ length c.args.work.now
+long c = c.loop-size.invariant.2 ∙ c.copy.auto.work
 
 -- The disks that a turn passes over.
 passed : (c : goal.After-next_erased-d) → Passed c.args.others.now c.loop-size.from c.next_erased-d.result
@@ -68,7 +67,11 @@ loop-size-smaller c = omega (arith, c.if-others-d.false, (passed (goal.at.loop-s
 came : (c : goal.Joined-not-is_in) →
     let r = c.is_in.result in
     ((r ≡ false) × (c.if-not-is_in.work ≡ set c.loop-size.work c.next_erased-d.result 0)) ⊎ ((r ≡ true) × (c.if-not-is_in.work ≡ c.loop-size.work))
-came c = ⊎_elim (λ w. inl (not-true _ w.0.taken, w.1)) (λ w. inr (not-false _ w.0.left, w.1)) c.if-not-is_in.branch
+came c =
+    elim c.if-not-is_in.branch [
+      then-not-is_in w ↦ inl (w.if-not-is_in.true, w.work-is)
+      | else-not-is_in w ↦ inr (w.if-not-is_in.false, w.work-is)
+    ]
 
 pub loop-size-preserved : goal.loop-size-preserved
 loop-size-preserved c =

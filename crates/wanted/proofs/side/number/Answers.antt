@@ -2,7 +2,7 @@
 -- Assumes nothing.
 use mathlib.Core.Path.{◌≡◌, ◌∙◌, ap}
 use mathlib.Core.Bool.{true}
-use mathlib.Core.Logic.{⊎_elim, inl, inr}
+use mathlib.Core.Logic.{inl, inr}
 use Prim.Native.Nat.{ℕ, ◌-◌}
 use native.Mathlib.Omega.{arith}
 use borrow.Author.Rules.{rules}
@@ -15,7 +15,7 @@ use Rattle.tally.proofs.Scanned.{next_passed, next_erased_lem}
 use Rattle.tally.proofs.Counted.{erased-inside}
 use Rattle.wanted.specs.Side.{other_in}
 use Rattle.wanted.proofs.Sided.{Told, told_none, told_few, told_next, told_over, told_all}
-use Rattle.wanted.proofs.side.number.Goals.{After-next_erased-d, Else-others-d}
+use Rattle.wanted.proofs.side.number.Goals.{After-next_erased-d, Else-others-d, then-is_in, else-is_in}
 use Rattle.wanted.proofs.side.number.Goals as goal
 
 pub loop-size-init : goal.loop-size-init
@@ -69,6 +69,9 @@ pub loop-size-preserved : goal.loop-size-preserved
 loop-size-preserved c =
     (
       told_next (over (goal.at.loop-size-preserved c).After-next_erased-d) (erased (goal.at.loop-size-preserved c).Else-others-d) c.is_in.ensures
-          (⊎_elim (λ w. inl (w.0.taken, w.1)) (λ w. inr (w.0.left, w.1)) c.if-is_in.branch),
+          (elim c.if-is_in.branch [
+            then-is_in w ↦ inl (w.if-is_in.true, w.number-is)
+            | else-is_in w ↦ inr (w.if-is_in.false, w.number-is)
+          ]),
       omega (arith, c.if-others-d.false),
     )
