@@ -1,5 +1,6 @@
 // The plan for one wanted disk: the shortest list of repairs that reaches it, or what plan tells of a loss that leaves it.
 #![tactic(auto)]
+
 ghost use Rattle.std.specs.Prelude.{◌≡◌, true};
 ghost use Rattle.model.specs.Grid.{map_fits, disks};
 ghost use Rattle.model.specs.PlanDisk.{can_be_wanted, plan_disk_outcome, plan_disk_sheet};

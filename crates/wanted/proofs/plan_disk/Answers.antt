@@ -24,7 +24,7 @@ sized c = sym c.size_fits.ensures ∙ c.if-not-size_fits.false
 
 tested : (c : goal.Else-status-ne0) → let a = c.args in
     refusal (one_tests a.size a.map.now (length a.sheet.now)) ≡ 0
-tested c = size-passed _ _ _ (sized c.before.before) ∙ sym c.sheet_refusal-status.ensures ∙ c.if-status-ne0.false
+tested c = size-passed _ _ _ (sym c.size_fits.ensures ∙ c.if-not-size_fits.false) ∙ sym c.sheet_refusal-status.ensures ∙ c.if-status-ne0.false
 
 can : (c : goal.Else-not-can_be_wanted) → let a = c.args in
     can_be_wanted a.size a.map.now a.disk ≡ true

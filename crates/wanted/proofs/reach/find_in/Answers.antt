@@ -106,10 +106,10 @@ returns c =
     let low = listed-lower L a.disk c.stripes_of-pair.ensures in
     let high = listed-higher L two a.disk x.disk c.stripes_of-pair.ensures in
     elim c.if-fewer-few.branch [
-      then-fewer-few w ↦
-        found_second two e a.disk c.requires.disk_value low high (omega (arith, w.if-fewer-few.true, few, fewer))
-        (tried_at two e a.disk c.requires.disk_value w.first-is w.second-is c.try_both.ensures)
+      | then-fewer-few w ↦
+          found_second two e a.disk c.requires.disk_value low high (omega (arith, w.if-fewer-few.true, few, fewer))
+          (tried_at two e a.disk c.requires.disk_value w.first-is w.second-is c.try_both.ensures)
       | else-fewer-few w ↦
-        found_first two e a.disk c.requires.disk_value low high (omega (arith, w.if-fewer-few.false, few, fewer))
-        (tried_at two e a.disk c.requires.disk_value w.first-is w.second-is c.try_both.ensures)
+          found_first two e a.disk c.requires.disk_value low high (omega (arith, w.if-fewer-few.false, few, fewer))
+          (tried_at two e a.disk c.requires.disk_value w.first-is w.second-is c.try_both.ensures)
     ]

@@ -3,7 +3,6 @@
 use mathlib.Core.Path.{◌≡◌, refl, ◌∙◌}
 use mathlib.Core.Bool.{true, false}
 use mathlib.Core.Logic.{◌⊎◌, inl, inr}
-use Prim.Native.Nat.{◌-◌}
 use native.Mathlib.Omega.{arith}
 use borrow.Author.Rules.{rules}
 use lib.ListN.{length, set}
@@ -69,7 +68,7 @@ came : (c : goal.Joined-not-is_in) →
     ((r ≡ false) × (c.if-not-is_in.work ≡ set c.loop-size.work c.next_erased-d.result 0)) ⊎ ((r ≡ true) × (c.if-not-is_in.work ≡ c.loop-size.work))
 came c =
     elim c.if-not-is_in.branch [
-      then-not-is_in w ↦ inl (w.if-not-is_in.true, w.work-is)
+      | then-not-is_in w ↦ inl (w.if-not-is_in.true, w.work-is)
       | else-not-is_in w ↦ inr (w.if-not-is_in.false, w.work-is)
     ]
 

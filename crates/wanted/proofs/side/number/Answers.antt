@@ -3,7 +3,7 @@
 use mathlib.Core.Path.{◌≡◌, ◌∙◌, ap}
 use mathlib.Core.Bool.{true}
 use mathlib.Core.Logic.{inl, inr}
-use Prim.Native.Nat.{ℕ, ◌-◌}
+use Prim.Native.Nat.{ℕ}
 use native.Mathlib.Omega.{arith}
 use borrow.Author.Rules.{rules}
 use Rattle.stripes.specs.Fold.{count}
@@ -66,12 +66,11 @@ pub loop-size-smaller : goal.loop-size-smaller
 loop-size-smaller c = omega (arith, c.if-others-d.false, (passed (goal.at.loop-size-smaller c).After-next_erased-d).after)
 
 pub loop-size-preserved : goal.loop-size-preserved
-loop-size-preserved c =
-    (
-      told_next (over (goal.at.loop-size-preserved c).After-next_erased-d) (erased (goal.at.loop-size-preserved c).Else-others-d) c.is_in.ensures
-          (elim c.if-is_in.branch [
-            then-is_in w ↦ inl (w.if-is_in.true, w.number-is)
-            | else-is_in w ↦ inr (w.if-is_in.false, w.number-is)
-          ]),
-      omega (arith, c.if-others-d.false),
-    )
+loop-size-preserved c = (
+  told_next (over (goal.at.loop-size-preserved c).After-next_erased-d) (erased (goal.at.loop-size-preserved c).Else-others-d) c.is_in.ensures
+      (elim c.if-is_in.branch [
+        | then-is_in w ↦ inl (w.if-is_in.true, w.number-is)
+        | else-is_in w ↦ inr (w.if-is_in.false, w.number-is)
+      ]),
+  omega (arith, c.if-others-d.false),
+)
