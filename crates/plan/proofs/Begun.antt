@@ -8,8 +8,6 @@ use Prim.Native.Nat.{ℕ, zero, suc, ◌+◌, ◌*◌, ◌-◌, ◌≤◌, ◌<�
 use native.Mathlib.Nat.{not-suc-le-zero}
 use native.Mathlib.Numerals.{add-one}
 use native.Mathlib.Omega.{arith}
-use types.Run.{OneOf}
-use denote.Enum.Declared.{tag_of}
 use borrow.Author.Tests.{lt-ltb, le-ltb}
 use lib.Dec.{ltb, eqb}
 use lib.ListN.{length, take, length-append, length-map}
@@ -54,16 +52,14 @@ module _ (L : Layout) (e : ℕ → Bool) where
       go true h = let z : ◌≡◌ {A = ℕ} 0 1 = cc in absurd (omega arith)
       go false h = (refl, cc)
 
-  fatal-told : (p : ℕ) (answer : Outcome) → answer ≡ position_outcome L e p → OneOf (1 ∷ 2 ∷ []) (tag_of outcome.the_type answer)
+  fatal-told : (p : ℕ) (answer : Outcome) → answer ≡ position_outcome L e p → ((number : ℕ) → answer ≡ Repairs number → ⊥)
       → fatal L e ≡ true
   unfolding position_outcome
   fatal-told p answer says other = go (fatal L e) says
     where
       go : (b : Bool) → answer ≡ cond b (Fatal (lost L e) p) (Repairs (length (repairs L e))) → b ≡ true
       go true is = refl
-      go false is =
-          let none : tag_of outcome.the_type answer ≡ 0 = ap (tag_of outcome.the_type) is in
-          absurd (⊎_elim (λ (h : tag_of outcome.the_type answer ≡ 1). omega arith) (λ (h : tag_of outcome.the_type answer ≡ 2). omega arith) other)
+      go false is = absurd (other _ is)
 
 -- ---- the positions in rising order
 module _ (n : ℕ) (L : Layout) (e : ℕ → Bool) where
@@ -169,7 +165,7 @@ module _ (n : ℕ) (L : Layout) (e : ℕ → Bool) where
                 q (omega arith);
           }
 
-      pub stops : OneOf (1 ∷ 2 ∷ []) (tag_of outcome.the_type answer)
+      pub stops : ((number : ℕ) → answer ≡ Repairs number → ⊥)
           → {zeroed : List ℕ} → zeroed ≡ sheets_of n (λ q. cond (eqb q p) (sheet_at narrow p after) (blank_sheet narrow))
           → Ends answer zeroed
       unfolding position_outcome draft_sheet loss_outcome draft_sheets cycle_sheets

@@ -6,8 +6,6 @@ use mathlib.Core.List.{List, [], ◌∷◌}
 use mathlib.Core.Logic.{⊎_elim}
 use Prim.Native.Nat.{ℕ, ◌/◌, ◌≤◌, ◌<◌, min}
 use native.Mathlib.Omega.{arith}
-use types.Run.{OneOf}
-use denote.Enum.Declared.{tag_of}
 use borrow.Author.Tests.{not-true, not-false}
 use lib.Dec.{ltb}
 use lib.ListN.{length, length-take}
@@ -41,12 +39,6 @@ use Rattle.model.specs.contracts.Outcome as outcome
 use Rattle.plan.specs.Drafted.{draft_sheets}
 use Rattle.restore.specs.Restored.{Sectored}
 use Rattle.rebuild.specs.Marked.{Within}
-
--- An answer of another kind than the first.
-other-kind : {A : Type 0} (tag : A → ℕ) (o first : A) → OneOf (1 ∷ 2 ∷ []) (tag o) → tag first ≡ 0 → o ≡ first → ⊥
-other-kind tag o first other none e =
-    let q : tag o ≡ 0 = ap tag e ∙ none in
-    ⊎_elim (λ (h : tag o ≡ 1). omega arith) (λ (h : tag o ≡ 2). omega arith) other
 
 -- The stripe system of the sectors.
 abbrev pub sectors : Size → (B w : ℕ) → Layout
@@ -117,7 +109,7 @@ module _ {z : Size} {B w : ℕ} {a m sheets : List ℕ} {k : ℕ} (t : Passed z 
 
   -- A fatal loss: the array and the map stay.
   pub as-plan : (answer : Outcome) (s : List ℕ) → answer ≡ loss_outcome (B / w) (sheet_layout z) (erasures m)
-      → s ≡ draft_sheets (B / w) (sheet_layout z) narrow (erasures m) k → OneOf (1 ∷ 2 ∷ []) (tag_of outcome.the_type answer)
+      → s ≡ draft_sheets (B / w) (sheet_layout z) narrow (erasures m) k → ((number : ℕ) → answer ≡ Repairs number → ⊥)
       → Ends z B w a m sheets k answer a m s
   unfolding turn_of loss_told loss_outcome loss_sheets draft_sheets
   as-plan answer s answer-is sheets-are other = go (ltb (fatal_position (B / w) (sheet_layout z) (erasures m)) (B / w)) refl
@@ -130,8 +122,7 @@ module _ {z : Size} {B w : ℕ} {a m sheets : List ℕ} {k : ℕ} (t : Passed z 
           let lossy = fatal-sectors (B / w) L (erasures m) ∙ q in
           rw turns (rw lossy (rw q (answer-is ∙ (rw q), (refl, (refl, sheets-are ∙ (rw q))))))
       go false q =
-          let some = length (sector_repairs (B / w) L (erasures m)) in
-          absurd (other-kind (tag_of outcome.the_type) answer (Repairs some) other refl (answer-is ∙ (rw q)))
+          absurd (other (length (sector_repairs (B / w) L (erasures m))) (answer-is ∙ (rw q)))
 
 -- Plan answers with repairs: the loss is not fatal. At most k of them are made.
 pub record Planned (z : Size) (B w : ℕ) (a m sheets : List ℕ) (k : ℕ) (s : List ℕ) (count made : ℕ) : Type 0 where

@@ -8,8 +8,6 @@ use Prim.Native.Nat.{ℕ, zero, suc, ◌+◌, ◌*◌, ◌-◌, ◌/◌, ◌≤�
 use native.Mathlib.Nat.{mul_comm, mul-suc, le-mul_of_pos_right}
 use native.Mathlib.Numerals.{add-one}
 use native.Mathlib.Omega.{arith}
-use types.Run.{OneOf}
-use denote.Enum.Declared.{tag_of}
 use borrow.Author.Tests.{lt-ltb, le-ltb, ltb-true, eq-eqb, ne_eqb, eqb-true, eqb-false}
 use lib.Dec.{ltb, eqb}
 use lib.ListN.{length, take, length-take}
@@ -88,9 +86,9 @@ module _ (c n : ℕ) where
   number_small limit some room = let least = le-mul_of_pos_right (n + 1) some in let same = mul_comm c (n + 1) in omega arith
 
 -- ---- answers
-not-repairs : (o : Outcome) → OneOf (1 ∷ 2 ∷ []) (tag_of outcome.the_type o) → (accepted o ≡ false) × (repair_count o ≡ 0)
+not-repairs : (o : Outcome) → ((number : ℕ) → o ≡ Repairs number → ⊥) → (accepted o ≡ false) × (repair_count o ≡ 0)
 unfolding accepted repair_count
-not-repairs (Repairs c) other = absurd (⊎_elim (λ (h : ◌≡◌ {A = ℕ} 0 1). omega arith) (λ (h : ◌≡◌ {A = ℕ} 0 2). omega arith) other)
+not-repairs (Repairs c) other = absurd (other c refl)
 not-repairs (Fatal c p) other = (refl, refl)
 not-repairs (Refused k) other = (refl, refl)
 
@@ -149,7 +147,7 @@ module _ (z : Size) (B w : ℕ) (a m s : List ℕ) (k : ℕ) where
   t = rebuild_turn z B w a m s k
 
   -- A turn that is refused is the last.
-  pub refused_last : (d : Turns) (o : Outcome) → o ≡ t.answer → OneOf (1 ∷ 2 ∷ []) (tag_of outcome.the_type o)
+  pub refused_last : (d : Turns) (o : Outcome) → o ≡ t.answer → ((number : ℕ) → o ≡ Repairs number → ⊥)
       → record { last = o; turns = d.turns + 1; made = d.made; left = 0 } ≡ next_total S d t
   unfolding unfinished
   refused_last d o is other =

@@ -40,6 +40,6 @@ draft_all-requires c =
       size_value = p.size_value;
       sectors_value = p.sectors_value;
       map_value = p.map_value;
-      sheets_len = c.note_all.auto.1.1.1.0 ∙ p.sheets_len;
+      sheets_len = c.note_all.auto.sheets ∙ p.sheets_len;
       each_notes = c.note_all.ensures;
     }

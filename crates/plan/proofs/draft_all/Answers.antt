@@ -19,12 +19,12 @@ use Rattle.plan.proofs.draft_all.Goals as goal
 
 -- The sheets after it keep their length.
 kept : (c : goal.After-draft_noted-answer) → let l = c.loop-p in
-    length (put_sheet l.p c.draft_noted-answer.new.1.1.1.1.0 l.sheets) ≡ 98 * c.args.sectors
+    length (put_sheet l.p c.draft_noted-answer.new.sheet l.sheets) ≡ 98 * c.args.sectors
 kept c =
     after-length _ _ _ _ c.loop-p.invariant.0 c.loop-p-test.true c.draft_noted-answer.ensures.outcome c.draft_noted-answer.ensures.sheet
 
 pub loop-p-init : goal.loop-p-init
-loop-p-init c = let notes = c.requires.1.1.1 in (begins _ _ _ _ _ c.requires.sheets_len, λ q low high. c.requires.each_notes q high)
+loop-p-init c = (begins _ _ _ _ _ c.requires.sheets_len, λ q low high. c.requires.each_notes q high)
 
 pub overflow_mul-at : goal.overflow_mul-at
 overflow_mul-at c =
@@ -61,7 +61,7 @@ zero_others-requires-clause-sheets_len c = kept (goal.at.zero_others-requires-cl
 pub returns-in_default : goal.returns-in_default
 returns-in_default c =
     let (h0, h1) = stops _ _ _ _ c.loop-p.invariant.0 c.loop-p-test.true c.draft_noted-answer.ensures.outcome c.draft_noted-answer.ensures.sheet
-    c.in_default.keys2 c.zero_others.ensures in
+    c.in_default.not-Repairs c.zero_others.ensures in
     record {
       outcome = h0;
       sheets = h1;
@@ -70,10 +70,10 @@ returns-in_default c =
 pub overflow_add-count : goal.overflow_add-count
 overflow_add-count c =
     let l = c.loop-p in
-    let number = (repairs_told _ _ _ (sym c.draft_noted-answer.ensures.outcome ∙ c.answer-1.given.1)).1 in
+    let number = (repairs_told _ _ _ (sym c.draft_noted-answer.ensures.outcome ∙ c.in-Repairs.is)).1 in
     let here = own_few c.args.size c.requires.size_value (at_position c.args.sectors l.p (erasures c.args.map.now)) in
     let so_far = before-few c.args.size c.requires.size_value c.args.sectors (erasures c.args.map.now) l.p in
-    let counted = l.inv.0.counted in
+    let counted = l.invariant.0.counted in
     let few = (sectors-bound _ c.requires.sectors_value).1 in
     let place = c.loop-p-test.true in
     omega arith
@@ -92,8 +92,8 @@ loop-p-preserved c =
     let l = c.loop-p in
     let place = c.loop-p-test.true in
     let record { outcome = says; sheet = is } = c.draft_noted-answer.ensures in (
-      goes _ _ _ _ l.inv.0 place says is c.answer-1.given.1 c.at_most-left.ensures,
-      λ q low high. rw (after-other _ _ _ _ l.inv.0 place says is q (λ same. omega arith)) (l.inv.1 q (omega arith) high),
+      goes _ _ _ _ l.invariant.0 place says is c.in-Repairs.is c.at_most-left.ensures,
+      λ q low high. rw (after-other _ _ _ _ l.invariant.0 place says is q (λ same. omega arith)) (l.invariant.1 q (omega arith) high),
     )
 
 pub returns : goal.returns

@@ -30,16 +30,23 @@ passed : (c : goal.Else-limit-eq0) → let a = c.args in
 passed c =
     let other = c.if-limit-eq0.false in
     record {
-      array = array_ok c.before.before.before;
+      array = sym c.sector_refusal-of_array.ensures ∙ c.if-of_array-ne0.false;
       sheetsFit = sym c.sheet_refusal-of_sheets.ensures ∙ c.if-of_sheets-ne0.false;
       some = omega arith;
     }
 
 drafted : (c : goal.After-at_most-made) → let a = c.args in
     Planned a.size a.block a.sector a.array.now a.map.now a.sheets.now a.limit
-    c.draft-answer.last.1.1.1.0 c.answer-1.given.0.0 c.at_most-made.result
+    c.draft-answer.new.sheets c.in-Repairs.count c.at_most-made.result
 drafted c =
-    planned (passed c.before.before.before.before.before.before.before.before) _ _ c.draft-answer.ensures.outcome c.draft-answer.ensures.sheets _ c.answer-1.given.1 _ c.at_most-made.ensures
+    let other = c.if-limit-eq0.false in
+    let tests : Passed c.args.size c.args.block c.args.sector c.args.array.now c.args.map.now c.args.sheets.now c.args.limit =
+    record {
+      array = sym c.sector_refusal-of_array.ensures ∙ c.if-of_array-ne0.false;
+      sheetsFit = sym c.sheet_refusal-of_sheets.ensures ∙ c.if-of_sheets-ne0.false;
+      some = omega arith;
+    } in
+    planned tests _ _ c.draft-answer.ensures.outcome c.draft-answer.ensures.sheets _ c.in-Repairs.is _ c.at_most-made.ensures
 
 pub returns-then-of_array-ne0 : goal.returns-then-of_array-ne0
 returns-then-of_array-ne0 c =
@@ -102,7 +109,7 @@ draft-answer-requires c =
 
 pub returns-in_default : goal.returns-in_default
 returns-in_default c =
-    let (h0, (h1, (h2, h3))) = as-plan (passed (goal.at.returns-in_default c).Else-limit-eq0) _ _ c.draft-answer.ensures.outcome c.draft-answer.ensures.sheets c.in_default.keys2 in
+    let (h0, (h1, (h2, h3))) = as-plan (passed (goal.at.returns-in_default c).Else-limit-eq0) _ _ c.draft-answer.ensures.outcome c.draft-answer.ensures.sheets c.in_default.not-Repairs in
     record {
       outcome = h0;
       array = h1;

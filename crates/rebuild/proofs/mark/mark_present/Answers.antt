@@ -37,26 +37,26 @@ list-count-requires c =
 
 -- The list has the repairs of the sheet.
 lists : (c : goal.After-list-count) →
-    listed c.list-count.new.1.0 c.list-count.result ≡ chain_entries narrow (sheet_at narrow c.loop-p.p c.args.sheets.now)
+    listed c.list-count.new.list c.list-count.result ≡ chain_entries narrow (sheet_at narrow c.loop-p.p c.args.sheets.now)
 lists c =
     part-lists c.args.sectors c.args.sheets.now c.requires.sheets_len c.loop-p.p c.loop-p-test.true c.requires.by_index
-    _ _ c.list-count.ensures
+    _ _ (c.list-count.ensures.number, c.list-count.ensures.list)
 
 -- The map has a place for each of them.
 pub mark_position-requires : goal.mark_position-requires
 unfolding sheets_entries
 mark_position-requires c =
     let place = c.loop-p-test.true in
-    let most = part-few c.args.sectors c.args.sheets.now c.requires.sheets_len c.loop-p.p place c.requires.by_index _ _ c.list-count.ensures in
+    let most = part-few c.args.sectors c.args.sheets.now c.requires.sheets_len c.loop-p.p place c.requires.by_index _ _ (c.list-count.ensures.number, c.list-count.ensures.list) in
     record {
       sectors_bound = c.requires.sectors_bound;
       position_lt_sectors = search rules;
       count_in_bounds = search rules;
       by_index = λ k h.
-              let (inside, disk) = named c.list-count.new.1.0 _ c.list-count.result (lists (goal.at.mark_position-requires c).After-list-count) k h in
+              let (inside, disk) = named c.list-count.new.list _ c.list-count.result (lists (goal.at.mark_position-requires c).After-list-count) k h in
               let there = within_at c.args.sectors (λ q. chain_entries narrow (sheet_at narrow q c.args.sheets.now))
               (length c.args.map.now) c.args.sectors c.requires.within c.loop-p.p place k inside in
-              subst (λ (n : ℕ). sector_at c.args.sectors c.loop-p.p (entry_disk c.list-count.new.1.0 k) < n) (sym (kept (goal.at.mark_position-requires c).At-loop-p))
+              subst (λ (n : ℕ). sector_at c.args.sectors c.loop-p.p (entry_disk c.list-count.new.list k) < n) (sym (kept (goal.at.mark_position-requires c).At-loop-p))
               (subst (λ (d : ℕ). sector_at c.args.sectors c.loop-p.p d < length c.args.map.now) disk there);
     }
 

@@ -22,7 +22,9 @@ repair_positions-requires c =
 pub returns-then-made-count : goal.returns-then-made-count
 returns-then-made-count c =
     let a = c.args in
-    let (long, (most, all)) = c.requires.1.1.1.1.1.1 in
+    let long = c.requires.made_value in
+    let most = c.requires.made_le_count in
+    let all = c.requires.count_value in
     let less = c.if-made-count.true in
     record {
       answer = sym (ap not (nothing_tested _ a.map.now _ c.requires.peels (whole a.sector) a.array.now (omega arith)));
@@ -45,7 +47,9 @@ pub returns : goal.returns
 returns c =
     let a = c.args in
     let record { answer = answer; array = array } = c.restore.ensures in
-    let (long, (most, all)) = c.requires.1.1.1.1.1.1 in
+    let long = c.requires.made_value in
+    let most = c.requires.made_le_count in
+    let all = c.requires.count_value in
     let none = c.if-made-count.false in
     record {
       answer = answer ∙ sym (all_tested _ a.map.now _ c.requires.peels (whole a.sector) a.array.now (omega arith));
