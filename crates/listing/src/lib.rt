@@ -1,5 +1,6 @@
 // What the listing program prints: the repairs of a loss, the cycle of a fatal one, or a refusal.
 #![tactic(auto)]
+
 ghost use Rattle.std.specs.Prelude.{◌≡◌, ◌-◌, ◌≤◌, length, take, drop, get_or, replicate};
 ghost use Rattle.model.specs.Grid.{rectangle};
 ghost use Rattle.model.specs.Listing.{listing};

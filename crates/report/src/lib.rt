@@ -1,5 +1,6 @@
 // The text on a loss: a heading and the lines of its list, or a refusal.
 #![tactic(auto)]
+
 ghost use Rattle.std.specs.Prelude.{◌≡◌, ◌+◌, ◌*◌, ◌≤◌, ◌<◌, length};
 ghost use Rattle.model.specs.Listing.{refused_word, entry_lines, listed as Listing·listed};
 ghost use Rattle.entries.specs.Listed.{listed as Listed·listed};

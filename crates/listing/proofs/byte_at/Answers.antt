@@ -10,7 +10,7 @@ pub bounds-input-place : goal.bounds-input-place
 bounds-input-place c = search rules
 
 pub overflow_cast-result : goal.overflow_cast-result
-overflow_cast-result c = omega (arith, c.shared_slice_known-1.given c.args.place)
+overflow_cast-result c = omega (arith, c.type_inv.input c.args.place)
 
 pub returns-then-place-input : goal.returns-then-place-input
 returns-then-place-input c = refl

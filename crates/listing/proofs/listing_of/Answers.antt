@@ -8,7 +8,7 @@ use Rattle.listing.proofs.listing_of.Goals as goal
 
 pub returns : goal.returns
 returns c =
-    let text = ap₂ reported c.type_size.ensures c.map_of.ensures ∙ input-reported _ in
+    let text = ap₂ reported c.size_of.ensures c.map_of.ensures ∙ input-reported _ in
     let written = written_as text c.report-len.ensures in
     let (all, rest, within) = written-alone 320 written in
     record {

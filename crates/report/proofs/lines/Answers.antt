@@ -1,7 +1,7 @@
 -- `report::lines` meets its contract: the entries so far are listed, and there is room for the others.
 -- Assumes nothing.
 use mathlib.Core.Path.{◌≡◌, ap, ap₂}
-use Prim.Native.Nat.{ℕ, ◌-◌}
+use Prim.Native.Nat.{ℕ}
 use native.Mathlib.Omega.{arith}
 use Rattle.model.specs.Listing.{entry_lines}
 use Rattle.entries.specs.Listed.{listed}

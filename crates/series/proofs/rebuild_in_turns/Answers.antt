@@ -11,7 +11,7 @@ use Rattle.model.specs.Plan.{sheet_layout}
 use Rattle.model.specs.Rebuild.{rebuild_turn}
 use Rattle.series.proofs.Ends.{positions-bound}
 use Rattle.series.proofs.Progress.{begins, ends, inside, ready, fewer, goes}
-use Rattle.series.proofs.rebuild_in_turns.Goals.{After-struct_known-in-loop-done-1}
+use Rattle.series.proofs.rebuild_in_turns.Goals.{In-loop-done}
 use Rattle.series.proofs.rebuild_in_turns.Goals as goal
 
 pub overflow_mul-bytes : goal.overflow_mul-bytes
@@ -35,21 +35,21 @@ loop-done-init c =
     ([], begins a.size a.block a.sector a.limit _ a.array.now a.map.now a.sheets.now is)
 
 -- The next sheets stand in the buffer.
-within : (c : goal.After-struct_known-in-loop-done-1) → let bytes = 98 * c.positions-bytes.result in
+within : (c : goal.In-loop-done) → let bytes = 98 * c.positions-bytes.result in
     bytes * c.loop-done.done.turns + bytes ≤ length c.loop-done.sheets
 within c = inside c.loop-done.invariant.1 c.loop-done-test.true
 
 pub overflow_mul-at : goal.overflow_mul-at
-overflow_mul-at c = let here = within (goal.at.overflow_mul-at c).After-struct_known-in-loop-done-1 in omega arith
+overflow_mul-at c = let here = within (goal.at.overflow_mul-at c).In-loop-done in omega arith
 
 pub overflow_add-own : goal.overflow_add-own
-overflow_add-own c = let here = within (goal.at.overflow_add-own c).After-struct_known-in-loop-done-1 in omega arith
+overflow_add-own c = let here = within (goal.at.overflow_add-own c).In-loop-done in omega arith
 
 pub slice_bounds-own-count : goal.slice_bounds-own-count
 slice_bounds-own-count c = omega arith
 
 pub slice_bounds-own-end : goal.slice_bounds-own-end
-slice_bounds-own-end c = within (goal.at.slice_bounds-own-end c).After-struct_known-in-loop-done-1
+slice_bounds-own-end c = within (goal.at.slice_bounds-own-end c).In-loop-done
 
 pub turn-done-requires : goal.turn-done-requires
 turn-done-requires c =

@@ -8,7 +8,7 @@ use Rattle.model.specs.Rebuild.{rebuild_turn}
 use Rattle.model.specs.declared.Outcome.TheVariants.{Repairs}
 use Rattle.series.proofs.Ends.{positions-bound, sum_small, number_small, refused_last, few-made, repairs-counted}
 use Rattle.model.specs.Series.{turn_bytes}
-use Rattle.series.proofs.turn.Goals.{In-Repairs-2}
+use Rattle.series.proofs.turn.Goals.{In-Repairs}
 use Rattle.series.proofs.turn.Goals as goal
 
 pub overflow_add-turns : goal.overflow_add-turns
@@ -23,36 +23,36 @@ returns-in_default c =
     let a = c.args in
     let record { outcome = answer; array = array; map = map; sheets = sheets } = c.rebuild-last.ensures in
     record {
-      turns = refused_last a.size a.block a.sector a.array.now a.map.now a.sheets.now a.limit a.done _ answer c.in_default.keys2;
+      turns = refused_last a.size a.block a.sector a.array.now a.map.now a.sheets.now a.limit a.done _ answer c.in_default.not-Repairs;
       array = array;
       map = map;
       sheets = sheets;
     }
 
 -- The answer is a number of repairs, and few.
-repaired : (c : goal.In-Repairs-2)
+repaired : (c : goal.In-Repairs)
     → let a = c.args in
-    Repairs c.last-1.given.0.0
+    Repairs c.in-Repairs.count
     ≡ (rebuild_turn a.size a.block a.sector a.array.now a.map.now a.sheets.now a.limit).answer
-repaired c = sym c.last-1.given.1 ∙ c.rebuild-last.ensures.outcome
+repaired c = sym c.in-Repairs.is ∙ c.rebuild-last.ensures.outcome
 
-sum_fits : (c : goal.In-Repairs-2)
+sum_fits : (c : goal.In-Repairs)
     → let a = c.args in
-    a.done.made + c.last-1.given.0.0 < 9223372036854775808
+    a.done.made + c.in-Repairs.count < 9223372036854775808
 sum_fits c =
     let a = c.args in
-    sum_small (turn_bytes a.block a.sector) a.done.turns a.done.made c.last-1.given.0.0 9223372036854775808 c.requires.made_bound
+    sum_small (turn_bytes a.block a.sector) a.done.turns a.done.made c.in-Repairs.count 9223372036854775808 c.requires.made_bound
     (few-made a.size a.block a.sector a.array.now a.map.now a.sheets.now a.limit _ (repaired c)) c.requires.turns_bound
 
 pub overflow_add-result : goal.overflow_add-result
-overflow_add-result c = let sum = sum_fits (goal.at.overflow_add-result c).In-Repairs-2 in omega arith
+overflow_add-result c = let sum = sum_fits (goal.at.overflow_add-result c).In-Repairs in omega arith
 
 pub returns-then-any_erased : goal.returns-then-any_erased
 returns-then-any_erased c =
     let a = c.args in
     let record { outcome = answer; array = array; map = map; sheets = sheets } = c.rebuild-last.ensures in
     record {
-      turns = repairs-counted a.size a.block a.sector a.array.now a.map.now a.sheets.now a.limit _ (repaired (goal.at.returns-then-any_erased c).In-Repairs-2) a.done _ map true
+      turns = repairs-counted a.size a.block a.sector a.array.now a.map.now a.sheets.now a.limit _ (repaired (goal.at.returns-then-any_erased c).In-Repairs) a.done _ map true
           (sym c.if-any_erased.true ∙ c.any_erased.ensures);
       array = array;
       map = map;
@@ -60,14 +60,14 @@ returns-then-any_erased c =
     }
 
 pub overflow_add-result-2 : goal.overflow_add-result-2
-overflow_add-result-2 c = let sum = sum_fits (goal.at.overflow_add-result-2 c).In-Repairs-2 in omega arith
+overflow_add-result-2 c = let sum = sum_fits (goal.at.overflow_add-result-2 c).In-Repairs in omega arith
 
 pub returns : goal.returns
 returns c =
     let a = c.args in
     let record { outcome = answer; array = array; map = map; sheets = sheets } = c.rebuild-last.ensures in
     record {
-      turns = repairs-counted a.size a.block a.sector a.array.now a.map.now a.sheets.now a.limit _ (repaired (goal.at.returns c).In-Repairs-2) a.done _ map false
+      turns = repairs-counted a.size a.block a.sector a.array.now a.map.now a.sheets.now a.limit _ (repaired (goal.at.returns c).In-Repairs) a.done _ map false
           (sym c.if-any_erased.false ∙ c.any_erased.ensures);
       array = array;
       map = map;
