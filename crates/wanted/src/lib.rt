@@ -5,7 +5,7 @@ ghost use Rattle.std.specs.Prelude.{◌≡◌, true};
 ghost use Rattle.model.specs.Grid.{map_fits, disks};
 ghost use Rattle.model.specs.PlanDisk.{can_be_wanted, plan_disk_outcome, plan_disk_sheet};
 
-mod reach;
+mod reaching;
 mod side;
 
 use model::{Outcome, Size};
@@ -38,7 +38,7 @@ pub fn plan_disk(size: Size, map: &[u8], sheet: &mut [u8], disk: usize) -> Outco
         return Outcome::Refused(15);
     }
     let mut list = [0u32; entries::CAPACITY];
-    let count = reach::find(size, sheet::BASE, map, disk, &mut list);
+    let count = reaching::find(size, sheet::BASE, map, disk, &mut list);
     if count == 0 {
         return plan::draft(size, 1, map, sheet, entries::CAPACITY);
     }

@@ -1,10 +1,10 @@
--- `wanted::reach::load_others` meets its contract: the map without the disk is tallied, and its disks joined.
+-- `wanted::reaching::load_others` meets its contract: the map without the disk is tallied, and its disks joined.
 -- Assumes nothing.
 use native.Mathlib.Omega.{arith}
 use lib.ListN.{length-set}
 use Rattle.model.proofs.Grid.{map-length}
 use Rattle.wanted.proofs.Loaded.{others_loaded, others_outside, parted-same}
-use Rattle.wanted.proofs.reach.load_others.Goals as goal
+use Rattle.wanted.proofs.reaching.load_others.Goals as goal
 
 pub tally-requires : goal.tally-requires
 tally-requires c =

@@ -1,4 +1,4 @@
--- `wanted::reach::try_stripe` meets its contract: the side is loaded with the disk and peeled while the disk is held back.
+-- `wanted::reaching::try_stripe` meets its contract: the side is loaded with the disk and peeled while the disk is held back.
 -- Assumes nothing.
 use mathlib.Core.Path.{◌≡◌, sym, ◌∙◌, ap}
 use mathlib.Core.Bool.{Bool, true}
@@ -21,8 +21,8 @@ use Rattle.entries.specs.Listed.{capacity}
 use Rattle.wanted.proofs.Loaded.{side_outside}
 use Rattle.wanted.proofs.Near.{sideWith}
 use Rattle.wanted.proofs.Reached.{loaded_side, held-few, tried_none, tried_list}
-use Rattle.wanted.proofs.reach.try_stripe.Goals.{After-load, After-peel-made}
-use Rattle.wanted.proofs.reach.try_stripe.Goals as goal
+use Rattle.wanted.proofs.reaching.try_stripe.Goals.{After-load, After-peel-made}
+use Rattle.wanted.proofs.reaching.try_stripe.Goals as goal
 
 -- The disk is one of the grid, and its stripe has a place in every table.
 inside : (z : Size) (base : ℕ) (map : List ℕ) {d : ℕ} → map_fits (disks z) map ≡ true → erasures map d ≡ true → d < (layout_of z base).disks

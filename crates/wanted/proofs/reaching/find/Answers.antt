@@ -1,11 +1,11 @@
--- `wanted::reach::find` meets its contract: the memory that it makes is large enough.
+-- `wanted::reaching::find` meets its contract: the memory that it makes is large enough.
 -- Assumes nothing.
 use mathlib.Core.Path.{refl, sym, ◌∙◌}
 use lib.Seq.{length-take-le}
 use Rattle.layout.proofs.Numbers.{map-few}
 use Rattle.layout.proofs.Runs.{stripes_few}
 use Rattle.solve.proofs.Memory.{room-made}
-use Rattle.wanted.proofs.reach.find.Goals as goal
+use Rattle.wanted.proofs.reaching.find.Goals as goal
 
 pub slice_bounds-others-end : goal.slice_bounds-others-end
 slice_bounds-others-end c = map-few _ _ c.requires.numbered _ c.requires.map_value

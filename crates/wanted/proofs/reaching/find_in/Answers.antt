@@ -1,4 +1,4 @@
--- `wanted::reach::find_in` meets its contract: the others are loaded and joined, and the side with fewer disks is tried first.
+-- `wanted::reaching::find_in` meets its contract: the others are loaded and joined, and the side with fewer disks is tried first.
 -- Assumes nothing.
 use mathlib.Core.Path.{◌≡◌, refl, ◌∙◌, ap}
 use mathlib.Core.Bool.{true, false}
@@ -15,8 +15,8 @@ use Rattle.layout.proofs.Runs.{numbered_two}
 use Rattle.tally.proofs.Counted.{Crossed, crossed}
 use Rattle.solve.proofs.Memory.{map-disks, same-room}
 use Rattle.wanted.proofs.Reached.{listed-on, listed-lower, listed-higher, side_number, tried_at, found_first, found_second}
-use Rattle.wanted.proofs.reach.find_in.Goals.{After-stripes_of-pair, then-fewer-few, else-fewer-few}
-use Rattle.wanted.proofs.reach.find_in.Goals as goal
+use Rattle.wanted.proofs.reaching.find_in.Goals.{After-stripes_of-pair, then-fewer-few, else-fewer-few}
+use Rattle.wanted.proofs.reaching.find_in.Goals as goal
 
 -- The disk is one of the map.
 inside : (map : List ℕ) {d : ℕ} → erasures map d ≡ true → d < length map

@@ -1,4 +1,4 @@
--- `wanted::reach::try_both` meets its contract: the table is that of the others again before the second stripe is tried.
+-- `wanted::reaching::try_both` meets its contract: the table is that of the others again before the second stripe is tried.
 -- Assumes nothing.
 use mathlib.Core.Path.{sym, ◌∙◌}
 use native.Mathlib.Omega.{arith}
@@ -8,7 +8,7 @@ use Rattle.solve.proofs.Memory.{same-room}
 use Rattle.wanted.proofs.Loaded.{others_outside}
 use Rattle.wanted.proofs.Reached.{tried_first, tried_second}
 use Rattle.layout.proofs.Runs.{numbered_two}
-use Rattle.wanted.proofs.reach.try_both.Goals as goal
+use Rattle.wanted.proofs.reaching.try_both.Goals as goal
 
 pub try_stripe-count-requires : goal.try_stripe-count-requires
 try_stripe-count-requires c =
