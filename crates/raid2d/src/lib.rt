@@ -2,6 +2,7 @@
 // them. What is lent without `mut` keeps its bytes: the language lets no call write there. The demands on these calls are stated
 // in crates/demands, of the same definitions.
 #![tactic(auto)]
+
 ghost use Rattle.std.specs.Prelude.{◌≡◌};
 ghost use Rattle.model.specs.Grid.{rectangle, disks_or_zero, array_bytes_or_zero};
 ghost use Rattle.model.specs.Sheet.{narrow};

@@ -9,7 +9,7 @@ use Rattle.raid2d.proofs.raid2d_check.Goals as goal
 pub returns-in-Sealed : goal.returns-in-Sealed
 unfolding rectangle check_status check_stripe
 returns-in-Sealed c =
-    let e = sym c.check-answer.ensures ∙ c.enum_told-1.given.1 in
+    let e = sym c.check-answer.ensures ∙ c.in-Sealed.is in
     record {
       status = sym (ap check_status e);
       stripe = sym (ap (λ (x : Checked). check_stripe x c.args.stripe.now) e);
@@ -18,7 +18,7 @@ returns-in-Sealed c =
 pub returns-in-Unsealed : goal.returns-in-Unsealed
 unfolding rectangle check_status check_stripe
 returns-in-Unsealed c =
-    let e = sym c.check-answer.ensures ∙ c.answer-1.given.1 in
+    let e = sym c.check-answer.ensures ∙ c.in-Unsealed.is in
     record {
       status = sym (ap check_status e);
       stripe = sym (ap (λ (x : Checked). check_stripe x c.args.stripe.now) e);
@@ -27,7 +27,7 @@ returns-in-Unsealed c =
 pub returns-in-Refused : goal.returns-in-Refused
 unfolding rectangle check_status check_stripe
 returns-in-Refused c =
-    let e = sym c.check-answer.ensures ∙ c.answer-in-Refused-1.given.1 in
+    let e = sym c.check-answer.ensures ∙ c.in-Refused.is in
     record {
       status = sym (ap check_status e);
       stripe = sym (ap (λ (x : Checked). check_stripe x c.args.stripe.now) e);

@@ -18,7 +18,7 @@ told count position e = (
 pub returns-in-Repairs : goal.returns-in-Repairs
 unfolding outcome_status outcome_count outcome_position
 returns-in-Repairs c =
-    let (h0, (h1, h2)) = told c.args.count.now c.args.position.now c.answer-1.given.1 in
+    let (h0, (h1, h2)) = told c.args.count.now c.args.position.now c.in-Repairs.is in
     record {
       status = h0;
       count = h1;
@@ -28,7 +28,7 @@ returns-in-Repairs c =
 pub returns-in-Fatal : goal.returns-in-Fatal
 unfolding outcome_status outcome_count outcome_position
 returns-in-Fatal c =
-    let (h0, (h1, h2)) = told c.args.count.now c.args.position.now c.answer-in-Fatal-1.given.1 in
+    let (h0, (h1, h2)) = told c.args.count.now c.args.position.now c.in-Fatal.is in
     record {
       status = h0;
       count = h1;
@@ -38,7 +38,7 @@ returns-in-Fatal c =
 pub returns-in-Refused : goal.returns-in-Refused
 unfolding outcome_status outcome_count outcome_position
 returns-in-Refused c =
-    let (h0, (h1, h2)) = told c.args.count.now c.args.position.now c.answer-in-Refused-1.given.1 in
+    let (h0, (h1, h2)) = told c.args.count.now c.args.position.now c.in-Refused.is in
     record {
       status = h0;
       count = h1;

@@ -14,7 +14,7 @@ told before e = (sym (ap saving_status e), sym (ap (λ (r : Saving). saving_coun
 pub returns-in-Saved : goal.returns-in-Saved
 unfolding saving_status saving_count
 returns-in-Saved c =
-    let (h0, h1) = told c.args.count.now c.answer-1.given.1 in
+    let (h0, h1) = told c.args.count.now c.in-Saved.is in
     record {
       status = h0;
       count = h1;
@@ -23,7 +23,7 @@ returns-in-Saved c =
 pub returns-in-Refused : goal.returns-in-Refused
 unfolding saving_status saving_count
 returns-in-Refused c =
-    let (h0, h1) = told c.args.count.now c.answer-in-Refused-1.given.1 in
+    let (h0, h1) = told c.args.count.now c.in-Refused.is in
     record {
       status = h0;
       count = h1;
