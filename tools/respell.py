@@ -37,7 +37,9 @@ def read(path):
 
 
 def in_function_folder(path):
-    return path.endswith(("/Proof.antt", "/Answers.antt", "/Invariants.antt"))
+    """Whether the file is of one function's proof: a lemma file of a crate may be called Answers.antt too, right in proofs/."""
+    name, folder = os.path.basename(path), os.path.basename(os.path.dirname(path))
+    return name in ("Proof.antt", "Answers.antt", "Invariants.antt") and folder != "proofs"
 
 
 def declared(paths):

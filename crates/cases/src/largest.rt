@@ -2,6 +2,7 @@
 ghost use Rattle.std.specs.Prelude.{◌≡◌, ◌≤◌, ◌<◌, length};
 
 use model::Size;
+use std::io;
 
 // Stores a value at place `from` and every `step` places on, below `to`.
 fn put_every(bytes: &mut [u8], from: usize, to: usize, step: usize, value: u8)
@@ -39,21 +40,19 @@ fn spoil(array: &mut [u8], map: &[u8])
 }
 
 // A turn of at most 16 repairs on the largest array.
-fn turn(what: &[u8], array: &mut [u8], map: &mut [u8]) {
+fn turn(rt: &impl Print, what: &str, array: &mut [u8], map: &mut [u8]) -> io::Result<()> {
     let size = Size {
         rows: 15,
         columns: 15,
     };
     let mut sheet = [0u8; 98];
-    say::outcome(
-        what,
-        rebuild::rebuild(size, 4096, array, 4096, map, &mut sheet, 16),
-    );
+    let answer = rebuild::rebuild(size, 4096, array, 4096, map, &mut sheet, 16);
+    say::outcome(rt, what, answer)
 }
 
 // Seals an array of many different bytes, loses the first row and the first column, which are as many disks as can come back,
 // and restores them in two turns.
-pub fn run() {
+pub fn run(rt: &impl Print) -> io::Result<()> {
     let size = Size {
         rows: 15,
         columns: 15,
@@ -62,22 +61,19 @@ pub fn run() {
     put_every(&mut array, 0, 1048576, 3, 7);
     put_every(&mut array, 1, 1048576, 5, 90);
     put_every(&mut array, 2, 1048576, 4099, 203);
-    say::status(
-        b"seal the largest array",
-        seal::seal(size, 4096, &mut array),
-    );
-    say::checked(b"check it", scrub::check(size, 4096, &array));
+    let status = seal::seal(size, 4096, &mut array);
+    say::status(rt, "seal the largest array", status)?;
+    say::checked(rt, "check it", scrub::check(size, 4096, &array))?;
     let sealed = array;
     let mut map = [0u8; 256];
     put_every(&mut map, 0, 16, 1, 1);
     put_every(&mut map, 0, 256, 16, 1);
     spoil(&mut array, &map);
     let mut sheet = [0u8; 98];
-    say::outcome(
-        b"plan the loss of a row and a column",
-        plan::plan(size, 1, &map, &mut sheet),
-    );
-    turn(b"rebuild 16 disks", &mut array, &mut map);
-    turn(b"rebuild the others", &mut array, &mut map);
-    say::number(b"all bytes restored", check::same(&array, &sealed) as usize);
+    let answer = plan::plan(size, 1, &map, &mut sheet);
+    say::outcome(rt, "plan the loss of a row and a column", answer)?;
+    turn(rt, "rebuild 16 disks", &mut array, &mut map)?;
+    turn(rt, "rebuild the others", &mut array, &mut map)?;
+    let restored = check::same(&array, &sealed);
+    say::number(rt, "all bytes restored", restored as usize)
 }

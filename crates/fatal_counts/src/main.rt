@@ -1,8 +1,10 @@
 // Case 12: the fatal losses of three and of four disks, counted for 2 to 4 data rows and columns.
 #![tactic(auto)]
+
 ghost use Rattle.std.specs.Prelude.{◌≤◌};
 
 use model::{Outcome, Size};
+use std::io;
 
 // Four disks.
 #[derive(Clone, Copy)]
@@ -101,37 +103,37 @@ fn fatal_sets(size: Size, map: &mut [u8], number: usize) -> usize {
 }
 
 // The counts for one size, with a clear map of its length.
-fn counted(rows: usize, columns: usize, map: &mut [u8]) {
+fn counted(rt: &impl Print, rows: usize, columns: usize, map: &mut [u8]) -> io::Result<()> {
     let size = Size { rows, columns };
-    say::size(rows, columns);
-    say::end();
-    say::number(b"fatal sets of three", fatal_sets(size, map, 3));
-    say::number(b"fatal sets of four", fatal_sets(size, map, 4));
+    say::size(rt, rows, columns)?;
+    say::end(rt)?;
+    say::number(rt, "fatal sets of three", fatal_sets(size, map, 3))?;
+    say::number(rt, "fatal sets of four", fatal_sets(size, map, 4))
 }
 
-fn squares() {
+fn squares(rt: &impl Print) -> io::Result<()> {
     let mut nine = [0u8; 9];
     let mut sixteen = [0u8; 16];
     let mut twenty_five = [0u8; 25];
-    counted(2, 2, &mut nine);
-    counted(3, 3, &mut sixteen);
-    counted(4, 4, &mut twenty_five);
+    counted(rt, 2, 2, &mut nine)?;
+    counted(rt, 3, 3, &mut sixteen)?;
+    counted(rt, 4, 4, &mut twenty_five)
 }
 
 // Each wider than high and higher than wide, with the same map.
-fn rectangles() {
+fn rectangles(rt: &impl Print) -> io::Result<()> {
     let mut twelve = [0u8; 12];
     let mut fifteen = [0u8; 15];
     let mut twenty = [0u8; 20];
-    counted(2, 3, &mut twelve);
-    counted(3, 2, &mut twelve);
-    counted(2, 4, &mut fifteen);
-    counted(4, 2, &mut fifteen);
-    counted(3, 4, &mut twenty);
-    counted(4, 3, &mut twenty);
+    counted(rt, 2, 3, &mut twelve)?;
+    counted(rt, 3, 2, &mut twelve)?;
+    counted(rt, 2, 4, &mut fifteen)?;
+    counted(rt, 4, 2, &mut fifteen)?;
+    counted(rt, 3, 4, &mut twenty)?;
+    counted(rt, 4, 3, &mut twenty)
 }
 
-fn main() {
-    squares();
-    rectangles();
+fn main(rt: HostRuntime) -> io::Result<()> {
+    squares(&rt)?;
+    rectangles(&rt)
 }
