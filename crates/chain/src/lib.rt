@@ -1,5 +1,6 @@
 // The chain of a sheet from elsewhere, which may visit its records in any order, and what stands off it.
 #![tactic(auto)]
+
 ghost use Rattle.std.specs.Prelude.{◌≡◌, false, ℕ, ◌+◌, ◌≤◌, ◌<◌, length};
 ghost use Rattle.stripes.specs.Fold.{every};
 ghost use Rattle.stripes.specs.System.{among};

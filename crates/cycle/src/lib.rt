@@ -1,6 +1,7 @@
 // The cycle that a set of disks forms, where each stripe touched holds two of them. A disk is known here by its two stripes
 // alone, which are read from the table.
 #![tactic(auto)]
+
 ghost use Rattle.std.specs.Prelude.{◌≡◌, [], ◌∷◌, ◌≤◌, ◌<◌, length};
 ghost use Rattle.stripes.specs.System.{among, other_than};
 ghost use Rattle.stripes.specs.Erased.{erasures};

@@ -2,6 +2,7 @@
 // plan and rebuild's turns on one input, of the plan for one disk what it lists, of follow that it does as rebuild, of tidy what it makes of sheets, and of save
 // what it gives back.
 #![tactic(auto)]
+
 ghost use Rattle.std.specs.Prelude.{◌≡◌, true, false, ◌↔◌, List, ℕ, ◌+◌, ◌*◌, ◌/◌, ◌≤◌, ◌<◌, length, get_or, take, drop};
 ghost use Rattle.stripes.specs.Fold.{count};
 ghost use Rattle.stripes.specs.System.{whole};

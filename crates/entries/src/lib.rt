@@ -1,5 +1,6 @@
 // Lists inside the library: repairs, or the steps of a cycle, a disk and a stripe in one word each.
 #![tactic(auto)]
+
 ghost use Rattle.std.specs.Prelude.{◌≡◌, ◌<◌, min, length, set};
 ghost use Rattle.entries.specs.Listed.{word_of, entry_disk, entry_stripe};
 

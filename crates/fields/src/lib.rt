@@ -1,5 +1,6 @@
 // What a sheet holds, one number at a time. An array of bytes that is lent is a plain pointer in C, without a length.
 #![tactic(auto)]
+
 ghost use Rattle.std.specs.Prelude.{◌≡◌, ◌<◌, get_or};
 ghost use Rattle.model.specs.Sheet.{narrow};
 ghost use Rattle.model.specs.Chain.{kind_of, first_number, entry_at, next_number, if_record};

@@ -68,19 +68,19 @@ module _ (z : Size) (B w : ℕ) (a m s : List ℕ) where
   early k e some =
       subst (λ (k : ℕ). Followed z B w a m s (Refused k) a) e (as-given (follow_first z B w a m s (λ q. some (sym e ∙ q))))
 
-  pub array-refused : (status : ℕ) → status ≡ refusal (sector_tests z B (length a) w) → (status ≡ 0 → ⊥)
+  pub array_refused : (status : ℕ) → status ≡ refusal (sector_tests z B (length a) w) → (status ≡ 0 → ⊥)
       → Followed z B w a m s (Refused status) a
   unfolding buffer_refusal buffer_tests
-  array-refused status e some = early status (refused_first (sector_tests z B (length a) w) _ (λ q. some (e ∙ q)) ∙ sym e) some
+  array_refused status e some = early status (refused_first (sector_tests z B (length a) w) _ (λ q. some (e ∙ q)) ∙ sym e) some
 
   module _ (sized : refusal (sector_tests z B (length a) w) ≡ 0) where
     pub tests_left : buffer_refusal z B w a m s ≡ refusal (sheet_tests z (B / w) m (length s))
     unfolding buffer_refusal buffer_tests
     tests_left = let (array, sector) = sector_fits_lem z B (length a) w sized in sector_passed z B (length a) w array sector _
 
-    pub sheet-refused : (status : ℕ) → status ≡ refusal (sheet_tests z (B / w) m (length s)) → (status ≡ 0 → ⊥)
+    pub sheet_refused : (status : ℕ) → status ≡ refusal (sheet_tests z (B / w) m (length s)) → (status ≡ 0 → ⊥)
         → Followed z B w a m s (Refused status) a
-    sheet-refused status e = early status (tests_left ∙ sym e)
+    sheet_refused status e = early status (tests_left ∙ sym e)
 
   -- ---- the sheets
   module _ (ok : buffer_refusal z B w a m s ≡ 0) (answer : Chain) (read : answer ≡ chains_read (B / w) s) where
@@ -95,11 +95,11 @@ module _ (z : Size) (B w : ℕ) (a m s : List ℕ) where
       clean : sheets_refusal B w s ≡ 0
       clean = (by_records (B / w) s answer read count e).0
 
-      pub chains-fit : (p : ℕ) → p < B / w → chain_refusal narrow (sheet_at narrow p s) ≡ 0
-      chains-fit p l = ((clean_exact narrow (sheet_at narrow p s)).0 ((sheets-accepted narrow (B / w) s).0 clean p l)).0
+      pub chains_fit : (p : ℕ) → p < B / w → chain_refusal narrow (sheet_at narrow p s) ≡ 0
+      chains_fit p l = ((clean_exact narrow (sheet_at narrow p s)).0 ((sheets-accepted narrow (B / w) s).0 clean p l)).0
 
-      pub steps-refused : clears (sectors z B w) (erasures m) (listed B w s) ≡ false → Followed z B w a m s (Refused 11) a
-      steps-refused unclear = as-given (follow_eleven z B w a m s ok clean unclear)
+      pub steps_refused : clears (sectors z B w) (erasures m) (listed B w s) ≡ false → Followed z B w a m s (Refused 11) a
+      steps_refused unclear = as-given (follow_eleven z B w a m s ok clean unclear)
 
       module _ (clear : clears (sectors z B w) (erasures m) (listed B w s) ≡ true)
           (b : List ℕ) (array_is : b ≡ restored (sectors z B w) (whole w) a (erasures m) (listed B w s)) where

@@ -1,5 +1,6 @@
 // Follow: the repairs of sheets from elsewhere made on the array.
 #![tactic(auto)]
+
 ghost use Rattle.std.specs.Prelude.{◌≡◌};
 ghost use Rattle.model.specs.Follow.{follow_outcome, follow_array};
 

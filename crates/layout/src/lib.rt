@@ -1,6 +1,7 @@
 // Numbers only: the sizes of an array and its disks; `stripe` has which stripes a disk lies on and where the disks of a stripe
 // stand. Of the code, this crate alone opens a size.
 #![tactic(auto)]
+
 ghost use Rattle.std.specs.Prelude.{◌≡◌, true, ◌≤◌};
 ghost use Rattle.model.specs.Grid.{rows, columns, across, down, disks, disk_at, array_bytes, is_data, size_fits, block_fits};
 

@@ -1,5 +1,6 @@
 // How many disks an array of a size has and how long it is, 0 for numbers that the calls refuse.
 #![tactic(auto)]
+
 ghost use Rattle.std.specs.Prelude.{◌≡◌};
 ghost use Rattle.model.specs.Grid.{disks_or_zero, array_bytes_or_zero};
 

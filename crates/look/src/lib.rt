@@ -1,5 +1,6 @@
 // Look: the block of a disk that is present.
 #![tactic(auto)]
+
 ghost use Rattle.std.specs.Prelude.{◌≡◌, ◌+◌, ◌*◌, ◌≤◌, length, take, drop};
 ghost use Rattle.model.specs.Array.{all_present, look_offset, look_length};
 

@@ -1,6 +1,7 @@
 // Notes: which disks are erased at each position. Until a position is planned, its own sheet holds them, so that the map is read once, in
 // the order in which it lies in memory.
 #![tactic(auto)]
+
 ghost use Rattle.std.specs.Prelude.{◌≡◌, Bool, true, ℕ, ◌<◌, length};
 ghost use Rattle.stripes.specs.Erased.{erasures};
 ghost use Rattle.stripes.specs.Sectors.{at_position};

@@ -36,30 +36,30 @@ module _ (L : Layout) (e : ℕ → Bool) (p k : ℕ) (list after : List ℕ) whe
   abbrev pub Drafts : Outcome → Type 0
   Drafts answer = (answer ≡ position_outcome L e p) × (after ≡ draft_sheet L narrow e k)
 
-  pub drafts-repairs : {count : ℕ} → Repairable L e count list → {made : ℕ} → made ≡ min count k → after ≡ sheet_of narrow 1 (listed list made)
+  pub drafts_repairs : {count : ℕ} → Repairable L e count list → {made : ℕ} → made ≡ min count k → after ≡ sheet_of narrow 1 (listed list made)
       → Drafts (Repairs count)
   unfolding position_outcome draft_sheet
-  drafts-repairs {count} f least written = (
+  drafts_repairs {count} f least written = (
     ap Repairs f.number ∙ (rw f.fine),
     written ∙ ap (sheet_of narrow 1) (ap (listed list) least ∙ listed-take list count k ∙ ap (take k) f.entries) ∙ (rw f.fine),
   )
 
-  pub drafts-fatal : {disks unknown : ℕ} → Lossy L e disks unknown list → after ≡ sheet_of narrow 2 (listed list disks) → Drafts (Fatal unknown p)
+  pub drafts_fatal : {disks unknown : ℕ} → Lossy L e disks unknown list → after ≡ sheet_of narrow 2 (listed list disks) → Drafts (Fatal unknown p)
   unfolding position_outcome draft_sheet
-  drafts-fatal f written = (
+  drafts_fatal f written = (
     ap (λ (u : ℕ). Fatal u p) f.undetermined ∙ (rw f.lossy),
     written ∙ ap (sheet_of narrow 2) f.entries ∙ (rw f.lossy),
   )
 
 -- Blocks without sectors have one position.
 module _ (L : Layout) (e : ℕ → Bool) where
-  pub one-outcome : position_outcome L e 0 ≡ loss_outcome 1 L e
+  pub one_outcome : position_outcome L e 0 ≡ loss_outcome 1 L e
   unfolding position_outcome whole_outcome
-  one-outcome = sym (loss_single L e)
+  one_outcome = sym (loss_single L e)
 
-  pub one-draft : (k : ℕ) → draft_sheet L narrow e k ≡ draft_sheets 1 L narrow e k
+  pub one_draft : (k : ℕ) → draft_sheet L narrow e k ≡ draft_sheets 1 L narrow e k
   unfolding draft_sheet draft_sheets cycle_sheets repair_sheets
-  one-draft k = rw (one-fatal L e, one-order L e) (go (fatal L e))
+  one_draft k = rw (one-fatal L e, one-order L e) (go (fatal L e))
     where
       go : (t : Bool)
           → cond t (sheet_of narrow 2 (shown_cycle L e)) (sheet_of narrow 1 (take k (repairs L e)))
@@ -77,13 +77,13 @@ module _ (z : Size) (n : ℕ) (m : List ℕ) (len : ℕ) where
   unfolding plan_tests
   size-first size = fails 1 _ _ size
 
-  pub sectors-second : size_fits z ≡ true → sectors_fit n ≡ false → refusal (plan_tests z n m len) ≡ 16
+  pub sectors_second : size_fits z ≡ true → sectors_fit n ≡ false → refusal (plan_tests z n m len) ≡ 16
   unfolding plan_tests
-  sectors-second size many = passes 1 _ _ size ∙ fails 16 _ _ many
+  sectors_second size many = passes 1 _ _ size ∙ fails 16 _ _ many
 
-  pub both-passed : size_fits z ≡ true → sectors_fit n ≡ true → refusal (plan_tests z n m len) ≡ refusal (sheet_tests z n m len)
+  pub both_passed : size_fits z ≡ true → sectors_fit n ≡ true → refusal (plan_tests z n m len) ≡ refusal (sheet_tests z n m len)
   unfolding plan_tests
-  both-passed size few = passes 1 _ _ size ∙ passes 16 _ _ few
+  both_passed size few = passes 1 _ _ size ∙ passes 16 _ _ few
 
 module _ (z : Size) (n : ℕ) (m sheets : List ℕ) where
   -- The answer and the sheets are those of the definitions.
@@ -98,17 +98,17 @@ module _ (z : Size) (n : ℕ) (m sheets : List ℕ) where
     sym (given-refused _ (loss_sheets n (sheet_layout z) narrow (erasures m)) sheets (λ q. some (sym e ∙ q))),
   )
 
-  pub refused-size : size_fits z ≡ false → Answers (Refused 1) sheets
-  refused-size size = refused 1 (size-first z n m (length sheets) size) (λ q. omega arith)
+  pub refused_size : size_fits z ≡ false → Answers (Refused 1) sheets
+  refused_size size = refused 1 (size-first z n m (length sheets) size) (λ q. omega arith)
 
   module _ (size : size_fits z ≡ true) where
-    pub refused-sectors : sectors_fit n ≡ false → Answers (Refused 16) sheets
-    refused-sectors many = refused 16 (sectors-second z n m (length sheets) size many) (λ q. omega arith)
+    pub refused_sectors : sectors_fit n ≡ false → Answers (Refused 16) sheets
+    refused_sectors many = refused 16 (sectors_second z n m (length sheets) size many) (λ q. omega arith)
 
     module _ (sectors : sectors_fit n ≡ true) where
-      pub refused-sheets : (status : ℕ) → status ≡ refusal (sheet_tests z n m (length sheets)) → (status ≡ 0 → ⊥)
+      pub refused_sheets : (status : ℕ) → status ≡ refusal (sheet_tests z n m (length sheets)) → (status ≡ 0 → ⊥)
           → Answers (Refused status) sheets
-      refused-sheets status e some = refused status (both-passed z n m (length sheets) size sectors ∙ sym e) some
+      refused_sheets status e some = refused status (both_passed z n m (length sheets) size sectors ∙ sym e) some
 
       -- Otherwise the draft decides, where the limit lets all repairs through.
       pub planned : refusal (sheet_tests z n m (length sheets)) ≡ 0
@@ -117,7 +117,7 @@ module _ (z : Size) (n : ℕ) (m sheets : List ℕ) where
           → after ≡ draft_sheets n (sheet_layout z) narrow (erasures m) k → Answers answer after
       unfolding plan_outcome plan_sheets loss_sheets draft_sheets
       planned tests k few answer after outcome written =
-          let accepted : refusal (plan_tests z n m (length sheets)) ≡ 0 = both-passed z n m (length sheets) size sectors ∙ tests in (
+          let accepted : refusal (plan_tests z n m (length sheets)) ≡ 0 = both_passed z n m (length sheets) size sectors ∙ tests in (
             outcome ∙ sym (given-accepted _ _ _ accepted),
             written ∙ (rw (take_all k (sector_repairs n (sheet_layout z) (erasures m)) few)) ∙ sym (given-accepted _ _ _ accepted),
           )

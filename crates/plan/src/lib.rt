@@ -1,5 +1,6 @@
 // Plan: which repairs bring a loss back, in which order, or the cycle that makes it fatal. Every sector position is planned by itself.
 #![tactic(auto)]
+
 ghost use Rattle.std.specs.Prelude.{◌≡◌, true, length};
 ghost use Rattle.stripes.specs.Erased.{erasures};
 ghost use Rattle.stripes.specs.Sectors.{at_position};

@@ -1,6 +1,7 @@
 // The stripes that are reached from one of them step by step. A set of stripes is a word, a binary digit for each; a table of 64 words has
 // for each stripe the set of those next to it.
 #![tactic(auto)]
+
 ghost use Rattle.std.specs.Prelude.{◌≡◌, ◌&&◌, not, cond, ℕ, ◌+◌, ◌^◌, ◌≤◌, ◌<◌, length, get_or};
 ghost use Rattle.reach.specs.Reached.{has as Reached·has, some, reached, next_in, steps_to, word_stripes};
 

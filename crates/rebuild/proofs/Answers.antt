@@ -67,9 +67,9 @@ module _ (z : Size) (B w : ℕ) (a m sheets : List ℕ) (k : ℕ) where
   buffers-refused status same some =
       refused status (refused_first (buffer_tests z B w (length a) m (length sheets)) _ (λ q. some (sym same ∙ q)) ∙ same) some
 
-  pub array-refused : (status : ℕ) → status ≡ refusal (sector_tests z B (length a) w) → (status ≡ 0 → ⊥) → Ends (Refused status) a m sheets
+  pub array_refused : (status : ℕ) → status ≡ refusal (sector_tests z B (length a) w) → (status ≡ 0 → ⊥) → Ends (Refused status) a m sheets
   unfolding buffer_refusal buffer_tests
-  array-refused status e some =
+  array_refused status e some =
       buffers-refused status (refused_first (sector_tests z B (length a) w) _ (λ q. some (e ∙ q)) ∙ sym e) some
 
   module _ (array_ok : refusal (sector_tests z B (length a) w) ≡ 0) where
@@ -77,12 +77,12 @@ module _ (z : Size) (B w : ℕ) (a m sheets : List ℕ) (k : ℕ) where
     unfolding buffer_refusal buffer_tests
     tests_left = let (array, sector) = sector_fits_lem z B (length a) w array_ok in sector_passed z B (length a) w array sector _
 
-    pub sheet-refused : (status : ℕ) → status ≡ refusal (sheet_tests z (B / w) m (length sheets)) → (status ≡ 0 → ⊥)
+    pub sheet_refused : (status : ℕ) → status ≡ refusal (sheet_tests z (B / w) m (length sheets)) → (status ≡ 0 → ⊥)
         → Ends (Refused status) a m sheets
-    sheet-refused status e = buffers-refused status (tests_left ∙ sym e)
+    sheet_refused status e = buffers-refused status (tests_left ∙ sym e)
 
-    pub no-repairs : refusal (sheet_tests z (B / w) m (length sheets)) ≡ 0 → k ≡ 0 → Ends (Refused 12) a m sheets
-    no-repairs sheet-ok none =
+    pub no_repairs : refusal (sheet_tests z (B / w) m (length sheets)) ≡ 0 → k ≡ 0 → Ends (Refused 12) a m sheets
+    no_repairs sheet-ok none =
         refused 12 (ap (rebuild_refusal z B w a m sheets) none ∙ limit_refused z B w a m sheets (tests_left ∙ sheet-ok)) (λ q. omega arith)
 
 -- ---- nothing is refused: a turn
@@ -90,12 +90,12 @@ module _ (z : Size) (B w : ℕ) (a m sheets : List ℕ) (k : ℕ) where
 -- The tests are passed.
 pub record Passed (z : Size) (B w : ℕ) (a m sheets : List ℕ) (k : ℕ) : Type 0 where
   pub array : refusal (sector_tests z B (length a) w) ≡ 0
-  pub sheetsFit : refusal (sheet_tests z (B / w) m (length sheets)) ≡ 0
+  pub sheets_fit : refusal (sheet_tests z (B / w) m (length sheets)) ≡ 0
   pub some : 0 < k
 
 module _ {z : Size} {B w : ℕ} {a m sheets : List ℕ} {k : ℕ} (t : Passed z B w a m sheets k) where
   buffers-ok : buffer_refusal z B w a m sheets ≡ 0
-  buffers-ok = tests_left z B w a m sheets k t.array ∙ t.sheetsFit
+  buffers-ok = tests_left z B w a m sheets k t.array ∙ t.sheets_fit
 
   pub fitting : BuffersFit z B w a m sheets
   fitting = buffers_fit z B w a m sheets buffers-ok
@@ -108,11 +108,11 @@ module _ {z : Size} {B w : ℕ} {a m sheets : List ℕ} {k : ℕ} (t : Passed z 
   turns = rebuild_accepted z B w a m sheets k (limit_passed z B w a m sheets k t.some ∙ buffers-ok)
 
   -- A fatal loss: the array and the map stay.
-  pub as-plan : (answer : Outcome) (s : List ℕ) → answer ≡ loss_outcome (B / w) (sheet_layout z) (erasures m)
+  pub as_plan_lem : (answer : Outcome) (s : List ℕ) → answer ≡ loss_outcome (B / w) (sheet_layout z) (erasures m)
       → s ≡ draft_sheets (B / w) (sheet_layout z) narrow (erasures m) k → ((number : ℕ) → answer ≡ Repairs number → ⊥)
       → Ends z B w a m sheets k answer a m s
   unfolding turn_of loss_told loss_outcome loss_sheets draft_sheets
-  as-plan answer s answer-is sheets-are other = go (ltb (fatal_position (B / w) (sheet_layout z) (erasures m)) (B / w)) refl
+  as_plan_lem answer s answer-is sheets-are other = go (ltb (fatal_position (B / w) (sheet_layout z) (erasures m)) (B / w)) refl
     where
       L : Layout
       L = sheet_layout z
@@ -179,8 +179,8 @@ module _ {z : Size} {B w : ℕ} {a m sheets : List ℕ} {k : ℕ} {s : List ℕ}
   pub sheets-long : length s ≡ sheets_bytes narrow (B / w)
   sheets-long = ap length p.written ∙ length-repair_sheets narrow (B / w) own
 
-  pub chains-fit : (q : ℕ) → q < B / w → chain_refusal narrow (sheet_at narrow q s) ≡ 0
-  chains-fit q l =
+  pub chains_fit : (q : ℕ) → q < B / w → chain_refusal narrow (sheet_at narrow q s) ≡ 0
+  chains_fit q l =
       let room = sectors_fitting z (fitting p.tests).array.size (B / w) (erasures m) own own-peels in
       ap (λ (t : List ℕ). chain_refusal narrow (sheet_at narrow q t)) p.written
       ∙ ((clean_exact narrow (sheet_at narrow q (repair_sheets narrow (B / w) own))).0 (sheet_clean narrow (B / w) own (omega arith) room q l)).0
@@ -196,14 +196,14 @@ module _ {z : Size} {B w : ℕ} {a m sheets : List ℕ} {k : ℕ} {s : List ℕ}
       let least = p.least in
       omega arith
 
-  pub made-is : made ≡ length (sheets_entries narrow (B / w) s)
-  made-is = own-made ∙ ap length (sym lists)
+  pub made_is : made ≡ length (sheets_entries narrow (B / w) s)
+  made_is = own-made ∙ ap length (sym lists)
 
   pub made-few : made ≤ count
   made-few = let least = p.least in omega arith
 
-  pub count-is : count ≡ Fold·count (sectors z B w).disks (erasures m)
-  count-is = p.counted ∙ length-order (B / w) (sheet_layout z) (erasures m) p.fine
+  pub count_is : count ≡ Fold·count (sectors z B w).disks (erasures m)
+  count_is = p.counted ∙ length-order (B / w) (sheet_layout z) (erasures m) p.fine
 
   -- The map has a place for each of them.
   pub in_map : Within (length m) (sheets_entries narrow (B / w) s)
@@ -225,12 +225,12 @@ module _ {z : Size} {B w : ℕ} {a m sheets : List ℕ} {k : ℕ} {s : List ℕ}
       rw (turns p.tests) (rw (p.fine, c) (refl, (zeros ∙ (rw unfit), (refl, blank))))
 
   -- The repairs are made.
-  pub made-them : (r : Bool) → r ≡ not (contradicts (sectors z B w) (whole w) a m (sheets_entries narrow (B / w) s)) → r ≡ true
+  pub made_them : (r : Bool) → r ≡ not (contradicts (sectors z B w) (whole w) a m (sheets_entries narrow (B / w) s)) → r ≡ true
       → (b n : List ℕ)
       → b ≡ cond r (rebuilt (sectors z B w) (whole w) a (sheets_entries narrow (B / w) s)) (zeroed (whole w) a (erasures m))
       → n ≡ map_after m (sheets_entries narrow (B / w) s) → Ends z B w a m sheets k (Repairs made) b n s
   unfolding turn_of repairs_made
-  made-them r found fit b n array_is map_is =
+  made_them r found fit b n array_is map_is =
       let c : contradicts (sectors z B w) (whole w) a m own ≡ false =
       ap (contradicts (sectors z B w) (whole w) a m) (sym lists) ∙ not-true _ (sym found ∙ fit) in
       rw (turns p.tests)

@@ -1,5 +1,6 @@
 // Rebuild: the first repairs of plan made on the array and in the map, as many as one turn allows.
 #![tactic(auto)]
+
 ghost use Rattle.std.specs.Prelude.{◌≡◌};
 ghost use Rattle.model.specs.Rebuild.{rebuild_turn};
 

@@ -1,5 +1,6 @@
 // What the calls refuse: the tests of their arguments, each with its number, in the order's sequence.
 #![tactic(auto)]
+
 ghost use Rattle.std.specs.Prelude.{◌≡◌, true};
 ghost use Rattle.model.specs.Grid.{side_fits, size_fits, block_fits, sector_fits, sectors_fit, map_bytes, map_fits};
 ghost use Rattle.model.specs.Refusal.{refusal, array_tests, sector_tests};

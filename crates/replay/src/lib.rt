@@ -1,5 +1,6 @@
 // A list of repairs from elsewhere, judged on the working map: nothing is repaired here.
 #![tactic(auto)]
+
 ghost use Rattle.std.specs.Prelude.{◌≡◌, true, ◌*◌, ◌≤◌, length};
 ghost use Rattle.stripes.specs.Erased.{erasures};
 ghost use Rattle.stripes.specs.Sectors.{at_position};

@@ -26,9 +26,9 @@ use Rattle.report.specs.Report.{reported, Printable}
 use Rattle.report.proofs.Entries.{printable}
 
 -- The size and the map of an input stand for the whole of it.
-pub input-reported : (input : List ℕ) → reported (rectangle (get_or input 0 0) (get_or input 1 0)) (drop 2 input) ≡ listing input
+pub input_reported : (input : List ℕ) → reported (rectangle (get_or input 0 0) (get_or input 1 0)) (drop 2 input) ≡ listing input
 unfolding reported listing rectangle rows columns
-input-reported input = refl
+input_reported input = refl
 
 -- ---- the text for a size and a map
 module _ (z : Size) (m : List ℕ) where
@@ -42,9 +42,9 @@ module _ (z : Size) (m : List ℕ) where
   size_refused e = refused-reported 0 (fails 1 (size_fits z) _ e)
 
   module _ (size : size_fits z ≡ true) where
-    pub map-refused : map_fits (map_bytes z 1) m ≡ false → word_line refused_word 4 ≡ reported z m
+    pub map_refused : map_fits (map_bytes z 1) m ≡ false → word_line refused_word 4 ≡ reported z m
     unfolding one_tests sheet_tests
-    map-refused e = refused-reported 3 (passes 1 (size_fits z) _ size ∙ fails 4 (map_fits (map_bytes z 1) m) _ e)
+    map_refused e = refused-reported 3 (passes 1 (size_fits z) _ size ∙ fails 4 (map_fits (map_bytes z 1) m) _ e)
 
     -- The stripes, and the erased disks of the map.
     abbrev L : Layout
@@ -60,15 +60,15 @@ module _ (z : Size) (m : List ℕ) where
 
     -- The planner's list can be printed, and is the one to print.
     module _ {list : List ℕ} {count : ℕ} (f : Repairable L e count list) where
-      pub repairs-printable : 32 ≤ length list → Printable list count
-      repairs-printable room = printable room (listed-fits (repairs_fit z size e) list count f.entries)
+      pub repairs_printable : 32 ≤ length list → Printable list count
+      repairs_printable room = printable room (listed-fits (repairs_fit z size e) list count f.entries)
 
       pub repairs-reported : map_fits (map_bytes z 1) m ≡ true → Listing·listed repair_word (listed list count) ≡ reported z m
       repairs-reported map = accepted map (rw f.fine (ap (Listing·listed repair_word) f.entries))
 
     module _ {list : List ℕ} {count unknown : ℕ} (f : Lossy L e count unknown list) where
-      pub cycle-printable : 32 ≤ length list → Printable list count
-      cycle-printable room = printable room (listed-fits (cycle-fits z size e f.lossy) list count f.entries)
+      pub cycle_printable : 32 ≤ length list → Printable list count
+      cycle_printable room = printable room (listed-fits (cycle-fits z size e f.lossy) list count f.entries)
 
       pub cycle-reported : map_fits (map_bytes z 1) m ≡ true → Listing·listed fatal_word (listed list count) ≡ reported z m
       cycle-reported map = accepted map (rw f.lossy (ap (Listing·listed fatal_word) f.entries))

@@ -79,9 +79,9 @@ module _ (z : Size) (B w : ℕ) (a m : List ℕ) where
   abbrev pub Answers : Saving → List ℕ → Type 0
   Answers answer array = (answer ≡ save_answer z B w a m) × (array ≡ save_array z B w a m)
 
-  pub refused-array : {status : ℕ} → status ≡ refusal (sector_tests z B (length a) w) → (status ≡ 0 → ⊥) → Answers (Refused status) a
+  pub refused_array : {status : ℕ} → status ≡ refusal (sector_tests z B (length a) w) → (status ≡ 0 → ⊥) → Answers (Refused status) a
   unfolding map_tests
-  refused-array is some =
+  refused_array is some =
       let first = refused_first (sector_tests z B (length a) w) _ (λ q. some (is ∙ q)) in
       let (answer, array) = save_first z B w a m (λ q. some (is ∙ sym first ∙ q)) in
       (ap Refused (is ∙ sym first) ∙ sym answer, sym array)
@@ -93,9 +93,9 @@ module _ (z : Size) (B w : ℕ) (a m : List ℕ) where
     sector : sector_fits B w ≡ true
     sector = (sector_fits_lem z B (length a) w ok).1
 
-    pub refused-map : map_fits (map_bytes z (B / w)) m ≡ false → Answers (Refused 4) a
+    pub refused_map : map_fits (map_bytes z (B / w)) m ≡ false → Answers (Refused 4) a
     unfolding map_tests
-    refused-map unfit =
+    refused_map unfit =
         let four : refusal (map_tests z B w (length a) m) ≡ 4 = sector_passed z B (length a) w array sector _ ∙ fails 4 _ _ unfit in
         let (answer, same) = save_first z B w a m (λ q. let n = sym four ∙ q in omega arith) in
         (ap Refused (sym four) ∙ sym answer, sym same)
@@ -103,15 +103,15 @@ module _ (z : Size) (B w : ℕ) (a m : List ℕ) where
     pub some_bytes : 1 ≤ w
     some_bytes = sector-some B w sector
 
-    pub sectors-fit : sectors_fit (B / w) ≡ true
-    sectors-fit = sectors-some B w array.block sector
+    pub sectors_fit_lem : sectors_fit (B / w) ≡ true
+    sectors_fit_lem = sectors-some B w array.block sector
 
-    pub is-numbered : Numbered z (column_base z)
-    is-numbered = numbered z array.size
+    pub is_numbered : Numbered z (column_base z)
+    is_numbered = numbered z array.size
 
-    pub is-sectored : Sectored z B w a
+    pub is_sectored : Sectored z B w a
     unfolding array_bytes
-    is-sectored = record { block = array.block; sector = sector; sized = array.long }
+    is_sectored = record { block = array.block; sector = sector; sized = array.long }
 
     -- The array is not long.
     pub array-few : length a ≤ 1048576
@@ -119,9 +119,9 @@ module _ (z : Size) (B w : ℕ) (a m : List ℕ) where
 
     module _ (map : map_fits (map_bytes z (B / w)) m ≡ true) where
       -- The map has a byte for each of its sectors.
-      pub byte-each : length a ≡ length m * w
+      pub byte_each : length a ≡ length m * w
       unfolding array_bytes map_bytes
-      byte-each =
+      byte_each =
           array.long ∙ ap (λ (k : ℕ). disks z * k) (sector-cut B w sector) ∙ sym (mul_assoc (disks z) (B / w) w)
           ∙ ap (λ (k : ℕ). k * w) (sym (map-length (map_bytes z (B / w)) m map))
 

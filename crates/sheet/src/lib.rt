@@ -2,6 +2,7 @@
 // and `chain`.
 // The entries of a list are counted from 0, the records of a sheet by their numbers from 1.
 #![tactic(auto)]
+
 ghost use Rattle.std.specs.Prelude.{◌≡◌, cond, ℕ, ◌≤◌, ◌<◌, eqb, length};
 ghost use Rattle.entries.specs.Listed.{entry_stripe, listed};
 ghost use Rattle.model.specs.Sheet.{narrow, sheet_bytes, sheets_bytes, sheet_of, sheets_of, sheet_at, blank_sheet, blank_sheets};

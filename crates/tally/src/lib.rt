@@ -1,6 +1,7 @@
 // The planner's working map: which disks are still erased, the two stripes of each in a table, and the number of them on each
 // stripe. The planner knows a disk by its stripes only.
 #![tactic(auto)]
+
 mod count;
 pub mod load;
 pub mod scan;

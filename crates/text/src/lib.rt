@@ -1,5 +1,6 @@
 // Lines of words and numbers, put into a buffer: each function answers the place behind what it has put.
 #![tactic(auto)]
+
 ghost use Rattle.std.specs.Prelude.{[], ◌∷◌, ◌+◌, ◌≤◌, ◌<◌, length};
 ghost use Rattle.model.specs.Listing.{digit as Listing·digit, decimal};
 ghost use Rattle.text.specs.Lines.{word_line, pair_line};

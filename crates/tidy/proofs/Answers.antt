@@ -48,16 +48,16 @@ module _ (s : List ℕ) where
       fits = (by_records (chain_refusal narrow s) s answer answer-is count e).0
 
       -- The list `own` has the records of the chain.
-      pub own-entries : listed own count ≡ chain_entries narrow s
-      own-entries = ap (listed own) (by_records (chain_refusal narrow s) s answer answer-is count e).1 ∙ lists fits
+      pub own_entries : listed own count ≡ chain_entries narrow s
+      own_entries = ap (listed own) (by_records (chain_refusal narrow s) s answer answer-is count e).1 ∙ lists fits
 
       -- Its numbers are bytes,
       pub small : Bytes s → Small own count
-      small bytes = listed-fits (chain_fitting narrow (omega arith) (omega arith) s bytes fits) own count own-entries
+      small bytes = listed-fits (chain_fitting narrow (omega arith) (omega arith) s bytes fits) own count own_entries
 
       -- and written anew it is the tidy form.
       pub rewritten : (t : List ℕ) → t ≡ sheet_of narrow 1 (listed own count) → Tidied s 0 t
       unfolding tidy_form
       rewritten t written =
           let taken : tidy_status narrow s ≡ 0 = (tidy_takes narrow s).1 (long, fits) in
-          (sym taken, written ∙ ap (sheet_of narrow 1) own-entries ∙ sym (tidy_taken narrow s taken))
+          (sym taken, written ∙ ap (sheet_of narrow 1) own_entries ∙ sym (tidy_taken narrow s taken))

@@ -1,5 +1,6 @@
 // Tidy: a list of repairs from elsewhere rewritten in its tidy form.
 #![tactic(auto)]
+
 ghost use Rattle.std.specs.Prelude.{◌≡◌};
 ghost use Rattle.model.specs.Sheet.{narrow};
 ghost use Rattle.model.specs.Tidy.{tidy_status, tidy_sheet};

@@ -44,9 +44,9 @@ module _ (z : Size) (m : List ℕ) (d : ℕ) where
   unfolding can_be_wanted erasures
   inside fits l = let long = map-length (disks z) m fits in rw (lt-ltb d (disks z) (omega arith))
 
-  pub is-wanted : can_be_wanted z m d ≡ true → (d < (sheet_layout z).disks) × (erasures m d ≡ true)
+  pub is_wanted : can_be_wanted z m d ≡ true → (d < (sheet_layout z).disks) × (erasures m d ≡ true)
   unfolding can_be_wanted
-  is-wanted can =
+  is_wanted can =
       let all = layout-disks z narrow.base in
       let l = ltb-true d (disks z) (and_left (ltb d (disks z)) _ can) in
       (omega arith, and_right (ltb d (disks z)) _ can)
@@ -73,9 +73,9 @@ module _ (z : Size) (m : List ℕ) (len : ℕ) where
   unfolding one_tests
   size-first size = fails 1 _ _ size
 
-  pub size-passed : size_fits z ≡ true → refusal (one_tests z m len) ≡ refusal (sheet_tests z 1 m len)
+  pub size_passed : size_fits z ≡ true → refusal (one_tests z m len) ≡ refusal (sheet_tests z 1 m len)
   unfolding one_tests
-  size-passed size = passes 1 _ _ size
+  size_passed size = passes 1 _ _ size
 
 -- ---- the call
 module _ (z : Size) (m sheet : List ℕ) (d : ℕ) where
@@ -88,13 +88,13 @@ module _ (z : Size) (m sheet : List ℕ) (d : ℕ) where
   refused k e n =
       let (answer, left) = disk_refused z m sheet d (λ q. n (sym e ∙ q)) in (sym (answer ∙ ap Refused e), sym left)
 
-  pub refused-plan : (k : ℕ) → refusal (one_tests z m (length sheet)) ≡ k → (k ≡ 0 → ⊥) → Answers (Refused k) sheet
-  refused-plan k e n = refused k (disk-first z m (length sheet) d (λ q. n (sym e ∙ q)) ∙ e) n
+  pub refused_plan : (k : ℕ) → refusal (one_tests z m (length sheet)) ≡ k → (k ≡ 0 → ⊥) → Answers (Refused k) sheet
+  refused_plan k e n = refused k (disk-first z m (length sheet) d (λ q. n (sym e ∙ q)) ∙ e) n
 
   module _ (ok : refusal (one_tests z m (length sheet)) ≡ 0) where
-    pub refused-disk : can_be_wanted z m d ≡ false → Answers (Refused 15) sheet
+    pub refused_disk : can_be_wanted z m d ≡ false → Answers (Refused 15) sheet
     unfolding plan_disk_tests
-    refused-disk unfit = refused 15 (one_passed z m (length sheet) ok _ ∙ fails 15 _ _ unfit) (λ q. omega arith)
+    refused_disk unfit = refused 15 (one_passed z m (length sheet) ok _ ∙ fails 15 _ _ unfit) (λ q. omega arith)
 
     module _ (can : can_be_wanted z m d ≡ true) where
       accepted : refusal (plan_disk_tests z m (length sheet) d) ≡ 0
@@ -107,7 +107,7 @@ module _ (z : Size) (m sheet : List ℕ) (d : ℕ) where
             → after ≡ draft_sheets 1 (sheet_layout z) narrow (erasures m) k → Answers answer after
         unfolding disk_outcome disk_sheet loss_sheets draft_sheets
         unreached none k answer after outcome written =
-            let (l, erased) = is-wanted z m d can in
+            let (l, erased) = is_wanted z m d can in
             let left = none_left (sheet_layout z) (erasures m) d f none in
             let lossy : fatal (sheet_layout z) (erasures m) ≡ true = (is_fatal (sheet_layout z) (erasures m)).1 (d, l, left) in
             let same : draft_sheets 1 (sheet_layout z) narrow (erasures m) k ≡ disk_sheet (sheet_layout z) narrow (erasures m) d =
@@ -120,7 +120,7 @@ module _ (z : Size) (m sheet : List ℕ) (d : ℕ) where
         unfolding residual
         small some =
             let left = some-reached (sheet_layout z) (erasures m) d f some in
-            let (l, erased) = is-wanted z m d can in
+            let (l, erased) = is_wanted z m d can in
             let (size, map, long) = one-fits z m (length sheet) ok in
             let reached = reached_of (sheet_layout z) d (repairs (sheet_layout z) (erasures m)) (erasures m) (repairs_peels (sheet_layout z) (erasures m)) erased left in
             let w = wanted_is (sheet_layout z) (layout-two z narrow.base (rows-below z size)) (erasures m) d reached in

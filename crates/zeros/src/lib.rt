@@ -1,5 +1,6 @@
 // Zeros: stored, and told from other bytes.
 #![tactic(auto)]
+
 ghost use Rattle.std.specs.Prelude.{◌≡◌, ◌+◌, ◌≤◌, eqb, length, get_or};
 ghost use Rattle.stripes.specs.Fold.{every};
 ghost use Rattle.zeros.specs.Stored.{stored};

@@ -35,7 +35,7 @@ loop-j-preserved c =
       rw add-one
           (and_both l.invariant.1
           (elim c.if-sheet-at-ne0.branch [
-            then-sheet-at-ne0+else-marks-at-ne1 w ↦ on_record a.marks.now a.sheet.now (a.at + l.j) w.if-marks-at-ne1.false
+            | then-sheet-at-ne0+else-marks-at-ne1 w ↦ on_record a.marks.now a.sheet.now (a.at + l.j) w.if-marks-at-ne1.false
             | else-sheet-at-ne0 w ↦ zero-byte a.marks.now a.sheet.now (a.at + l.j) w.if-sheet-at-ne0.false
           ])),
     )

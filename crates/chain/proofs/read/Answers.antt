@@ -77,9 +77,9 @@ returns c =
     let l = c.loop-k in
     let (h0, (h1, h2)) = answered _ _ _ 13
     (elim c.loop-k-test.branch [
-      else-loop-k-test w ↦ ring_read l.invariant.0 c.if-number-eq0.false c.if-number-gt-RECORDS.false w.loop-k-test.false
+      | else-loop-k-test w ↦ ring_read l.invariant.0 c.if-number-eq0.false c.if-number-gt-RECORDS.false w.loop-k-test.false
       | then-loop-k-test+in_default w ↦
-        absurd (none_found l.invariant.0 c.if-number-eq0.false c.if-number-gt-RECORDS.false _ w.read-found.ensures w.in_default.not-Record)
+          absurd (none_found l.invariant.0 c.if-number-eq0.false c.if-number-gt-RECORDS.false _ w.read-found.ensures w.in_default.not-Record)
     ])
     (λ e. omega arith) in
     record {

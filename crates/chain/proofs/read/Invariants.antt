@@ -7,7 +7,7 @@ use Rattle.chain.proofs.Listed.{Listed}
 use Rattle.chain.proofs.read.Given as goal
 
 abbrev pub invariant-loop-k : goal.invariant-loop-k
-invariant-loop-k l =    Listed l.sheet l.list l.marks l.number l.k × (length l.list ≡ length l.initial.list) × (length l.marks ≡ length l.initial.marks)
+invariant-loop-k l = Listed l.sheet l.list l.marks l.number l.k × (length l.list ≡ length l.initial.list) × (length l.marks ≡ length l.initial.marks)
 
 abbrev pub decreases-loop-k : goal.decreases-loop-k
 decreases-loop-k l = 32 - l.k

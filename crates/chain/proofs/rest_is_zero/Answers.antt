@@ -32,7 +32,7 @@ loop-at-preserved c =
       search rules,
       group_next a.marks.now a.sheet.now l.at l.invariant.3
           (elim c.if-not-all_zero16.branch [
-            then-not-all_zero16+else-not-group_in_order w ↦ sym w.group_in_order.ensures ∙ w.if-not-group_in_order.false
+            | then-not-all_zero16+else-not-group_in_order w ↦ sym w.group_in_order.ensures ∙ w.if-not-group_in_order.false
             | else-not-all_zero16 w ↦ group_zero a.marks.now a.sheet.now l.at (sym c.all_zero16.ensures ∙ w.if-not-all_zero16.false)
           ]),
     )

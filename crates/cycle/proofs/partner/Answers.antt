@@ -48,7 +48,7 @@ loop-size-preserved c = (
   search rules,
   below_more _ _ (searched (goal.at.loop-size-preserved c).After-next_erased-d).none
       (elim c.if-d-disk.branch [
-        then-d-disk+else-either_is w ↦ none_elsewhere _ _ _ _ (lies _ _ _ w.stripes_of.ensures w.either_is.ensures ∙ w.if-either_is.false)
+        | then-d-disk+else-either_is w ↦ none_elsewhere _ _ _ _ (lies _ _ _ w.stripes_of.ensures w.either_is.ensures ∙ w.if-either_is.false)
         | else-d-disk w ↦ none_self _ _ _ _ w.if-d-disk.false
       ]),
 )

@@ -26,27 +26,27 @@ returns c =
       outcome = outcome;
       array = array;
       rebuilt = λ usable k some enough.
-              let (answer, left) =
-              follow_any a.size a.block a.sector a.array.now a.map.now a.sheets.now a.sheets.now refl small usable k some enough in
-              (outcome ∙ answer, array ∙ left);
+          let (answer, left) =
+          follow_any a.size a.block a.sector a.array.now a.map.now a.sheets.now a.sheets.now refl small usable k some enough in
+          (outcome ∙ answer, array ∙ left);
       contradicted = λ ok.
-                subst
-                (λ (o : Outcome). (outcome_status o ≡ 7)
-                ↔ (Usable a.size (a.block / a.sector) a.map.now a.sheets.now
-                × (Belongs (sectors a.size a.block a.sector) (whole a.sector) (erasures a.map.now) a.array.now → ⊥)))
-                (sym outcome) (follow_contradicted a.size a.block a.sector a.array.now a.map.now a.sheets.now ok small);
+          subst
+          (λ (o : Outcome). (outcome_status o ≡ 7)
+          ↔ (Usable a.size (a.block / a.sector) a.map.now a.sheets.now
+          × (Belongs (sectors a.size a.block a.sector) (whole a.sector) (erasures a.map.now) a.array.now → ⊥)))
+          (sym outcome) (follow_contradicted a.size a.block a.sector a.array.now a.map.now a.sheets.now ok small);
       leftovers = λ ok.
-                  subst
-                  (λ (o : Outcome). (outcome_status o ≡ 14)
-                  ↔ (((p : ℕ) → p < a.block / a.sector → chain_refusal narrow (sheet_at narrow p a.sheets.now) ≡ 0)
-                  × ((p : ℕ) × (p < a.block / a.sector) × ((i : ℕ) × Leftover narrow (sheet_at narrow p a.sheets.now) i))))
-                  (sym outcome) (follow_fourteen a.size a.block a.sector a.array.now a.map.now a.sheets.now ok);
+          subst
+          (λ (o : Outcome). (outcome_status o ≡ 14)
+          ↔ (((p : ℕ) → p < a.block / a.sector → chain_refusal narrow (sheet_at narrow p a.sheets.now) ≡ 0)
+          × ((p : ℕ) × (p < a.block / a.sector) × ((i : ℕ) × Leftover narrow (sheet_at narrow p a.sheets.now) i))))
+          (sym outcome) (follow_fourteen a.size a.block a.sector a.array.now a.map.now a.sheets.now ok);
       kept = λ lossy. array ∙ (follow_fatal a.size a.block a.sector a.array.now a.map.now a.sheets.now lossy).0;
       single = λ one.
-                      let (same, left) = follow_single a.size a.block a.array.now a.map.now a.sheets.now in
-                      rw (outcome, array, one) (same, left);
+          let (same, left) = follow_single a.size a.block a.array.now a.map.now a.sheets.now in
+          rw (outcome, array, one) (same, left);
       alone = λ accepted.
-                      rw array
-                      (follow_alone a.size a.block a.sector a.array.now a.map.now a.sheets.now
-                      (sym (ap outcome_status outcome) ∙ accepted));
+          rw array
+          (follow_alone a.size a.block a.sector a.array.now a.map.now a.sheets.now
+          (sym (ap outcome_status outcome) ∙ accepted));
     }

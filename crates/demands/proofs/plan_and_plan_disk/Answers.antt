@@ -41,16 +41,16 @@ returns c =
       wanted = wanted;
       sheet = sheet;
       demand = λ planOk diskOk.
-                  let long = (plan-fits _ 1 _ _ planOk).3 in
-                  let long₂ = (one-fits _ _ _ ((disk_takes _ _ _ _).0 diskOk).0).2 in
-                  subst
-                  (λ (p : Outcome × List ℕ × Outcome × List ℕ). DiskDemand E narrow (erasures a.map.now) a.disk p.0 p.1 p.2 p.3)
-                  (sym (λ i. (planned i, draft i, wanted i, sheet i)))
-                  (disk_demand a.size a.map.now a.sheet.now a.disk diskOk a.draft.now (long ∙ sym long₂));
+          let long = (plan-fits _ 1 _ _ planOk).3 in
+          let long₂ = (one-fits _ _ _ ((disk_takes _ _ _ _).0 diskOk).0).2 in
+          subst
+          (λ (p : Outcome × List ℕ × Outcome × List ℕ). DiskDemand E narrow (erasures a.map.now) a.disk p.0 p.1 p.2 p.3)
+          (sym (λ i. (planned i, draft i, wanted i, sheet i)))
+          (disk_demand a.size a.map.now a.sheet.now a.disk diskOk a.draft.now (long ∙ sym long₂));
       tidy = λ served.
-                    let zero = sym (ap outcome_status wanted) ∙ served in
-                    rw sheet (disk-tidy a.size a.map.now a.sheet.now a.disk (taken _ _ _ _ zero) zero);
+          let zero = sym (ap outcome_status wanted) ∙ served in
+          rw sheet (disk-tidy a.size a.map.now a.sheet.now a.disk (taken _ _ _ _ zero) zero);
       look = λ served B array fits.
-                    let zero = sym (ap outcome_status wanted) ∙ served in
-                    rw sheet (disk_look a.size a.map.now a.sheet.now a.disk (taken _ _ _ _ zero) zero B array fits);
+          let zero = sym (ap outcome_status wanted) ∙ served in
+          rw sheet (disk_look a.size a.map.now a.sheet.now a.disk (taken _ _ _ _ zero) zero B array fits);
     }

@@ -31,19 +31,19 @@ returns c =
       map = map;
       sheets = sheets;
       plan = λ planOk.
-                      subst (λ (p : Outcome × List ℕ). Planned a.sectors E narrow (erasures a.map.now) p.0 p.1)
-                      (sym (λ i. (planned i, draft i)))
-                      (plan-planned a.size a.sectors a.map.now a.draft.now planOk);
+          subst (λ (p : Outcome × List ℕ). Planned a.sectors E narrow (erasures a.map.now) p.0 p.1)
+          (sym (λ i. (planned i, draft i)))
+          (plan-planned a.size a.sectors a.map.now a.draft.now planOk);
       demand3 = λ cut planOk rebuildOk enough.
-                        promised a.size a.block a.sector a.limit a.array.now a.map.now a.draft.now a.sheets.now small rebuildOk
-                        _ _ _ _ _ _ rebuilt array map sheets a.sectors cut planned draft planOk enough;
+          promised a.size a.block a.sector a.limit a.array.now a.map.now a.draft.now a.sheets.now small rebuildOk
+          _ _ _ _ _ _ rebuilt array map sheets a.sectors cut planned draft planOk enough;
       single = λ one.
-                          let (same, left) = plan_single a.size a.map.now a.draft.now in
-                          rw (planned, draft, one) (same, left);
+          let (same, left) = plan_single a.size a.map.now a.draft.now in
+          rw (planned, draft, one) (same, left);
       alone = λ planOk. rw (planned, draft) (plan-alone a.size a.sectors a.map.now a.draft.now planOk);
       read = λ planOk fine.
-                            rw draft (
-                              plan_reads a.size a.sectors a.map.now a.draft.now planOk fine,
-                              plan_usable a.size a.sectors a.map.now a.draft.now planOk fine,
-                            );
+          rw draft (
+            plan_reads a.size a.sectors a.map.now a.draft.now planOk fine,
+            plan_usable a.size a.sectors a.map.now a.draft.now planOk fine,
+          );
     }

@@ -26,15 +26,15 @@ returns c =
       map = map;
       sheets = sheets;
       keeps = λ ok b r.
-                  subst (TurnKeeps (a.block / a.sector) (sheet_layout a.size) narrow a.sector a.limit b a.map.now) (sym is)
-                  (turn_keeps a.size a.block a.sector a.array.now a.map.now a.sheets.now a.limit ok b r);
+          subst (TurnKeeps (a.block / a.sector) (sheet_layout a.size) narrow a.sector a.limit b a.map.now) (sym is)
+          (turn_keeps a.size a.block a.sector a.array.now a.map.now a.sheets.now a.limit ok b r);
       single = λ one. is ∙ (rw one (rebuild_single a.size a.block a.array.now a.map.now a.sheets.now a.limit));
       read = λ accepted.
-                      rw sheets
-                      (turn_reads a.size a.block a.sector a.array.now a.map.now a.sheets.now a.limit
-                      (sym (ap outcome_status outcome) ∙ accepted));
+          rw sheets
+          (turn_reads a.size a.block a.sector a.array.now a.map.now a.sheets.now a.limit
+          (sym (ap outcome_status outcome) ∙ accepted));
       alone = λ accepted.
-                      rw array
-                      (turn_alone a.size a.block a.sector a.array.now a.map.now a.sheets.now a.limit
-                      (sym (ap outcome_status outcome) ∙ accepted));
+          rw array
+          (turn_alone a.size a.block a.sector a.array.now a.map.now a.sheets.now a.limit
+          (sym (ap outcome_status outcome) ∙ accepted));
     }

@@ -20,11 +20,11 @@ returns c =
       array = array;
       demand = λ ok. rw (answer, array) (save_demand a.size a.block a.sector a.array.now a.map.now ok small);
       rebuilt = λ fine sheets long k some enough.
-                rw (answer, array) (save_as_rebuild a.size a.block a.sector a.array.now a.map.now fine small sheets long k some enough);
+          rw (answer, array) (save_as_rebuild a.size a.block a.sector a.array.now a.map.now fine small sheets long k some enough);
       single = λ one.
-                  let (same, left) = save_single a.size a.block a.array.now a.map.now in
-                  rw (answer, array, one) (same, left);
+          let (same, left) = save_single a.size a.block a.array.now a.map.now in
+          rw (answer, array, one) (same, left);
       alone = λ accepted.
-                  rw array
-                  (save_alone a.size a.block a.sector a.array.now a.map.now (sym (ap saving_status answer) ∙ accepted));
+          rw array
+          (save_alone a.size a.block a.sector a.array.now a.map.now (sym (ap saving_status answer) ∙ accepted));
     }

@@ -13,5 +13,5 @@ returns c =
       status = status;
       array = array;
       demand2 = λ ok. subst (SealDemand a.size a.block a.array.now) (sym array)
-            (seal_demand a.size a.block a.array.now (sym status ∙ ok));
+          (seal_demand a.size a.block a.array.now (sym status ∙ ok));
     }

@@ -18,9 +18,9 @@ returns c =
       statuses = (status, status₂);
       sheets = (sheet, sheet₂);
       demand = (
-            λ taken. rw sheet (tidy_demand narrow (omega arith) (omega arith) _ one (sym status ∙ taken)),
-            λ taken. rw sheet₂ (tidy_demand narrow (omega arith) (omega arith) _ other (sym status₂ ∙ taken)),
-          );
+        λ taken. rw sheet (tidy_demand narrow (omega arith) (omega arith) _ one (sym status ∙ taken)),
+        λ taken. rw sheet₂ (tidy_demand narrow (omega arith) (omega arith) _ other (sym status₂ ∙ taken)),
+      );
       same = λ taken taken₂.
-              rw (sheet, sheet₂) (same-form narrow (omega arith) (omega arith) _ _ one other (sym status ∙ taken) (sym status₂ ∙ taken₂));
+          rw (sheet, sheet₂) (same-form narrow (omega arith) (omega arith) _ _ one other (sym status ∙ taken) (sym status₂ ∙ taken₂));
     }

@@ -13,5 +13,5 @@ returns c =
       status = status;
       array = array;
       demand2 = λ ok. subst (WriteDemand a.size a.block a.array.now a.disk a.«data».now) (sym array)
-            (write_demand a.size a.block a.array.now a.disk a.«data».now (sym status ∙ ok));
+          (write_demand a.size a.block a.array.now a.disk a.«data».now (sym status ∙ ok));
     }

@@ -16,7 +16,7 @@ use Rattle.model.proofs.Accept.{BuffersFit, buffers_fit}
 use Rattle.model.proofs.Follow.{sectors, listed}
 use Rattle.layout.proofs.Numbers.{numbered}
 use Rattle.restore.specs.Restored.{Sectored}
-use Rattle.follow.proofs.Answers.{array-refused, tests_left, sheet-refused, unclean, chains-fit, steps-refused, agreed, contradicted}
+use Rattle.follow.proofs.Answers.{array_refused, tests_left, sheet_refused, unclean, chains_fit, steps_refused, agreed, contradicted}
 use Rattle.follow.proofs.follow.Goals.{Else-not-all_clear, Else-of_array-ne0, Else-of_sheets-ne0}
 use Rattle.follow.proofs.follow.Goals as goal
 
@@ -54,7 +54,7 @@ cleared c = sym c.all_clear.ensures ∙ c.if-not-all_clear.false
 pub returns-then-of_array-ne0 : goal.returns-then-of_array-ne0
 returns-then-of_array-ne0 c =
     let a = c.args in
-    let (h0, h1) = array-refused a.size a.block a.sector a.array.now a.map.now a.sheets.now _ c.sector_refusal-of_array.ensures
+    let (h0, h1) = array_refused a.size a.block a.sector a.array.now a.map.now a.sheets.now _ c.sector_refusal-of_array.ensures
     c.if-of_array-ne0.true in
     record {
       outcome = h0;
@@ -77,7 +77,7 @@ sheet_refusal-of_sheets-requires c =
 pub returns-then-of_sheets-ne0 : goal.returns-then-of_sheets-ne0
 returns-then-of_sheets-ne0 c =
     let a = c.args in
-    let (h0, h1) = sheet-refused a.size a.block a.sector a.array.now a.map.now a.sheets.now (sized (goal.at.returns-then-of_sheets-ne0 c).Else-of_array-ne0) _
+    let (h0, h1) = sheet_refused a.size a.block a.sector a.array.now a.map.now a.sheets.now (sized (goal.at.returns-then-of_sheets-ne0 c).Else-of_array-ne0) _
     c.sheet_refusal-of_sheets.ensures c.if-of_sheets-ne0.true in
     record {
       outcome = h0;
@@ -107,12 +107,12 @@ all_clear-requires c =
       sectors_value = some-sectors (goal.at.all_clear-requires c).Else-of_array-ne0;
       map_value = f.map;
       sheets_len = f.long;
-      by_index = chains-fit _ _ _ _ _ _ (passed (goal.at.all_clear-requires c).Else-of_sheets-ne0) _ c.read_all-chains.ensures _ c.in-Records.is;
+      by_index = chains_fit _ _ _ _ _ _ (passed (goal.at.all_clear-requires c).Else-of_sheets-ne0) _ c.read_all-chains.ensures _ c.in-Records.is;
     }
 
 pub returns-then-not-all_clear : goal.returns-then-not-all_clear
 returns-then-not-all_clear c =
-    let (h0, h1) = steps-refused _ _ _ _ _ _ (passed (goal.at.returns-then-not-all_clear c).Else-of_sheets-ne0) _ c.read_all-chains.ensures _ c.in-Records.is
+    let (h0, h1) = steps_refused _ _ _ _ _ _ (passed (goal.at.returns-then-not-all_clear c).Else-of_sheets-ne0) _ c.read_all-chains.ensures _ c.in-Records.is
     (sym c.all_clear.ensures ∙ c.if-not-all_clear.true) in
     record {
       outcome = h0;
@@ -128,7 +128,7 @@ restore-requires c =
       sectored = held (goal.at.restore-requires c).Else-of_sheets-ne0;
       map_value = f.map;
       sheets_len = f.long;
-      by_index = chains-fit _ _ _ _ _ _ (passed (goal.at.restore-requires c).Else-of_sheets-ne0) _ c.read_all-chains.ensures _ c.in-Records.is;
+      by_index = chains_fit _ _ _ _ _ _ (passed (goal.at.restore-requires c).Else-of_sheets-ne0) _ c.read_all-chains.ensures _ c.in-Records.is;
       peels = clears_peels (sectors a.size a.block a.sector) (erasures a.map.now) _ (cleared (goal.at.restore-requires c).Else-not-all_clear);
     }
 

@@ -16,13 +16,12 @@ use Rattle.look.proofs.look.Goals as goal
 -- The tests are passed where the last one is.
 passed : (c : goal.Else-not-all_present) → let a = c.args in
     Passed a.size a.block a.sector a.array.now a.map.now a.disk
-passed c =
-    (
-      sym c.sector_refusal.ensures ∙ c.if-sector_refusal-ne0.false,
-      sym c.map_fits.ensures ∙ c.if-not-map_fits.false,
-      (let e = c.disks.ensures in let h = c.if-disks-disk.false in omega arith),
-      sym c.all_present.ensures ∙ c.if-not-all_present.false,
-    )
+passed c = (
+  sym c.sector_refusal.ensures ∙ c.if-sector_refusal-ne0.false,
+  sym c.map_fits.ensures ∙ c.if-not-map_fits.false,
+  (let e = c.disks.ensures in let h = c.if-disks-disk.false in omega arith),
+  sym c.all_present.ensures ∙ c.if-not-all_present.false,
+)
 
 -- Both clauses of a return.
 clauses : {A B : Type 0} → A × B → record { bytes : A; place : B }

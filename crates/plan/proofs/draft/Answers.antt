@@ -8,7 +8,7 @@ use Rattle.model.specs.Sheet.{narrow}
 use Rattle.model.specs.Plan.{sheet_layout, loss_outcome}
 use Rattle.tally.proofs.Column.{one-fits}
 use Rattle.plan.specs.Drafted.{draft_sheets}
-use Rattle.plan.proofs.Answers.{one-outcome, one-draft}
+use Rattle.plan.proofs.Answers.{one_outcome, one_draft}
 use Rattle.plan.proofs.draft.Goals as goal
 
 pub draft_column-requires : goal.draft_column-requires
@@ -27,9 +27,9 @@ returns-then-sectors-eq1 c =
     let one = c.if-sectors-eq1.true in
     let a = c.args in
     record {
-      outcome = c.draft_column.ensures.outcome ∙ one-outcome (sheet_layout a.size) (erasures a.map.now)
+      outcome = c.draft_column.ensures.outcome ∙ one_outcome (sheet_layout a.size) (erasures a.map.now)
           ∙ ap (λ (n : ℕ). loss_outcome n (sheet_layout a.size) (erasures a.map.now)) (sym one);
-      sheets = c.draft_column.ensures.sheet ∙ one-draft (sheet_layout a.size) (erasures a.map.now) a.limit
+      sheets = c.draft_column.ensures.sheet ∙ one_draft (sheet_layout a.size) (erasures a.map.now) a.limit
           ∙ ap (λ (n : ℕ). draft_sheets n (sheet_layout a.size) narrow (erasures a.map.now) a.limit) (sym one);
     }
 

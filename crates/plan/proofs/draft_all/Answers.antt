@@ -45,7 +45,7 @@ draft_noted-answer-requires c =
     record {
       positioned = record { size = c.requires.size_value; sectors = c.requires.sectors_value; place = place; map = c.requires.map_value };
       sheet_len = ap length (part_sheet narrow c.loop-p.p c.loop-p.sheets)
-            ∙ length-sheet_at narrow c.args.sectors c.loop-p.sheets c.loop-p.invariant.0.long c.loop-p.p place;
+          ∙ length-sheet_at narrow c.args.sectors c.loop-p.sheets c.loop-p.invariant.0.long c.loop-p.p place;
       notes = rw (part_sheet narrow c.loop-p.p c.loop-p.sheets) (c.loop-p.invariant.1 c.loop-p.p (le_refl _) place);
     }
 

@@ -12,7 +12,7 @@ use Rattle.plan.proofs.Begun.{Begun}
 use Rattle.plan.proofs.draft_all.Given as goal
 
 abbrev pub invariant-loop-p : goal.invariant-loop-p
-invariant-loop-p l =    Begun l.sectors (sheet_layout l.size) (erasures l.map) l.limit l.p l.count l.left l.sheets
+invariant-loop-p l = Begun l.sectors (sheet_layout l.size) (erasures l.map) l.limit l.p l.count l.left l.sheets
     × ((q : ℕ) → l.p ≤ q → q < l.sectors → Notes (disks l.size) (at_position l.sectors q (erasures l.map)) (sheet_at narrow q l.sheets))
 
 abbrev pub decreases-loop-p : goal.decreases-loop-p

@@ -14,7 +14,7 @@ use Rattle.solve.specs.declared.Solved.{Solved}
 use Rattle.solve.specs.declared.Solved.TheVariants.{Repairs, Cycle}
 use Rattle.solve.proofs.Fitting.{repairs_fit, cycle-fits}
 use Rattle.sheet.proofs.Fitting.{listed-fits}
-use Rattle.plan.proofs.Answers.{drafts-repairs, drafts-fatal}
+use Rattle.plan.proofs.Answers.{drafts_repairs, drafts_fatal}
 use Rattle.plan.proofs.draft_column.Goals.{After-solve-answer, In-Cycle, In-Repairs}
 use Rattle.plan.proofs.draft_column.Goals as goal
 
@@ -70,7 +70,7 @@ write-requires-in-Cycle c =
 
 pub returns-in-Repairs : goal.returns-in-Repairs
 returns-in-Repairs c =
-    let (h0, h1) = drafts-repairs _ _ _ _ _ _ (fine (goal.at.returns-in-Repairs c).In-Repairs) c.at_most.ensures c.write.ensures in
+    let (h0, h1) = drafts_repairs _ _ _ _ _ _ (fine (goal.at.returns-in-Repairs c).In-Repairs) c.at_most.ensures c.write.ensures in
     record {
       outcome = h0;
       sheet = h1;
@@ -78,7 +78,7 @@ returns-in-Repairs c =
 
 pub returns-in-Cycle : goal.returns-in-Cycle
 returns-in-Cycle c =
-    let (h0, h1) = drafts-fatal _ _ _ _ _ _ (lossy (goal.at.returns-in-Cycle c).In-Cycle) c.write-in-Cycle.ensures in
+    let (h0, h1) = drafts_fatal _ _ _ _ _ _ (lossy (goal.at.returns-in-Cycle c).In-Cycle) c.write-in-Cycle.ensures in
     record {
       outcome = h0;
       sheet = h1;

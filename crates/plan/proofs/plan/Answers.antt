@@ -10,7 +10,7 @@ use Rattle.model.specs.Refusal.{refusal}
 use Rattle.model.specs.Plan.{sheet_tests}
 use Rattle.model.proofs.Accept.{sheet_fits}
 use Rattle.model.proofs.Grid.{sectors-bound}
-use Rattle.plan.proofs.Answers.{refused-size, refused-sectors, refused-sheets, planned}
+use Rattle.plan.proofs.Answers.{refused_size, refused_sectors, refused_sheets, planned}
 use Rattle.plan.proofs.Begun.{all_few}
 use Rattle.plan.proofs.plan.Goals.{Else-not-sectors_fit, Else-not-size_fits, Else-status-ne0}
 use Rattle.plan.proofs.plan.Goals as goal
@@ -28,7 +28,7 @@ tested c = sym c.sheet_refusal-status.ensures ∙ c.if-status-ne0.false
 
 pub returns-then-not-size_fits : goal.returns-then-not-size_fits
 returns-then-not-size_fits c =
-    let (h0, h1) = refused-size _ _ _ _ (sym c.size_fits.ensures ∙ c.if-not-size_fits.true) in
+    let (h0, h1) = refused_size _ _ _ _ (sym c.size_fits.ensures ∙ c.if-not-size_fits.true) in
     record {
       outcome = h0;
       sheets = h1;
@@ -36,7 +36,7 @@ returns-then-not-size_fits c =
 
 pub returns-then-not-sectors_fit : goal.returns-then-not-sectors_fit
 returns-then-not-sectors_fit c =
-    let (h0, h1) = refused-sectors _ _ _ _ (sized (goal.at.returns-then-not-sectors_fit c).Else-not-size_fits) (sym c.sectors_fit.ensures ∙ c.if-not-sectors_fit.true) in
+    let (h0, h1) = refused_sectors _ _ _ _ (sized (goal.at.returns-then-not-sectors_fit c).Else-not-size_fits) (sym c.sectors_fit.ensures ∙ c.if-not-sectors_fit.true) in
     record {
       outcome = h0;
       sheets = h1;
@@ -50,7 +50,7 @@ sheet_refusal-status-requires-clause-sectors_value c = cut (goal.at.sheet_refusa
 
 pub returns-then-status-ne0 : goal.returns-then-status-ne0
 returns-then-status-ne0 c =
-    let (h0, h1) = refused-sheets _ _ _ _ (sized (goal.at.returns-then-status-ne0 c).Else-not-size_fits) (cut (goal.at.returns-then-status-ne0 c).Else-not-sectors_fit) _ c.sheet_refusal-status.ensures c.if-status-ne0.true in
+    let (h0, h1) = refused_sheets _ _ _ _ (sized (goal.at.returns-then-status-ne0 c).Else-not-size_fits) (cut (goal.at.returns-then-status-ne0 c).Else-not-sectors_fit) _ c.sheet_refusal-status.ensures c.if-status-ne0.true in
     record {
       outcome = h0;
       sheets = h1;

@@ -10,7 +10,7 @@ use Rattle.model.specs.Refusal.{refusal, sector_tests}
 use Rattle.model.proofs.Grid.{sector-some, sectors-some, sectors-bound}
 use Rattle.model.proofs.Refusal.{sector_fits_lem}
 use Rattle.layout.proofs.Numbers.{numbered}
-use Rattle.rebuild.proofs.Answers.{array-refused, sheet-refused, no-repairs, Passed, fitting, held, as-plan, Planned, planned, sheets-long, chains-fit, peels, made-is, made-few, count-is, in_map, contradicted, made-them}
+use Rattle.rebuild.proofs.Answers.{array_refused, sheet_refused, no_repairs, Passed, fitting, held, as_plan_lem, Planned, planned, sheets-long, chains_fit, peels, made_is, made-few, count_is, in_map, contradicted, made_them}
 use Rattle.rebuild.proofs.rebuild.Goals.{After-at_most-made, Else-limit-eq0, Else-of_array-ne0}
 use Rattle.rebuild.proofs.rebuild.Goals as goal
 
@@ -31,7 +31,7 @@ passed c =
     let other = c.if-limit-eq0.false in
     record {
       array = sym c.sector_refusal-of_array.ensures ∙ c.if-of_array-ne0.false;
-      sheetsFit = sym c.sheet_refusal-of_sheets.ensures ∙ c.if-of_sheets-ne0.false;
+      sheets_fit = sym c.sheet_refusal-of_sheets.ensures ∙ c.if-of_sheets-ne0.false;
       some = omega arith;
     }
 
@@ -43,7 +43,7 @@ drafted c =
     let tests : Passed c.args.size c.args.block c.args.sector c.args.array.now c.args.map.now c.args.sheets.now c.args.limit =
     record {
       array = sym c.sector_refusal-of_array.ensures ∙ c.if-of_array-ne0.false;
-      sheetsFit = sym c.sheet_refusal-of_sheets.ensures ∙ c.if-of_sheets-ne0.false;
+      sheets_fit = sym c.sheet_refusal-of_sheets.ensures ∙ c.if-of_sheets-ne0.false;
       some = omega arith;
     } in
     planned tests _ _ c.draft-answer.ensures.outcome c.draft-answer.ensures.sheets _ c.in-Repairs.is _ c.at_most-made.ensures
@@ -51,7 +51,7 @@ drafted c =
 pub returns-then-of_array-ne0 : goal.returns-then-of_array-ne0
 returns-then-of_array-ne0 c =
     let a = c.args in
-    let (h0, (h1, (h2, h3))) = array-refused a.size a.block a.sector a.array.now a.map.now a.sheets.now a.limit _ c.sector_refusal-of_array.ensures
+    let (h0, (h1, (h2, h3))) = array_refused a.size a.block a.sector a.array.now a.map.now a.sheets.now a.limit _ c.sector_refusal-of_array.ensures
     c.if-of_array-ne0.true in
     record {
       outcome = h0;
@@ -76,7 +76,7 @@ sheet_refusal-of_sheets-requires c =
 pub returns-then-of_sheets-ne0 : goal.returns-then-of_sheets-ne0
 returns-then-of_sheets-ne0 c =
     let a = c.args in
-    let (h0, (h1, (h2, h3))) = sheet-refused a.size a.block a.sector a.array.now a.map.now a.sheets.now a.limit (array_ok (goal.at.returns-then-of_sheets-ne0 c).Else-of_array-ne0) _
+    let (h0, (h1, (h2, h3))) = sheet_refused a.size a.block a.sector a.array.now a.map.now a.sheets.now a.limit (array_ok (goal.at.returns-then-of_sheets-ne0 c).Else-of_array-ne0) _
     c.sheet_refusal-of_sheets.ensures c.if-of_sheets-ne0.true in
     record {
       outcome = h0;
@@ -88,7 +88,7 @@ returns-then-of_sheets-ne0 c =
 pub returns-then-limit-eq0 : goal.returns-then-limit-eq0
 returns-then-limit-eq0 c =
     let a = c.args in
-    let (h0, (h1, (h2, h3))) = no-repairs a.size a.block a.sector a.array.now a.map.now a.sheets.now a.limit
+    let (h0, (h1, (h2, h3))) = no_repairs a.size a.block a.sector a.array.now a.map.now a.sheets.now a.limit
     (array_ok (goal.at.returns-then-limit-eq0 c).Else-of_array-ne0) (sym c.sheet_refusal-of_sheets.ensures ∙ c.if-of_sheets-ne0.false) c.if-limit-eq0.true in
     record {
       outcome = h0;
@@ -109,7 +109,7 @@ draft-answer-requires c =
 
 pub returns-in_default : goal.returns-in_default
 returns-in_default c =
-    let (h0, (h1, (h2, h3))) = as-plan (passed (goal.at.returns-in_default c).Else-limit-eq0) _ _ c.draft-answer.ensures.outcome c.draft-answer.ensures.sheets c.in_default.not-Repairs in
+    let (h0, (h1, (h2, h3))) = as_plan_lem (passed (goal.at.returns-in_default c).Else-limit-eq0) _ _ c.draft-answer.ensures.outcome c.draft-answer.ensures.sheets c.in_default.not-Repairs in
     record {
       outcome = h0;
       array = h1;
@@ -127,11 +127,11 @@ make-requires c =
       sectored = held p.tests;
       map_value = f.map;
       sheets_len = sheets-long p;
-      by_index = chains-fit p;
+      by_index = chains_fit p;
       peels = peels p;
-      made_value = made-is p;
+      made_value = made_is p;
       made_le_count = made-few p;
-      count_value = count-is p;
+      count_value = count_is p;
     }
 
 pub zero_all-requires : goal.zero_all-requires
@@ -155,13 +155,13 @@ mark_present-requires c =
     record {
       sectors_bound = (sectors-bound (a.block / a.sector) (some-sectors (goal.at.mark_present-requires c).Else-of_array-ne0)).1;
       sheets_len = sheets-long p;
-      by_index = chains-fit p;
+      by_index = chains_fit p;
       within = in_map p;
     }
 
 pub returns : goal.returns
 returns c =
-    let (h0, (h1, (h2, h3))) = made-them (drafted (goal.at.returns c).After-at_most-made) _ c.make.ensures.answer
+    let (h0, (h1, (h2, h3))) = made_them (drafted (goal.at.returns c).After-at_most-made) _ c.make.ensures.answer
     (c.if-not-make.false) _ _ c.make.ensures.array c.mark_present.ensures in
     record {
       outcome = h0;

@@ -9,7 +9,7 @@ use Rattle.replay.proofs.Replayed.{Replayed}
 use Rattle.replay.proofs.all_allowed.Given as goal
 
 abbrev pub invariant-loop-k : goal.invariant-loop-k
-invariant-loop-k l =    (l.k ≤ l.count) × (length l.work ≡ length l.initial.work) × (length l.counts ≡ length l.initial.counts)
+invariant-loop-k l = (l.k ≤ l.count) × (length l.work ≡ length l.initial.work) × (length l.counts ≡ length l.initial.counts)
     × Replayed (layout_of l.size l.base) (erasures l.initial.work) l.list l.work l.stripes l.counts l.k
 
 abbrev pub decreases-loop-k : goal.decreases-loop-k

@@ -9,7 +9,7 @@ use Rattle.model.proofs.Grid.{one_byte}
 use Rattle.model.specs.Listing.{repair_word, fatal_word}
 use Rattle.layout.proofs.Numbers.{numbered}
 use Rattle.text.proofs.Joined.{written_as}
-use Rattle.report.proofs.Answers.{size_refused, map-refused, repairs-printable, cycle-printable, repairs-reported, cycle-reported}
+use Rattle.report.proofs.Answers.{size_refused, map_refused, repairs_printable, cycle_printable, repairs-reported, cycle-reported}
 use Rattle.report.proofs.report.Goals.{Else-not-map_fits, Else-not-size_fits}
 use Rattle.report.proofs.report.Goals as goal
 
@@ -35,7 +35,7 @@ map_fits-requires-clause-sectors_value c = refl
 
 pub returns-then-not-map_fits : goal.returns-then-not-map_fits
 returns-then-not-map_fits c =
-    written_as (map-refused _ _ (sized (goal.at.returns-then-not-map_fits c).Else-not-size_fits) (sym c.map_fits.ensures ∙ c.if-not-map_fits.true)) c.refused-then-not-map_fits.ensures
+    written_as (map_refused _ _ (sized (goal.at.returns-then-not-map_fits c).Else-not-size_fits) (sym c.map_fits.ensures ∙ c.if-not-map_fits.true)) c.refused-then-not-map_fits.ensures
 
 pub solve-answer-requires : goal.solve-answer-requires
 solve-answer-requires c =
@@ -53,7 +53,7 @@ pub listed-requires-clause-printable : goal.listed-requires-clause-printable
 listed-requires-clause-printable c =
     let same = c.solve-answer.auto.list in
     let size = sized (goal.at.listed-requires-clause-printable c).Else-not-size_fits in
-    repairs-printable _ _ size c.in-Repairs.ensures (omega arith)
+    repairs_printable _ _ size c.in-Repairs.ensures (omega arith)
 
 pub listed-requires-clause-out_len : goal.listed-requires-clause-out_len
 listed-requires-clause-out_len c = c.requires
@@ -65,7 +65,7 @@ pub listed-requires-in-Cycle-clause-printable : goal.listed-requires-in-Cycle-cl
 listed-requires-in-Cycle-clause-printable c =
     let same = c.solve-answer.auto.list in
     let size = sized (goal.at.listed-requires-in-Cycle-clause-printable c).Else-not-size_fits in
-    cycle-printable _ _ size c.in-Cycle.ensures (omega arith)
+    cycle_printable _ _ size c.in-Cycle.ensures (omega arith)
 
 pub listed-requires-in-Cycle-clause-out_len : goal.listed-requires-in-Cycle-clause-out_len
 listed-requires-in-Cycle-clause-out_len c = c.requires

@@ -6,14 +6,14 @@ use Prim.Native.Nat.{◌/◌}
 use lib.ListN.{length}
 use Rattle.model.specs.Grid.{map_bytes, map_fits}
 use Rattle.model.specs.Refusal.{refusal, sector_tests}
-use Rattle.save.proofs.Answers.{refused-array, refused-map, some_bytes, sectors-fit, is-numbered, is-sectored, array-few, byte-each, contradicted, determined-saved}
+use Rattle.save.proofs.Answers.{refused_array, refused_map, some_bytes, sectors_fit_lem, is_numbered, is_sectored, array-few, byte_each, contradicted, determined-saved}
 use Rattle.save.proofs.save.Goals.{Else-not-map_fits, Else-status-ne0}
 use Rattle.save.proofs.save.Goals as goal
 
 pub returns-then-status-ne0 : goal.returns-then-status-ne0
 returns-then-status-ne0 c =
     let a = c.args in
-    let (h0, h1) = refused-array a.size a.block a.sector a.array.now a.map.now c.sector_refusal-status.ensures c.if-status-ne0.true in
+    let (h0, h1) = refused_array a.size a.block a.sector a.array.now a.map.now c.sector_refusal-status.ensures c.if-status-ne0.true in
     record {
       answer = h0;
       array = h1;
@@ -38,14 +38,14 @@ map_fits-requires c =
     let a = c.args in
     let ok = accepted (goal.at.map_fits-requires c).Else-status-ne0 in
     record {
-      size_value = (is-numbered a.size a.block a.sector a.array.now a.map.now ok).fits;
-      sectors_value = sectors-fit a.size a.block a.sector a.array.now a.map.now ok;
+      size_value = (is_numbered a.size a.block a.sector a.array.now a.map.now ok).fits;
+      sectors_value = sectors_fit_lem a.size a.block a.sector a.array.now a.map.now ok;
     }
 
 pub returns-then-not-map_fits : goal.returns-then-not-map_fits
 returns-then-not-map_fits c =
     let a = c.args in
-    let (h0, h1) = refused-map a.size a.block a.sector a.array.now a.map.now (accepted (goal.at.returns-then-not-map_fits c).Else-status-ne0)
+    let (h0, h1) = refused_map a.size a.block a.sector a.array.now a.map.now (accepted (goal.at.returns-then-not-map_fits c).Else-status-ne0)
     (sym c.map_fits.ensures ∙ c.if-not-map_fits.true) in
     record {
       answer = h0;
@@ -57,8 +57,8 @@ all_fit-requires c =
     let a = c.args in
     let ok = accepted (goal.at.all_fit-requires c).Else-status-ne0 in
     record {
-      numbered = is-numbered a.size a.block a.sector a.array.now a.map.now ok;
-      sectored = is-sectored a.size a.block a.sector a.array.now a.map.now ok;
+      numbered = is_numbered a.size a.block a.sector a.array.now a.map.now ok;
+      sectored = is_sectored a.size a.block a.sector a.array.now a.map.now ok;
       map_value = fitting (goal.at.all_fit-requires c).Else-not-map_fits;
     }
 
@@ -67,7 +67,7 @@ zero_erased-requires c =
     let a = c.args in
     let ok = accepted (goal.at.zero_erased-requires c).Else-status-ne0 in
     record {
-      array_len = byte-each a.size a.block a.sector a.array.now a.map.now ok (fitting (goal.at.zero_erased-requires c).Else-not-map_fits);
+      array_len = byte_each a.size a.block a.sector a.array.now a.map.now ok (fitting (goal.at.zero_erased-requires c).Else-not-map_fits);
       array_len_bound = array-few a.size a.block a.sector a.array.now a.map.now ok;
     }
 
@@ -87,8 +87,8 @@ save_all-number-requires c =
     let a = c.args in
     let ok = accepted (goal.at.save_all-number-requires c).Else-status-ne0 in
     record {
-      numbered = is-numbered a.size a.block a.sector a.array.now a.map.now ok;
-      sectored = is-sectored a.size a.block a.sector a.array.now a.map.now ok;
+      numbered = is_numbered a.size a.block a.sector a.array.now a.map.now ok;
+      sectored = is_sectored a.size a.block a.sector a.array.now a.map.now ok;
       map_value = fitting (goal.at.save_all-number-requires c).Else-not-map_fits;
       array_value = sym c.all_fit.ensures ∙ c.if-not-all_fit.false;
     }

@@ -7,7 +7,7 @@ use Rattle.series.proofs.Progress.{Progress}
 use Rattle.series.proofs.rebuild_in_turns.Given as goal
 
 abbrev pub invariant-loop-done : goal.invariant-loop-done
-invariant-loop-done l =    (ts : List Turn) × Progress l.size l.block l.sector l.limit l.bytes l.initial.array l.initial.map l.initial.sheets ts l.done l.array l.map l.sheets
+invariant-loop-done l = (ts : List Turn) × Progress l.size l.block l.sector l.limit l.bytes l.initial.array l.initial.map l.initial.sheets ts l.done l.array l.map l.sheets
 
 abbrev pub decreases-loop-done : goal.decreases-loop-done
 decreases-loop-done l = l.done.left

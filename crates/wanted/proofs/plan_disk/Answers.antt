@@ -14,7 +14,7 @@ use Rattle.model.specs.PlanDisk.{can_be_wanted}
 use Rattle.model.proofs.Grid.{one_byte}
 use Rattle.model.proofs.Accept.{one-fits}
 use Rattle.layout.proofs.Numbers.{numbered}
-use Rattle.wanted.proofs.Answers.{size-first, size-passed, is-wanted, refused-plan, refused-disk, unreached, small, reaches}
+use Rattle.wanted.proofs.Answers.{size-first, size_passed, is_wanted, refused_plan, refused_disk, unreached, small, reaches}
 use Rattle.wanted.proofs.plan_disk.Goals.{Else-not-can_be_wanted, Else-not-size_fits, Else-status-ne0}
 use Rattle.wanted.proofs.plan_disk.Goals as goal
 
@@ -24,7 +24,7 @@ sized c = sym c.size_fits.ensures ∙ c.if-not-size_fits.false
 
 tested : (c : goal.Else-status-ne0) → let a = c.args in
     refusal (one_tests a.size a.map.now (length a.sheet.now)) ≡ 0
-tested c = size-passed _ _ _ (sym c.size_fits.ensures ∙ c.if-not-size_fits.false) ∙ sym c.sheet_refusal-status.ensures ∙ c.if-status-ne0.false
+tested c = size_passed _ _ _ (sym c.size_fits.ensures ∙ c.if-not-size_fits.false) ∙ sym c.sheet_refusal-status.ensures ∙ c.if-status-ne0.false
 
 can : (c : goal.Else-not-can_be_wanted) → let a = c.args in
     can_be_wanted a.size a.map.now a.disk ≡ true
@@ -32,7 +32,7 @@ can c = sym c.can_be_wanted.ensures ∙ c.if-not-can_be_wanted.false
 
 pub returns-then-not-size_fits : goal.returns-then-not-size_fits
 returns-then-not-size_fits c =
-    let (h0, h1) = refused-plan _ _ _ _ 1 (size-first _ _ _ (sym c.size_fits.ensures ∙ c.if-not-size_fits.true)) (λ q. omega arith) in
+    let (h0, h1) = refused_plan _ _ _ _ 1 (size-first _ _ _ (sym c.size_fits.ensures ∙ c.if-not-size_fits.true)) (λ q. omega arith) in
     record {
       outcome = h0;
       sheet = h1;
@@ -48,7 +48,7 @@ sheet_refusal-status-requires-clause-sectors_value c = refl
 
 pub returns-then-status-ne0 : goal.returns-then-status-ne0
 returns-then-status-ne0 c =
-    let (h0, h1) = refused-plan _ _ _ _ _ (size-passed _ _ _ (sized (goal.at.returns-then-status-ne0 c).Else-not-size_fits) ∙ sym c.sheet_refusal-status.ensures) c.if-status-ne0.true in
+    let (h0, h1) = refused_plan _ _ _ _ _ (size_passed _ _ _ (sized (goal.at.returns-then-status-ne0 c).Else-not-size_fits) ∙ sym c.sheet_refusal-status.ensures) c.if-status-ne0.true in
     record {
       outcome = h0;
       sheet = h1;
@@ -59,7 +59,7 @@ can_be_wanted-requires c = (one-fits _ _ _ (tested (goal.at.can_be_wanted-requir
 
 pub returns-then-not-can_be_wanted : goal.returns-then-not-can_be_wanted
 returns-then-not-can_be_wanted c =
-    let (h0, h1) = refused-disk _ _ _ _ (tested (goal.at.returns-then-not-can_be_wanted c).Else-status-ne0) (sym c.can_be_wanted.ensures ∙ c.if-not-can_be_wanted.true) in
+    let (h0, h1) = refused_disk _ _ _ _ (tested (goal.at.returns-then-not-can_be_wanted c).Else-status-ne0) (sym c.can_be_wanted.ensures ∙ c.if-not-can_be_wanted.true) in
     record {
       outcome = h0;
       sheet = h1;
@@ -71,7 +71,7 @@ find-count-requires c =
     record {
       numbered = numbered _ size;
       map_value = map;
-      disk_value = (is-wanted _ _ _ (can (goal.at.find-count-requires c).Else-not-can_be_wanted)).1;
+      disk_value = (is_wanted _ _ _ (can (goal.at.find-count-requires c).Else-not-can_be_wanted)).1;
       capacity_in_bounds = search rules;
     }
 

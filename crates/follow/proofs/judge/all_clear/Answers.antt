@@ -36,11 +36,11 @@ clears-requires c =
     record {
       numbered = c.requires.numbered;
       positioned = record {
-          size = c.requires.numbered.fits;
-          sectors = c.requires.sectors_value;
-          place = search rules;
-          map = c.requires.map_value;
-        };
+        size = c.requires.numbered.fits;
+        sectors = c.requires.sectors_value;
+        place = search rules;
+        map = c.requires.map_value;
+      };
       count_in_bounds = search rules;
     }
 

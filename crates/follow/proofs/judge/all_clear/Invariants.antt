@@ -11,7 +11,7 @@ use Rattle.follow.proofs.Judged.{clearsAt}
 use Rattle.follow.proofs.judge.all_clear.Given as goal
 
 abbrev pub invariant-loop-p : goal.invariant-loop-p
-invariant-loop-p l =    (l.p ≤ l.sectors) × (length l.list ≡ 32) × (every l.p (clearsAt l.sectors (layout_of l.size l.base) (erasures l.map) l.sheets) ≡ true)
+invariant-loop-p l = (l.p ≤ l.sectors) × (length l.list ≡ 32) × (every l.p (clearsAt l.sectors (layout_of l.size l.base) (erasures l.map) l.sheets) ≡ true)
 
 abbrev pub decreases-loop-p : goal.decreases-loop-p
 decreases-loop-p l = l.sectors - l.p

@@ -40,7 +40,7 @@ pub loop-p-preserved : goal.loop-p-preserved
 loop-p-preserved c =
     let so_far = c.loop-p.invariant.2 in
     elim c.match-own.branch [
-      in-Records w ↦ (
+      | in-Records w ↦ (
         search rules,
         search rules,
         rw (w.status-is, w.number-is) (more_read _ _ _ _ _ so_far _ (answered (goal.at.loop-p-preserved c).After-read_clean-own) _ w.in-Records.is),

@@ -53,11 +53,11 @@ mark_position-requires c =
       position_lt_sectors = search rules;
       count_in_bounds = search rules;
       by_index = λ k h.
-              let (inside, disk) = named c.list-count.new.list _ c.list-count.result (lists (goal.at.mark_position-requires c).After-list-count) k h in
-              let there = within_at c.args.sectors (λ q. chain_entries narrow (sheet_at narrow q c.args.sheets.now))
-              (length c.args.map.now) c.args.sectors c.requires.within c.loop-p.p place k inside in
-              subst (λ (n : ℕ). sector_at c.args.sectors c.loop-p.p (entry_disk c.list-count.new.list k) < n) (sym (kept (goal.at.mark_position-requires c).At-loop-p))
-              (subst (λ (d : ℕ). sector_at c.args.sectors c.loop-p.p d < length c.args.map.now) disk there);
+          let (inside, disk) = named c.list-count.new.list _ c.list-count.result (lists (goal.at.mark_position-requires c).After-list-count) k h in
+          let there = within_at c.args.sectors (λ q. chain_entries narrow (sheet_at narrow q c.args.sheets.now))
+          (length c.args.map.now) c.args.sectors c.requires.within c.loop-p.p place k inside in
+          subst (λ (n : ℕ). sector_at c.args.sectors c.loop-p.p (entry_disk c.list-count.new.list k) < n) (sym (kept (goal.at.mark_position-requires c).At-loop-p))
+          (subst (λ (d : ℕ). sector_at c.args.sectors c.loop-p.p d < length c.args.map.now) disk there);
     }
 
 pub loop-p-preserved : goal.loop-p-preserved

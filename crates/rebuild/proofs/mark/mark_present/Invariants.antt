@@ -10,7 +10,7 @@ use Rattle.model.specs.Chain.{chain_entries}
 use Rattle.rebuild.proofs.mark.mark_present.Given as goal
 
 abbrev pub invariant-loop-p : goal.invariant-loop-p
-invariant-loop-p l =    (l.p ≤ l.sectors) × (length l.list ≡ 32)
+invariant-loop-p l = (l.p ≤ l.sectors) × (length l.list ≡ 32)
     × (l.map ≡ map_after l.initial.map (rising l.sectors (λ q. chain_entries narrow (sheet_at narrow q l.sheets)) l.p))
 
 abbrev pub decreases-loop-p : goal.decreases-loop-p

@@ -8,7 +8,7 @@ use Rattle.tally.proofs.Scanned.{Copied}
 use Rattle.tally.proofs.load.gather.Given as goal
 
 abbrev pub invariant-loop-i : goal.invariant-loop-i
-invariant-loop-i l =    (l.i ≤ length l.initial.work) × (length l.work ≡ length l.initial.work) × Copied (λ j. get_or l.map (sector_at l.sectors l.position j) 0) l.work l.i
+invariant-loop-i l = (l.i ≤ length l.initial.work) × (length l.work ≡ length l.initial.work) × Copied (λ j. get_or l.map (sector_at l.sectors l.position j) 0) l.work l.i
 
 abbrev pub decreases-loop-i : goal.decreases-loop-i
 decreases-loop-i l = length l.initial.work - l.i

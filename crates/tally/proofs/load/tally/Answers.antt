@@ -106,8 +106,7 @@ loop-size-smaller c =
 pub loop-size-preserved : goal.loop-size-preserved
 loop-size-preserved c =
     let enter = c.enter in
-    let raise = c.raise in
-    (
+    let raise = c.raise in (
       enter.auto.stripes ∙ c.loop-size.invariant.0,
       c.raise-in-loop-size.auto.counts ∙ raise.auto.counts ∙ c.loop-size.invariant.1,
       loaded_next (over (goal.at.loop-size-preserved c).After-next_erased-d) (erased (goal.at.loop-size-preserved c).Else-work-d) (pair (goal.at.loop-size-preserved c).After-stripes_of-pair) (held-few c.requires.numbered) raise.ensures (place (goal.at.loop-size-preserved c).Else-work-d) enter.ensures

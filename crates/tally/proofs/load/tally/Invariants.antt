@@ -8,7 +8,7 @@ use Rattle.tally.proofs.Loaded.{Loaded}
 use Rattle.tally.proofs.load.tally.Given as goal
 
 abbrev pub invariant-loop-size : goal.invariant-loop-size
-invariant-loop-size l =    (length l.stripes ≡ length l.initial.stripes) × (length l.counts ≡ length l.initial.counts)
+invariant-loop-size l = (length l.stripes ≡ length l.initial.stripes) × (length l.counts ≡ length l.initial.counts)
     × Loaded (layout_of l.size l.base) l.work l.from l.stripes l.counts l.number × (l.from ≤ length l.work)
 
 abbrev pub decreases-loop-size : goal.decreases-loop-size

@@ -31,10 +31,10 @@ loop-k-preserved c =
     let l = c.loop-k in (
       search rules,
       elim c.if-k-skip.branch [
-        then-k-skip w ↦
-          rw w.acc-is
-          (holds_next a.w a.first a.a.now (l.k * a.step) _ (λ j. strided a.a.now j a.step (l.k + 1) a.skip)
-          (strided-next a.a.now a.step a.skip l.k w.if-k-skip.true) l.acc w.mix-more.result l.invariant.1 w.mix-more.ensures)
+        | then-k-skip w ↦
+            rw w.acc-is
+            (holds_next a.w a.first a.a.now (l.k * a.step) _ (λ j. strided a.a.now j a.step (l.k + 1) a.skip)
+            (strided-next a.a.now a.step a.skip l.k w.if-k-skip.true) l.acc w.mix-more.result l.invariant.1 w.mix-more.ensures)
         | else-k-skip w ↦ rw w.acc-is (λ i b. l.invariant.1 i b ∙ sym (strided_skip a.a.now a.step a.skip l.k w.if-k-skip.false (a.first + i)))
       ],
     )
