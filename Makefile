@@ -13,10 +13,10 @@
 #   make bench      the benchmark
 #   make install    installs what `make` has built; PREFIX, DESTDIR
 #   make uninstall  removes what install has put there; the same PREFIX, DESTDIR
-#   make clean      removes all that was made: build/ and target/
+#   make clean      removes all that was made: build/ and what the prover keeps
 #
-# All that is made here goes to build/. The prover keeps its own in target/,
-# which `rt ci` removes, so the archive is copied from there.
+# All that is made here goes to build/. The prover keeps its own in each crate's
+# folder out/, from which the archive and the listing program are copied.
 
 CC = cc
 CXX = c++
@@ -32,7 +32,7 @@ DATE := $(shell sed -n 's/^.. $(VERSION), //p' CHANGES.md)
 LIB = $(BUILD)/libraid2d.a
 
 HEADER = include/raid2d.h
-PROVED_SOURCES = crates.txt $(shell find crates -type f -not -path '*/must-fail/*')
+PROVED_SOURCES = crates.txt $(shell find crates -type f -not -path '*/must-fail/*' -not -path '*/out/*')
 STRICT = -Wall -Wextra -Wpedantic -Werror -Iinclude -fsyntax-only
 
 # How long the fuzzer runs in `make fuzz` and `make check-long`, in seconds.
@@ -54,15 +54,15 @@ lib: $(BUILD)/libraid2d.a
 manual: $(MANUAL)
 
 $(BUILD)/libraid2d.a: $(PROVED_SOURCES)
-	rt staticlib raid2d
+	cd crates/raid2d && rt lib
 	mkdir -p $(BUILD)
-	cp target/staticlib/libraid2d.a $@
+	cp crates/raid2d/out/libraid2d.a $@
 
-# After the archive, since two runs of the prover would share target/.
+# After the archive, since the two stand on the same crates.
 $(BUILD)/list_repairs: $(PROVED_SOURCES) | $(BUILD)/libraid2d.a
-	rt check list_repairs
+	cd crates/list_repairs && rt run </dev/null
 	mkdir -p $(BUILD)
-	cp target/bin/list_repairs $@
+	cp crates/list_repairs/out/list_repairs $@
 
 $(MANUAL): man/pages.awk man/list_repairs.1 README.md CHANGES.md $(HEADER)
 	rm -rf $(BUILD)/man
@@ -149,4 +149,4 @@ uninstall:
 	    mv $(BUILD)/left $(BUILD)/folders; }
 
 clean:
-	rm -rf $(BUILD) target
+	rm -rf $(BUILD) crates/*/out
