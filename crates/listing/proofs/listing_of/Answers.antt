@@ -3,12 +3,12 @@
 use mathlib.Core.Path.{◌∙◌, ap₂}
 use Rattle.text.proofs.Joined.{written_as, written-alone, same-room}
 use Rattle.report.specs.Report.{reported}
-use Rattle.report.proofs.Answers.{input-reported}
+use Rattle.report.proofs.Answers.{input_reported}
 use Rattle.listing.proofs.listing_of.Goals as goal
 
 pub returns : goal.returns
 returns c =
-    let text = ap₂ reported c.size_of.ensures c.map_of.ensures ∙ input-reported _ in
+    let text = ap₂ reported c.size_of.ensures c.map_of.ensures ∙ input_reported _ in
     let written = written_as text c.report-len.ensures in
     let (all, rest, within) = written-alone 320 written in
     record {
