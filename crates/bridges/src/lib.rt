@@ -9,12 +9,11 @@ ghost use Rattle.stripes.specs.Fold.{count};
 ghost use Rattle.stripes.specs.Erased.{erasures};
 ghost use Rattle.stripes.specs.Undetermined.{lost};
 ghost use Rattle.model.specs.Grid.{layout_of, disks};
-ghost use Rattle.layout.specs.Stripe.{Numbered};
 ghost use Rattle.reach.specs.Reached.{has as Reached·has, word_stripes};
 ghost use Rattle.neighbours.specs.Near.{Near};
 ghost use Rattle.bridges.specs.Forest.{Grown, Growing, Beside, on_one};
 
-use model::Size;
+use layout::stripe::Grid;
 
 // The stripes that are reached, those of them that are links, and the links that are closed: on a cycle.
 #[derive(Clone, Copy)]
@@ -29,37 +28,32 @@ fn closing(ways: &[u64], way: u64, set: u64) -> u64
     requires { length ways.now ≡ word_stripes }
     ensures { (t : ℕ) → Reached·has result t ≡ on_one ways.now way set t }
 {
-    let mut all = 0u64;
-    let mut rest = set;
-    while rest != 0 {
-        let s = u64::trailing_zeros(rest) as usize;
+    let mut all = 0;
+    for s in reach::members_of(set) {
         all |= way ^ ways[s];
-        rest = rest & (rest - 1);
     }
     all
 }
 
-// One stripe more is reached, over the disk from the lowest of its neighbours that are. Those to the others close links. The size, the base and the
-// map say only of what the contract speaks.
+// One stripe more is reached, over the disk from the lowest of its neighbours that are. Those to the others close links. The grid and the map say
+// only of what the contract speaks.
 fn reach_one(
-    size: Size,
-    base: usize,
+    grid: Grid,
     work: &[u8],
     near: &[u64],
     ways: &mut [u64],
     before: Reached,
     stripe: usize,
 ) -> Reached
-    requires numbered { Numbered size base }
-    requires near { Near (layout_of size base) (erasures work.now) near.now }
-    requires growing_2 { Growing (layout_of size base) (erasures work.now) before.seen before.links before.closed ways.old }
+    requires near { Near (layout_of grid.size grid.base) (erasures work.now) near.now }
+    requires growing_2 { Growing (layout_of grid.size grid.base) (erasures work.now) before.seen before.links before.closed ways.old }
     requires stripe_lt_word_stripes { stripe < word_stripes }
-    requires beside { Beside (layout_of size base) (erasures work.now) before.seen stripe }
-    ensures growing { Growing (layout_of size base) (erasures work.now) result.seen result.links result.closed ways.new }
+    requires beside { Beside (layout_of grid.size grid.base) (erasures work.now) before.seen stripe }
+    ensures growing { Growing (layout_of grid.size grid.base) (erasures work.now) result.seen result.links result.closed ways.new }
     ensures seen { (t : ℕ) → Reached·has result.seen t ≡ (Reached·has before.seen t || eqb t stripe) }
 {
     let back = near[stripe] & before.seen;
-    let from = u64::trailing_zeros(back) as usize;
+    let from = back.trailing_zeros() as usize;
     let own = reach::one(stripe);
     let way = ways[from] | own;
     let closed = closing(ways, way, back & (back - 1));
@@ -73,20 +67,18 @@ fn reach_one(
 
 // A part is reached, from the stripe that begins it on: the lowest stripe to which a disk leads comes next, until there is none.
 fn reach_part(
-    size: Size,
-    base: usize,
+    grid: Grid,
     work: &[u8],
     near: &[u64],
     ways: &mut [u64],
     before: Reached,
     stripe: usize,
 ) -> Reached
-    requires numbered { Numbered size base }
-    requires near { Near (layout_of size base) (erasures work.now) near.now }
-    requires grown_2 { Grown (layout_of size base) (erasures work.now) before.seen before.links before.closed ways.old }
+    requires near { Near (layout_of grid.size grid.base) (erasures work.now) near.now }
+    requires grown_2 { Grown (layout_of grid.size grid.base) (erasures work.now) before.seen before.links before.closed ways.old }
     requires stripe_lt_word_stripes { stripe < word_stripes }
     requires stripe_value { Reached·has before.seen stripe ≡ false }
-    ensures grown { Grown (layout_of size base) (erasures work.now) result.seen result.links result.closed ways.new }
+    ensures grown { Grown (layout_of grid.size grid.base) (erasures work.now) result.seen result.links result.closed ways.new }
     ensures own { Reached·has result.seen stripe ≡ true }
     ensures others { (t : ℕ) → Reached·has before.seen t ≡ true → Reached·has result.seen t ≡ true }
 {
@@ -97,35 +89,31 @@ fn reach_part(
         closed: before.closed,
     };
     let mut ahead = near[stripe];
+    // Each turn puts stripes into what is ahead, so that no iterator goes over it.
     while ahead != 0 {
-        let next = u64::trailing_zeros(ahead) as usize;
-        let more = reach_one(size, base, work, near, ways, done, next);
-        done = more;
+        let next = ahead.trailing_zeros() as usize;
+        done = reach_one(grid, work, near, ways, done, next);
         ahead = (ahead | near[next] | done.seen) ^ done.seen;
     }
     done
 }
 
 // All stripes are reached, part by part. What the table of ways held does not matter.
-fn reach_all(size: Size, base: usize, work: &[u8], near: &[u64], ways: &mut [u64]) -> Reached
-    requires numbered { Numbered size base }
-    requires near { Near (layout_of size base) (erasures work.now) near.now }
+fn reach_all(grid: Grid, work: &[u8], near: &[u64], ways: &mut [u64]) -> Reached
+    requires near { Near (layout_of grid.size grid.base) (erasures work.now) near.now }
     requires ways_len { length ways.old ≡ word_stripes }
-    ensures grown { Grown (layout_of size base) (erasures work.now) result.seen result.links result.closed ways.new }
-    ensures all { (s : ℕ) → s < (layout_of size base).stripe_bound → Reached·has result.seen s ≡ true }
+    ensures grown { Grown (layout_of grid.size grid.base) (erasures work.now) result.seen result.links result.closed ways.new }
+    ensures all { (s : ℕ) → s < (layout_of grid.size grid.base).stripe_bound → Reached·has result.seen s ≡ true }
 {
     let mut done = Reached {
         seen: 0,
         links: 0,
         closed: 0,
     };
-    let mut s = 0;
-    while s < layout::stripe::bound(size, base) {
+    for s in 0..grid.bound() {
         if !reach::has(done.seen, s) {
-            let more = reach_part(size, base, work, near, ways, done, s);
-            done = more;
+            done = reach_part(grid, work, near, ways, done, s);
         }
-        s += 1;
     }
     done
 }
@@ -134,30 +122,17 @@ fn reach_all(size: Size, base: usize, work: &[u8], near: &[u64], ways: &mut [u64
 fn members(set: u64) -> usize
     ensures { result ≡ count word_stripes (Reached·has set) }
 {
-    let mut number = 0;
-    let mut rest = set;
-    while rest != 0 {
-        number += 1;
-        rest = rest & (rest - 1);
-    }
-    number
+    set.count_ones() as usize
 }
 
 // How many of the erased disks, of which there are `erased`, the survivors do not determine.
-pub fn undetermined_count(
-    size: Size,
-    base: usize,
-    work: &[u8],
-    near: &[u64],
-    erased: usize,
-) -> usize
-    requires numbered { Numbered size base }
-    requires near { Near (layout_of size base) (erasures work.now) near.now }
-    requires erased_value { erased ≡ count (disks size) (erasures work.now) }
-    ensures { result ≡ lost (layout_of size base) (erasures work.now) }
+pub fn undetermined_count(grid: Grid, work: &[u8], near: &[u64], erased: usize) -> usize
+    requires near { Near (layout_of grid.size grid.base) (erasures work.now) near.now }
+    requires erased_value { erased ≡ count (disks grid.size) (erasures work.now) }
+    ensures { result ≡ lost (layout_of grid.size grid.base) (erasures work.now) }
 {
     let mut ways = [0u64; reach::STRIPES];
-    let all = reach_all(size, base, work, near, &mut ways);
+    let all = reach_all(grid, work, near, &mut ways);
     let links = all.links;
     let closed = all.closed;
     erased - members((links | closed) ^ closed)

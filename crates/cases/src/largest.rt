@@ -10,10 +10,8 @@ fn put_every(bytes: &mut [u8], from: usize, to: usize, step: usize, value: u8)
     requires step_nonzero { 0 < step }
     requires step_bound { step < 65536 }
 {
-    let mut at = from;
-    while at < to {
+    for at in (from..to).step_by(step) {
         bytes[at] = value;
-        at += step;
     }
 }
 
@@ -29,13 +27,11 @@ fn spoil(array: &mut [u8], map: &[u8])
     requires array_len { length array.old ≡ 1048576 }
     requires map_len { length map.now ≡ 256 }
 {
-    let mut d = 0;
-    while d < 256 {
+    for d in 0..256 {
         if map[d] == 1 {
             let at = d * 4096;
-            put_every(array, at, at + 4096, 1, 165);
+            array[at..at + 4096].fill(165);
         }
-        d += 1;
     }
 }
 
@@ -66,7 +62,7 @@ pub fn run(rt: &impl Print) -> io::Result<()> {
     say::checked(rt, "check it", scrub::check(size, 4096, &array))?;
     let sealed = array;
     let mut map = [0u8; 256];
-    put_every(&mut map, 0, 16, 1, 1);
+    map[..16].fill(1);
     put_every(&mut map, 0, 256, 16, 1);
     spoil(&mut array, &map);
     let mut sheet = [0u8; 98];

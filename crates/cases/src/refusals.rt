@@ -36,7 +36,7 @@ fn losses(
     let rebuilt = rebuild::rebuild(size, block, array, block, map, &mut sheet, 31);
     say::outcome(rt, "rebuild", rebuilt)?;
     let followed = follow::follow(size, block, array, block, map, &sheet);
-    say::outcome(rt, "follow", followed)
+    say::status(rt, "follow", followed)
 }
 
 // Each call on an array.
@@ -141,7 +141,7 @@ fn map_byte(rt: &impl Print) -> io::Result<()> {
     let rebuilt = rebuild::rebuild(size, 1, &mut array, 1, &mut first, &mut sheet, 31);
     say::outcome(rt, "rebuild with 2 in the map", rebuilt)?;
     let followed = follow::follow(size, 1, &mut array, 1, &first, &sheet);
-    say::outcome(rt, "follow with 2 in the map", followed)
+    say::status(rt, "follow with 2 in the map", followed)
 }
 
 // What write answers for disks 2 and 3 of a size with 12 disks.

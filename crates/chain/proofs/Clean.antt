@@ -15,9 +15,11 @@ use Rattle.model.specs.Sheet.{narrow}
 use Rattle.model.specs.Chain.{chain_numbers, chain_refusal, record_number, on_chain, no_leftovers, clean_refusal, chain_entries}
 use Rattle.model.proofs.Chain.{clean-first, clean_exact, chain_clean}
 use Rattle.entries.specs.Listed.{listed}
-use Rattle.chain.specs.Read.{marked, in_order, chain_read}
-use Rattle.chain.specs.declared.Chain.{Chain}
-use Rattle.chain.specs.declared.Chain.TheVariants.{Records, Refused}
+use Rattle.std.specs.Prelude.{Result, Ok, Err}
+use Rattle.model.specs.declared.answer.Refusal.{Refusal}
+use Rattle.chain.specs.Read.{marked, in_order, chain_read, chain_of}
+use Rattle.chain.specs.Read.{Chain}
+use Rattle.chain.specs.Read.{Records, Refused}
 
 -- Where all marks are 0, nothing is marked.
 pub none-marked : (n k : ℕ) → marked (replicate n 0) k ≡ false
@@ -49,6 +51,13 @@ module _ (k : ℕ) (s : List ℕ) (r : Chain) (answer : r ≡ chain_read k s) wh
           let found : r ≡ Refused k = answer ∙ rw q in
           let clash : ◌≡◌ {A = ℕ} 0 1 = cc in
           absurd (omega arith)
+
+-- A sheet that is taken is answered by the number of its records.
+pub answered_ok : (s : List ℕ) (r : Result ℕ Refusal) → chain_of r ≡ chain_read (chain_refusal narrow s) s → chain_refusal narrow s ≡ 0
+    → r ≡ Ok (length (chain_entries narrow s))
+unfolding chain_of
+answered_ok s (Ok c) answer fits = ap Ok (by_records (chain_refusal narrow s) s _ answer c refl).1
+answered_ok s (Err e) answer fits = absurd ((by_number (chain_refusal narrow s) s _ answer _ refl).1 fits)
 
 -- What the answer promises, and what it promises of the list.
 abbrev pub Promised : List ℕ → Chain → List ℕ → Type 0

@@ -8,14 +8,12 @@ use Prim.Native.Nat.{ℕ, ◌+◌, ◌≤◌, ◌<◌}
 use native.Mathlib.Nat.{pos_of_ne-zero}
 use native.Mathlib.Omega.{arith}
 use borrow.Author.Tests.{eq-eqb, ne_eqb, eqb-true, eqb-false}
-use denote.Enum.Declared.{tag_of}
-use types.Run.{OneOf}
 use lib.Dec.{eqb}
 use lib.ListN.{length, get_or, set, length-append, length-set}
 use lib.Seq.{get_or-set_same, get_or-set_other}
 use Rattle.stripes.specs.System.{among}
 use Rattle.stripes.specs.Repair.{Entry}
-use Rattle.stripes.proofs.Fold.{by_cases}
+use Rattle.stripes.proofs.Fold.{by_cases, lt_or_le}
 use Rattle.model.specs.Sheet.{narrow, number_at, record_at}
 use Rattle.model.specs.Chain.{entry_at, chain_numbers, chain_refusal, entries_at, chain_entries}
 use Rattle.model.proofs.Visited.{among_snoc, entries_append, entries-length}
@@ -26,9 +24,8 @@ use Rattle.reader.specs.Found.{found_at}
 use Rattle.chain.specs.Read.{marked, chain_read}
 use Rattle.reader.specs.declared.Found.{Found}
 use Rattle.reader.specs.declared.Found.TheVariants.{Record, End, Outside}
-use Rattle.chain.specs.declared.Chain.{Chain}
-use Rattle.chain.specs.declared.Chain.TheVariants.{Records, Refused}
-use Rattle.reader.specs.contracts.Found as found
+use Rattle.chain.specs.Read.{Chain}
+use Rattle.chain.specs.Read.{Records, Refused}
 use Rattle.reader.proofs.Says.{Says, found_says}
 
 -- What the answer to a whole sheet promises of the list l and the marks m.
@@ -131,6 +128,10 @@ module _ {s l m : List ℕ} {number k : ℕ} (p : Listed s l m number k) where
   pub ring_read : (number ≡ 0 → ⊥) → number ≤ 32 → 32 ≤ k → chain_refusal narrow s ≡ 13
   ring_read some most all = let count = p.counted in walked_ring p.walked p.kind (omega arith) (pos_of_ne-zero some) most
 
+  -- So a record found after these 32 is reached twice.
+  pub ring_found : (d t n : ℕ) → Record d t n ≡ found_at s number → k ≡ 32 → chain_refusal narrow s ≡ 13
+  ring_found d t n e all = let (some, most, is, next) = found_says s number (Record d t n) p.long e in ring_read (λ z. omega arith) most (omega arith)
+
   -- Where no record was found, the number is not one of a record.
   pub none_found : (number ≡ 0 → ⊥) → number ≤ 32 → (f : Found) → f ≡ found_at s number
       → ((disk stripe following : ℕ) → f ≡ Record disk stripe following → ⊥) → ⊥
@@ -140,6 +141,11 @@ module _ {s l m : List ℕ} {number k : ℕ} (p : Listed s l m number k) where
       go (Record d t m) h w = h d t m refl
       go End h w = some w
       go Outside h w = omega arith
+
+  -- So it exceeds 32 where the chain has not ended.
+  pub outside_found : (number ≡ 0 → ⊥) → (f : Found) → f ≡ found_at s number
+      → ((disk stripe following : ℕ) → f ≡ Record disk stripe following → ⊥) → chain_refusal narrow s ≡ 10
+  outside_found some f e other = ⊎_elim number_outside (λ most. absurd (none_found some most f e other)) (lt_or_le 32 number)
 
 -- A sheet that is refused by a number is answered by it.
 pub answered : (s l m : List ℕ) (k : ℕ) → chain_refusal narrow s ≡ k → (k ≡ 0 → ⊥) → Promised s (Refused k) l m

@@ -14,8 +14,7 @@ use Rattle.stripes.specs.Erased.{erasures}
 use Rattle.stripes.specs.Repair.{Entry}
 use Rattle.stripes.specs.Cycle.{partner}
 use Rattle.stripes.proofs.Fold.{and_both, lt_or_le, lowest_is, lowest_found}
-use Rattle.tally.specs.Tally.{Table, next_erased}
-use Rattle.tally.proofs.Scanned.{next_erased_lem, next_passed}
+use Rattle.tally.specs.Tally.{Table, Passed}
 use Rattle.tally.proofs.Counted.{erased-inside}
 
 -- ---- the two stripes of a disk
@@ -48,10 +47,9 @@ module _ (s a b : ℕ) where
 unfoldable pub is_other : Layout → List ℕ → Entry → ℕ → Bool
 is_other L set r i = erasures set i && (on L i r.stripe && not (eqb i r.disk))
 
--- The search has come to disk n: a disk of the set, or the end.
-pub record Searched (L : Layout) (set : List ℕ) (r : Entry) (n : ℕ) : Type 0 where
-  pub erased : n < length set → erasures set n ≡ true
-  pub none : (i : ℕ) → i < n → is_other L set r i ≡ false
+-- No disk below n is one.
+abbrev pub NoOther : Layout → List ℕ → Entry → ℕ → Type 0
+NoOther L set r n = (i : ℕ) → i < n → is_other L set r i ≡ false
 
 module _ (L : Layout) (set : List ℕ) (r : Entry) where
   none-absent : (i : ℕ) → erasures set i ≡ false → is_other L set r i ≡ false
@@ -66,24 +64,19 @@ module _ (L : Layout) (set : List ℕ) (r : Entry) where
   unfolding is_other
   none_elsewhere i e = rw (e, and-false)
 
-  -- It goes on with the next disk of the set.
-  pub search_next : (from : ℕ) → from ≤ length set → ((i : ℕ) → i < from → is_other L set r i ≡ false)
-      → {n : ℕ} → n ≡ next_erased set from → Searched L set r n
-  search_next from room none e =
-      record {
-        erased = next_erased_lem set from e;
-        none = λ i b. ⊎_elim (λ l. none i l) (λ l. none-absent i ((next_passed set from e room).none i l b)) (lt_or_le i from);
-      }
+  -- The search passes over disks that are not of the set.
+  pub other_over : {from n : ℕ} → NoOther L set r from → Passed set from n → NoOther L set r n
+  other_over {from} none p i b = ⊎_elim (λ l. none i l) (λ l. none-absent i (p.none i l b)) (lt_or_le i from)
 
-  module _ {stripes : List ℕ} (t : Table L set stripes) {n : ℕ} (p : Searched L set r n) where
-    pub partner_found : n < length set → (n ≡ r.disk → ⊥) → on L n r.stripe ≡ true → n ≡ partner L (erasures set) r
+  module _ {stripes : List ℕ} (t : Table L set stripes) {n : ℕ} (none : NoOther L set r n) where
+    pub partner_found : erasures set n ≡ true → (n ≡ r.disk → ⊥) → on L n r.stripe ≡ true → n ≡ partner L (erasures set) r
     unfolding partner is_other
-    partner_found l apart lies =
-        lowest_found L.disks (is_other L set r) n (erased-inside t n (p.erased l)) p.none
-        (and_both (p.erased l) (and_both lies (ap not (ne_eqb n r.disk apart))))
+    partner_found erased apart lies =
+        lowest_found L.disks (is_other L set r) n (erased-inside t n erased) none
+        (and_both erased (and_both lies (ap not (ne_eqb n r.disk apart))))
 
     -- It does not miss one that is there.
     pub partner_missed : partner L (erasures set) r < L.disks → length set ≤ n → ⊥
     unfolding partner is_other
     partner_missed some l =
-        true≢false (sym ((lowest_is L.disks (is_other L set r)).found some) ∙ p.none _ (let fits = t.disks_fit in omega arith))
+        true≢false (sym ((lowest_is L.disks (is_other L set r)).found some) ∙ none _ (let fits = t.disks_fit in omega arith))

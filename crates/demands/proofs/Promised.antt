@@ -22,12 +22,11 @@ use Rattle.model.specs.Rebuild.{rebuild_refusal, rebuild_turns}
 use Rattle.model.specs.Edition.{superparity}
 use Rattle.model.specs.Demand3.{Results, Demand3}
 use Rattle.model.specs.declared.Size.{Size}
-use Rattle.model.specs.declared.Outcome.{Outcome}
+use Rattle.model.specs.Outcome.{Outcome}
 use Rattle.model.proofs.Accept.{BuffersFit, rebuild_fits, buffers_fit}
 use Rattle.model.proofs.Demand3.{Sheets, demand3}
 use Rattle.model.specs.Series.{turn_bytes, start, turns_in, Written}
-use Rattle.series.specs.Total.{total_of}
-use Rattle.series.specs.declared.Turns.{Turns}
+use Rattle.series.specs.Total.{Total, total_of}
 use Rattle.series.proofs.Ends.{positions_taken, positions-bound}
 
 -- Parts of c bytes, those of the sheets of p positions, of a buffer that is long enough.
@@ -104,7 +103,7 @@ module _ (z : Size) (B w k : ℕ) (a m d s : List ℕ) (small : Bytes a) (ok : r
       (λ fine. rw length_is (enough fine)) (start a m))
 
   -- Of what the calls give, where a block has n sectors.
-  pub promised : (planned : Outcome) (draft : List ℕ) (r : Turns) (b m₂ s₂ : List ℕ)
+  pub promised : (planned : Outcome) (draft : List ℕ) (r : Total) (b m₂ s₂ : List ℕ)
       → r ≡ total_of (start a m) all → b ≡ (last_of (start a m) all).array → m₂ ≡ (last_of (start a m) all).map → Written bytes s s₂ all
       → (n : ℕ) → n ≡ B / w → planned ≡ plan_outcome z n m d → draft ≡ plan_sheets z n m d
       → refusal (plan_tests z n m (length d)) ≡ 0 → Enough n
@@ -119,7 +118,7 @@ module _ (z : Size) (B w k : ℕ) (a m d s : List ℕ) (small : Bytes a) (ok : r
         sheets = parts_in bytes r.turns s₂;
       })
   promised planned draft r b m₂ s₂ e array map written n cut =
-      let sheets = ap (λ (t : Turns). parts_in bytes t.turns s₂) e ∙ written.sheets in
+      let sheets = ap (λ (t : Total). parts_in bytes t.turns s₂) e ∙ written.sheets in
       subst
       (λ (n : ℕ).
       planned ≡ plan_outcome z n m d → draft ≡ plan_sheets z n m d → refusal (plan_tests z n m (length d)) ≡ 0 → Enough n

@@ -27,34 +27,43 @@ ghost use Rattle.model.specs.Demand3.{Planned, Demand3, Restorable, TurnKeeps};
 ghost use Rattle.model.specs.Turn.{Turn, made_by};
 ghost use Rattle.model.specs.Single.{plan_whole, plan_whole_sheet, PlanAlone, rebuild_whole, follow_whole, follow_whole_array, save_whole, save_whole_array, can_look_whole};
 ghost use Rattle.model.specs.Series.{turn_bytes, turns_in, end_of, Written};
+ghost use Rattle.model.specs.Answers.{status_of, checked_of, outcome_of, repairs_of, saving_of};
 
-use model::{Checked, Outcome, Saving, Size};
+use model::Size;
+use model::answer::Verdict;
+use refusal::Refusal;
 use series::Turns;
 
 // Seals an array. Where it is not refused, the array has exactly the parities of the public description.
-pub fn seal_array(size: Size, block: usize, array: &mut [u8]) -> u32
-    ensures status { result ≡ seal_status size block array.old }
+pub fn seal_array(size: Size, block: usize, array: &mut [u8]) -> Result<(), Refusal>
+    ensures status { status_of result ≡ seal_status size block array.old }
     ensures array { array.new ≡ seal_array size block array.old }
-    ensures demand2 { result ≡ 0 → SealDemand size block array.old array.new }
+    ensures demand2 { status_of result ≡ 0 → SealDemand size block array.old array.new }
 {
     seal::seal(size, block, array)
 }
 
 // Checks an array. Where it is not refused, the answer is Sealed exactly if all parity equations hold.
-pub fn check_array(size: Size, block: usize, array: &[u8]) -> Checked
-    ensures answer { result ≡ checked size block array.now }
+pub fn check_array(size: Size, block: usize, array: &[u8]) -> Result<Option<usize>, Refusal>
+    ensures answer { checked_of result ≡ checked size block array.now }
     ensures demand2 { refusal (array_tests size block (length array.now)) ≡ 0
-        → CheckDemand size block array.now (check_status result) }
+        → CheckDemand size block array.now (check_status (checked_of result)) }
 {
     scrub::check(size, block, array)
 }
 
 // Writes a data disk. Where it is not refused, every stripe's sum stays, and a sealed array becomes what sealing the changed
 // data would give.
-pub fn write_block(size: Size, block: usize, array: &mut [u8], disk: usize, data: &[u8]) -> u32
-    ensures status { result ≡ write_status size block array.old disk «data».now }
+pub fn write_block(
+    size: Size,
+    block: usize,
+    array: &mut [u8],
+    disk: usize,
+    data: &[u8],
+) -> Result<(), Refusal>
+    ensures status { status_of result ≡ write_status size block array.old disk «data».now }
     ensures array { array.new ≡ write_array size block array.old disk «data».now }
-    ensures demand2 { result ≡ 0 → WriteDemand size block array.old disk «data».now array.new }
+    ensures demand2 { status_of result ≡ 0 → WriteDemand size block array.old disk «data».now array.new }
 {
     write::write(size, block, array, disk, data)
 }
@@ -87,7 +96,7 @@ pub fn look_block<'a>(
 // What plan answers, and what rebuild's turns come to.
 #[derive(Clone, Copy)]
 pub struct Answers {
-    pub planned: Outcome,
+    pub planned: Result<Verdict, Refusal>,
     pub rebuilt: Turns,
 }
 
@@ -107,21 +116,18 @@ pub fn plan_and_rebuild(
     sheets: &mut [u8],
     limit: usize,
 ) -> Answers
-    ensures planned { result.planned ≡ plan_outcome size sectors map.old draft.old }
+    ensures planned { outcome_of result.planned ≡ plan_outcome size sectors map.old draft.old }
     ensures draft { draft.new ≡ plan_sheets size sectors map.old draft.old }
-    ensures rebuilt { result.rebuilt
-        ≡ record {
-          last = (end_of size block sector limit sheets.old array.old map.old).answer;
-          turns = length (turns_in size block sector limit sheets.old array.old map.old);
-          made = made_by (turns_in size block sector limit sheets.old array.old map.old);
-          left = 0;
-        } }
+    ensures rebuilt { (outcome_of result.rebuilt.last ≡ (end_of size block sector limit sheets.old array.old map.old).answer)
+        × (result.rebuilt.turns ≡ length (turns_in size block sector limit sheets.old array.old map.old))
+        × (result.rebuilt.made ≡ made_by (turns_in size block sector limit sheets.old array.old map.old))
+        × (result.rebuilt.left ≡ 0) }
     ensures array { array.new ≡ (end_of size block sector limit sheets.old array.old map.old).array }
     ensures map { map.new ≡ (end_of size block sector limit sheets.old array.old map.old).map }
     ensures sheets { Written (turn_bytes block sector) sheets.old sheets.new
         (turns_in size block sector limit sheets.old array.old map.old) }
     ensures plan { refusal (plan_tests size sectors map.old (length draft.old)) ≡ 0
-        → Planned sectors (superparity size narrow.base) narrow (erasures map.old) result.planned draft.new }
+        → Planned sectors (superparity size narrow.base) narrow (erasures map.old) (outcome_of result.planned) draft.new }
     ensures demand3 { sectors ≡ block / sector
         → refusal (plan_tests size sectors map.old (length draft.old)) ≡ 0
         → rebuild_refusal size block sector array.old map.old (take (turn_bytes block sector) sheets.old) limit ≡ 0
@@ -129,19 +135,19 @@ pub fn plan_and_rebuild(
         → count (map_bytes size sectors) (erasures map.old) ≤ length sheets.old / turn_bytes block sector * limit)
         → Demand3 sectors (superparity size narrow.base) narrow sector limit array.old map.old
         (record {
-          planned = result.planned;
+          planned = outcome_of result.planned;
           plan_sheets = draft.new;
-          last = result.rebuilt.last;
+          last = outcome_of result.rebuilt.last;
           made = result.rebuilt.made;
           array = array.new;
           map = map.new;
           sheets = parts_in (turn_bytes block sector) result.rebuilt.turns sheets.new;
         }) }
     ensures single { sectors ≡ 1
-        → (result.planned ≡ plan_whole size map.old draft.old)
+        → (outcome_of result.planned ≡ plan_whole size map.old draft.old)
         × (draft.new ≡ plan_whole_sheet size map.old draft.old) }
     ensures alone { refusal (plan_tests size sectors map.old (length draft.old)) ≡ 0
-        → PlanAlone sectors (sheet_layout size) narrow (erasures map.old) result.planned draft.new }
+        → PlanAlone sectors (sheet_layout size) narrow (erasures map.old) (outcome_of result.planned) draft.new }
     ensures read { refusal (plan_tests size sectors map.old (length draft.old)) ≡ 0
         → fatal (sectored sectors (sheet_layout size)) (erasures map.old) ≡ false
         → Reads narrow sectors draft.new (sector_repairs sectors (sheet_layout size) (erasures map.old))
@@ -149,10 +155,7 @@ pub fn plan_and_rebuild(
 {
     let planned = plan::plan(size, sectors, map, draft);
     let rebuilt = series::rebuild_in_turns(size, block, array, sector, map, sheets, limit);
-    Answers {
-        planned: planned,
-        rebuilt: rebuilt,
-    }
+    Answers { planned, rebuilt }
 }
 
 // Makes one turn. Whatever the limits of other turns are, it makes the next repairs of plan's order and leaves a loss that is restorable again,
@@ -166,22 +169,22 @@ pub fn rebuild_once(
     map: &mut [u8],
     sheets: &mut [u8],
     limit: usize,
-) -> Outcome
-    ensures outcome { result ≡ (rebuild_turn size block sector array.old map.old sheets.old limit).answer }
+) -> Result<Verdict, Refusal>
+    ensures outcome { outcome_of result ≡ (rebuild_turn size block sector array.old map.old sheets.old limit).answer }
     ensures array { array.new ≡ (rebuild_turn size block sector array.old map.old sheets.old limit).array }
     ensures map { map.new ≡ (rebuild_turn size block sector array.old map.old sheets.old limit).map }
     ensures sheets { sheets.new ≡ (rebuild_turn size block sector array.old map.old sheets.old limit).sheets }
     ensures keeps { rebuild_refusal size block sector array.old map.old sheets.old limit ≡ 0
         → (b : List ℕ) → Restorable (sectored (block / sector) (sheet_layout size)) sector b array.old map.old
         → TurnKeeps (block / sector) (sheet_layout size) narrow sector limit b map.old
-        (record { answer = result; array = array.new; map = map.new; sheets = sheets.new }) }
+        (record { answer = outcome_of result; array = array.new; map = map.new; sheets = sheets.new }) }
     ensures single { sector ≡ block
-        → ◌≡◌ {A = Turn} (record { answer = result; array = array.new; map = map.new; sheets = sheets.new })
+        → ◌≡◌ {A = Turn} (record { answer = outcome_of result; array = array.new; map = map.new; sheets = sheets.new })
         (rebuild_whole size block array.old map.old sheets.old limit) }
-    ensures read { outcome_status result ≡ 0
+    ensures read { outcome_status (outcome_of result) ≡ 0
         → Reads narrow (block / sector) sheets.new
         (take limit (sector_repairs (block / sector) (sheet_layout size) (erasures map.old))) }
-    ensures alone { outcome_status result ≡ 0 → (p : ℕ) → p < block / sector
+    ensures alone { outcome_status (outcome_of result) ≡ 0 → (p : ℕ) → p < block / sector
         → SameAt size block sector p array.new
         (rebuilt (sheet_layout size) (stretch_at block sector p) array.old
         (of_position (block / sector) p (take limit (sector_repairs (block / sector) (sheet_layout size) (erasures map.old))))) }
@@ -192,8 +195,8 @@ pub fn rebuild_once(
 // What plan answers for a loss, and what the plan for one disk of it does.
 #[derive(Clone, Copy)]
 pub struct Plans {
-    pub planned: Outcome,
-    pub wanted: Outcome,
+    pub planned: Result<Verdict, Refusal>,
+    pub wanted: Result<Verdict, Refusal>,
 }
 
 // Plans the repair of a loss at one position into one sheet, the draft, and that of one wanted disk into another. Where neither is refused before 6, the
@@ -206,26 +209,23 @@ pub fn plan_and_plan_disk(
     sheet: &mut [u8],
     disk: usize,
 ) -> Plans
-    ensures planned { result.planned ≡ plan_outcome size 1 map.now draft.old }
+    ensures planned { outcome_of result.planned ≡ plan_outcome size 1 map.now draft.old }
     ensures draft { draft.new ≡ plan_sheets size 1 map.now draft.old }
-    ensures wanted { result.wanted ≡ plan_disk_outcome size map.now sheet.old disk }
+    ensures wanted { outcome_of result.wanted ≡ plan_disk_outcome size map.now sheet.old disk }
     ensures sheet { sheet.new ≡ plan_disk_sheet size map.now sheet.old disk }
     ensures demand { refusal (plan_tests size 1 map.now (length draft.old)) ≡ 0
         → refusal (plan_disk_tests size map.now (length sheet.old) disk) ≡ 0
-        → DiskDemand (superparity size narrow.base) narrow (erasures map.now) disk result.planned draft.new result.wanted
+        → DiskDemand (superparity size narrow.base) narrow (erasures map.now) disk (outcome_of result.planned) draft.new (outcome_of result.wanted)
         sheet.new }
-    ensures tidy { outcome_status result.wanted ≡ 0 → Tidy narrow sheet.new × (clean_refusal narrow sheet.new ≡ 0) }
-    ensures look { outcome_status result.wanted ≡ 0 → (B : ℕ) (a : List ℕ) → refusal (array_tests size B (length a)) ≡ 0
+    ensures tidy { outcome_status (outcome_of result.wanted) ≡ 0 → Tidy narrow sheet.new × (clean_refusal narrow sheet.new ≡ 0) }
+    ensures look { outcome_status (outcome_of result.wanted) ≡ 0 → (B : ℕ) (a : List ℕ) → refusal (array_tests size B (length a)) ≡ 0
         → can_look size B B (rebuilt (sheet_layout size) (whole B) a (chain_entries narrow sheet.new))
         (map_after map.now (chain_entries narrow sheet.new)) disk
         ≡ true }
 {
     let planned = plan::plan(size, 1, map, draft);
     let wanted = wanted::plan_disk(size, map, sheet, disk);
-    Plans {
-        planned: planned,
-        wanted: wanted,
-    }
+    Plans { planned, wanted }
 }
 
 // Follows sheets from elsewhere. With usable sheets it answers what rebuild would in one turn and leaves the same array, whatever
@@ -238,27 +238,27 @@ pub fn follow_sheets(
     sector: usize,
     map: &[u8],
     sheets: &[u8],
-) -> Outcome
-    ensures outcome { result ≡ follow_outcome size block sector array.old map.now sheets.now }
+) -> Result<usize, Refusal>
+    ensures outcome { repairs_of result ≡ follow_outcome size block sector array.old map.now sheets.now }
     ensures array { array.new ≡ follow_array size block sector array.old map.now sheets.now }
     ensures rebuilt { Usable size (block / sector) map.now sheets.now
         → (k : ℕ) → 0 < k → count (map_bytes size (block / sector)) (erasures map.now) ≤ k
-        → (result ≡ (rebuild_turn size block sector array.old map.now sheets.now k).answer)
+        → (repairs_of result ≡ (rebuild_turn size block sector array.old map.now sheets.now k).answer)
         × (array.new ≡ (rebuild_turn size block sector array.old map.now sheets.now k).array) }
     ensures contradicted { buffer_refusal size block sector array.old map.now sheets.now ≡ 0
-        → ((outcome_status result ≡ 7)
+        → ((outcome_status (repairs_of result) ≡ 7)
         ↔ (Usable size (block / sector) map.now sheets.now
         × (Belongs (sectored (block / sector) (sheet_layout size)) (whole sector) (erasures map.now) array.old → ⊥))) }
     ensures leftovers { buffer_refusal size block sector array.old map.now sheets.now ≡ 0
-        → ((outcome_status result ≡ 14)
+        → ((outcome_status (repairs_of result) ≡ 14)
         ↔ (((p : ℕ) → p < block / sector → chain_refusal narrow (sheet_at narrow p sheets.now) ≡ 0)
         × ((p : ℕ) × (p < block / sector) × ((i : ℕ) × Leftover narrow (sheet_at narrow p sheets.now) i)))) }
     ensures kept { fatal (sectored (block / sector) (sheet_layout size)) (erasures map.now) ≡ true
         → array.new ≡ array.old }
     ensures single { sector ≡ block
-        → (result ≡ follow_whole size block array.old map.now sheets.now)
+        → (repairs_of result ≡ follow_whole size block array.old map.now sheets.now)
         × (array.new ≡ follow_whole_array size block array.old map.now sheets.now) }
-    ensures alone { outcome_status result ≡ 0 → (p : ℕ) → p < block / sector
+    ensures alone { outcome_status (repairs_of result) ≡ 0 → (p : ℕ) → p < block / sector
         → SameAt size block sector p array.new
         (rebuilt (sheet_layout size) (stretch_at block sector p) array.old (chain_entries narrow (sheet_at narrow p sheets.now))) }
 {
@@ -268,18 +268,18 @@ pub fn follow_sheets(
 // What tidy answers for two sheets.
 #[derive(Clone, Copy)]
 pub struct Tidied {
-    pub one: u32,
-    pub other: u32,
+    pub one: Result<(), Refusal>,
+    pub other: Result<(), Refusal>,
 }
 
 // Tidies two sheets. Each that is taken becomes what is asked for, and where both are taken, they become the same exactly if they
 // listed the same disks and stripes in the same order.
 pub fn tidy_sheets(one: &mut [u8], other: &mut [u8]) -> Tidied
-    ensures statuses { (result.one ≡ tidy_status narrow one.old) × (result.other ≡ tidy_status narrow other.old) }
+    ensures statuses { (status_of result.one ≡ tidy_status narrow one.old) × (status_of result.other ≡ tidy_status narrow other.old) }
     ensures sheets { (one.new ≡ tidy_sheet narrow one.old) × (other.new ≡ tidy_sheet narrow other.old) }
-    ensures demand { (result.one ≡ 0 → TidyDemand narrow one.old one.new)
-        × (result.other ≡ 0 → TidyDemand narrow other.old other.new) }
-    ensures same { result.one ≡ 0 → result.other ≡ 0
+    ensures demand { (status_of result.one ≡ 0 → TidyDemand narrow one.old one.new)
+        × (status_of result.other ≡ 0 → TidyDemand narrow other.old other.new) }
+    ensures same { status_of result.one ≡ 0 → status_of result.other ≡ 0
         → ((one.new ≡ other.new) ↔ (chain_entries narrow one.old ≡ chain_entries narrow other.old)) }
 {
     let first = tidy::tidy(one);
@@ -295,11 +295,9 @@ fn tidy_each(sheets: &mut [u8])
     ensures { sheets.new ≡ tidy_sheets narrow sheets.old }
 {
     let number = sheets.len() / sheet::BYTES;
-    let mut p = 0;
-    while p < number {
+    for p in 0..number {
         let at = sheet::BYTES * p;
-        tidy::tidy(&mut sheets[at..at + sheet::BYTES]);
-        p += 1;
+        let _ = tidy::tidy(&mut sheets[at..at + sheet::BYTES]);
     }
 }
 
@@ -311,9 +309,9 @@ pub fn tidy_and_follow(
     sector: usize,
     map: &[u8],
     sheets: &mut [u8],
-) -> Outcome
+) -> Result<usize, Refusal>
     ensures sheets { sheets.new ≡ tidy_sheets narrow sheets.old }
-    ensures outcome { result ≡ list_outcome (loose_status size block sector array.old map.now sheets.old)
+    ensures outcome { repairs_of result ≡ list_outcome (loose_status size block sector array.old map.now sheets.old)
         (sheets_entries narrow (block / sector) sheets.old) }
     ensures array { array.new
         ≡ list_array (sectored (block / sector) (sheet_layout size)) (whole sector) array.old map.now
@@ -327,19 +325,25 @@ pub fn tidy_and_follow(
 
 // Saves what the survivors determine. Where the refusals before 7 let the input through, the promise of paper 02 holds; where the loss is
 // not fatal, the answer and the array are those of rebuild in one turn, refusals included. Each position is left as saving it alone leaves it.
-pub fn save_sectors(size: Size, block: usize, array: &mut [u8], sector: usize, map: &[u8]) -> Saving
-    ensures answer { result ≡ save_answer size block sector array.old map.now }
+pub fn save_sectors(
+    size: Size,
+    block: usize,
+    array: &mut [u8],
+    sector: usize,
+    map: &[u8],
+) -> Result<usize, Refusal>
+    ensures answer { saving_of result ≡ save_answer size block sector array.old map.now }
     ensures array { array.new ≡ save_array size block sector array.old map.now }
     ensures demand { refusal (map_tests size block sector (length array.old) map.now) ≡ 0
-        → SaveDemand (superparity size (column_base size)) (block / sector) sector array.old map.now result array.new }
+        → SaveDemand (superparity size (column_base size)) (block / sector) sector array.old map.now (saving_of result) array.new }
     ensures rebuilt { fatal (save_layout size (block / sector)) (erasures map.now) ≡ false
         → (sheets : List ℕ) → length sheets ≡ sheets_bytes narrow (block / sector)
         → (k : ℕ) → 0 < k → count (map_bytes size (block / sector)) (erasures map.now) ≤ k
-        → AsTurn result array.new (rebuild_turn size block sector array.old map.now sheets k) }
+        → AsTurn (saving_of result) array.new (rebuild_turn size block sector array.old map.now sheets k) }
     ensures single { sector ≡ block
-        → (result ≡ save_whole size block array.old map.now)
+        → (saving_of result ≡ save_whole size block array.old map.now)
         × (array.new ≡ save_whole_array size block array.old map.now) }
-    ensures alone { saving_status result ≡ 0 → (p : ℕ) → p < block / sector
+    ensures alone { saving_status (saving_of result) ≡ 0 → (p : ℕ) → p < block / sector
         → SameAt size block sector p array.new
         (saved (layout_of size (column_base size)) (stretch_at block sector p) array.old
         (at_position (block / sector) p (erasures map.now))) }

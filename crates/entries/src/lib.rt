@@ -37,8 +37,5 @@ pub fn stripe_of(list: &[u32], k: usize) -> usize
 pub fn at_most(count: usize, limit: usize) -> usize
     ensures { result ≡ min count limit }
 {
-    if limit < count {
-        return limit;
-    }
-    count
+    count.min(limit)
 }

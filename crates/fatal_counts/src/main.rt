@@ -1,9 +1,8 @@
 // Case 12: the fatal losses of three and of four disks, counted for 2 to 4 data rows and columns.
 #![tactic(auto)]
 
-ghost use Rattle.std.specs.Prelude.{◌≤◌};
-
-use model::{Outcome, Size};
+use model::Size;
+use model::answer::Verdict;
 use std::io;
 
 // Four disks.
@@ -58,32 +57,20 @@ fn put_all(map: &mut [u8], set: Four, value: u8) {
     put(map, set.d, value);
 }
 
-// 1 if the loss is fatal, else 0.
-fn fatal(size: Size, map: &[u8]) -> usize
-    ensures { result ≤ 1 }
-{
+// The loss is fatal.
+fn fatal(size: Size, map: &[u8]) -> bool {
     let mut sheet = [0u8; 98];
-    let answer = plan::plan(size, 1, map, &mut sheet);
-    let Outcome::Fatal {
-        lost: _lost,
-        position: _position,
-    } = answer
-    else {
-        return 0;
-    };
-    1
+    matches!(
+        plan::plan(size, 1, map, &mut sheet),
+        Ok(Verdict::Fatal { .. })
+    )
 }
 
-// 1 if the digits of k are so many disks, and their loss is fatal, else 0. The map is clear before and after.
-fn fatal_set(size: Size, map: &mut [u8], k: usize, number: usize) -> usize
-    ensures { result ≤ 1 }
-{
+// The digits of k are so many disks, and their loss is fatal. The map is clear before and after.
+fn fatal_set(size: Size, map: &mut [u8], k: usize, number: usize) -> bool {
     let set = four_of(k);
-    if set.d >= map.len() {
-        return 0;
-    }
-    if number_of(set) != number {
-        return 0;
+    if set.d >= map.len() || number_of(set) != number {
+        return false;
     }
     put_all(map, set, 1);
     let found = fatal(size, map);
@@ -94,10 +81,10 @@ fn fatal_set(size: Size, map: &mut [u8], k: usize, number: usize) -> usize
 // How many losses of so many disks are fatal.
 fn fatal_sets(size: Size, map: &mut [u8], number: usize) -> usize {
     let mut found = 0;
-    let mut k = 0;
-    while k < 1048576 {
-        found += fatal_set(size, map, k, number);
-        k += 1;
+    for k in 0..1048576 {
+        if fatal_set(size, map, k, number) {
+            found += 1;
+        }
     }
     found
 }

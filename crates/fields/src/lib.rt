@@ -15,7 +15,7 @@ struct Fields {
     next: usize,
 }
 
-// The record with this number, all zero where there is none.
+// The record with this number, all zero where there is none: C gets 0 there.
 fn record_at(sheet: &[u8; 98], number: usize) -> Fields
     ensures disk { result.disk ≡ if_record narrow number (entry_at narrow sheet.now number).disk }
     ensures stripe { result.stripe ≡ if_record narrow number (entry_at narrow sheet.now number).stripe }
@@ -23,13 +23,8 @@ fn record_at(sheet: &[u8; 98], number: usize) -> Fields
 {
     let found = reader::record_at(sheet, number);
     match found {
-        Found::Record(disk, stripe, next) => Fields { disk, stripe, next },
-        Found::End => Fields {
-            disk: 0,
-            stripe: 0,
-            next: 0,
-        },
-        Found::Outside => Fields {
+        Found::Record { disk, stripe, next } => Fields { disk, stripe, next },
+        Found::End | Found::Outside => Fields {
             disk: 0,
             stripe: 0,
             next: 0,
@@ -42,8 +37,7 @@ fn byte(sheet: &[u8; 98], place: usize) -> usize
     requires { place < 98 }
     ensures { result ≡ get_or sheet.now place 0 }
 {
-    let bytes: &[u8] = sheet;
-    bytes[place] as usize
+    usize::from(sheet[place])
 }
 
 // The kind of a sheet.

@@ -18,14 +18,14 @@ use Rattle.model.specs.Plan.{sheet_tests}
 use Rattle.model.specs.Rebuild.{buffer_tests, buffer_refusal}
 use Rattle.model.specs.Follow.{sheets_entries, sheets_tests, follow_outcome, follow_array}
 use Rattle.model.specs.declared.Size.{Size}
-use Rattle.model.specs.declared.Outcome.{Outcome}
-use Rattle.model.specs.declared.Outcome.TheVariants.{Repairs, Refused}
+use Rattle.model.specs.Outcome.{Outcome}
+use Rattle.model.specs.Outcome.{Repairs, Refused}
 use Rattle.model.proofs.Refusal.{refused_first, sector_fits_lem, sector_passed}
 use Rattle.model.proofs.Chain.{clean_exact}
 use Rattle.model.proofs.SheetRow.{sheets-accepted}
 use Rattle.model.proofs.Follow.{sectors, listed, sheets_refusal, Gives, follow_given, follow_first, follow_listed, follow_unclean, follow_eleven}
-use Rattle.chain.specs.declared.Chain.{Chain}
-use Rattle.chain.specs.declared.Chain.TheVariants.{Records, Refused as Turned}
+use Rattle.chain.specs.Read.{Chain}
+use Rattle.chain.specs.Read.{Records, Refused as Turned}
 use Rattle.restore.specs.Restored.{fits, restored}
 use Rattle.follow.specs.Judged.{chains_read}
 

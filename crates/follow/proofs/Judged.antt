@@ -21,8 +21,8 @@ use Rattle.model.specs.Follow.{sheets_entries, sheets_tests}
 use Rattle.model.proofs.Chain.{clean_exact, chain_few}
 use Rattle.model.proofs.SheetRow.{no_sheets, sheets-next}
 use Rattle.chain.specs.Read.{chain_read}
-use Rattle.chain.specs.declared.Chain.{Chain}
-use Rattle.chain.specs.declared.Chain.TheVariants.{Records, Refused}
+use Rattle.chain.specs.Read.{Chain}
+use Rattle.chain.specs.Read.{Records, Refused}
 use Rattle.chain.proofs.Clean.{by_number, by_records}
 use Rattle.follow.specs.Judged.{chains_read}
 

@@ -4,8 +4,8 @@ use Rattle.std.specs.Prelude.{cond, List, ℕ, eqb, length}
 use Rattle.model.specs.Refusal.{refusal}
 use Rattle.model.specs.Sheet.{narrow}
 use Rattle.model.specs.Follow.{sheets_tests, sheets_entries}
-use Rattle.chain.specs.declared.Chain.{Chain}
-use Rattle.chain.specs.declared.Chain.TheVariants.{Records, Refused}
+use Rattle.chain.specs.Read.{Chain}
+use Rattle.chain.specs.Read.{Records, Refused}
 
 -- The answer for n sheets: how many repairs they list, or the refusal.
 unfoldable pub chains_read : (n : ℕ) → List ℕ → Chain

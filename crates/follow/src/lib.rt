@@ -3,15 +3,17 @@
 
 ghost use Rattle.std.specs.Prelude.{◌≡◌};
 ghost use Rattle.model.specs.Follow.{follow_outcome, follow_array};
+ghost use Rattle.model.specs.Answers.{repairs_of};
 
 mod judge;
 
-use chain::Chain;
-use model::{Outcome, Size};
+use layout::stripe::Grid;
+use model::Size;
+use refusal::Refusal;
 
 // Restores the erased sectors by the repairs that the sheets list. The sheets of all positions are judged before any block is changed, by
 // each number before the next. Where the survivors contradict each other, the erased sectors become zero. The map and the sheets are only
-// read.
+// read. The answer is how many repairs they list.
 pub fn follow(
     size: Size,
     block: usize,
@@ -19,29 +21,23 @@ pub fn follow(
     sector: usize,
     map: &[u8],
     sheets: &[u8],
-) -> Outcome
-    ensures outcome { result ≡ follow_outcome size block sector array.old map.now sheets.now }
+) -> Result<usize, Refusal>
+    ensures outcome { repairs_of result ≡ follow_outcome size block sector array.old map.now sheets.now }
     ensures array { array.new ≡ follow_array size block sector array.old map.now sheets.now }
 {
-    let of_array = refusal::sector_refusal(size, block, array.len(), sector);
-    if of_array != 0 {
-        return Outcome::Refused(of_array);
-    }
+    refusal::test_sectors(size, block, array.len(), sector)?;
     let sectors = block / sector;
-    let of_sheets = refusal::sheet_refusal(size, sectors, map, sheets.len());
-    if of_sheets != 0 {
-        return Outcome::Refused(of_sheets);
-    }
-    let chains = judge::read_all(sectors, sheets);
-    let count = match chains {
-        Chain::Records(count) => count,
-        Chain::Refused(number) => return Outcome::Refused(number),
+    refusal::test_sheets(size, sectors, map, sheets.len())?;
+    let count = judge::read_all(sectors, sheets)?;
+    let grid = Grid {
+        size,
+        base: sheet::BASE,
     };
-    if !judge::all_clear(size, sheet::BASE, sectors, map, sheets) {
-        return Outcome::Refused(11);
+    if !judge::all_clear(grid, sectors, map, sheets) {
+        return Err(Refusal::Repairs);
     }
-    if !restore::restore(size, sheet::BASE, block, sector, array, map, sheets) {
-        return Outcome::Refused(7);
+    if !restore::restore(grid, block, sector, array, map, sheets) {
+        return Err(Refusal::Survivors);
     }
-    Outcome::Repairs(count)
+    Ok(count)
 }

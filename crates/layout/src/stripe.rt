@@ -9,45 +9,19 @@ use model::Size;
 // The stripe of column 0 where no sheet gives it: column c is stripe COLUMN_BASE + c in what check answers.
 pub const COLUMN_BASE: usize = 16;
 
+// A grid of disks with its stripes numbered: the rows from 0 on, the columns from `base` on.
+#[derive(Clone, Copy)]
+pub struct Grid {
+    pub size: Size,
+    pub base: usize,
+    ghost numbered: { Numbered size base },
+}
+
 // The two stripes of a disk.
 #[derive(Clone, Copy)]
 pub struct Pair {
     pub low: usize,
     pub high: usize,
-}
-
-pub fn stripes_of(size: Size, base: usize, disk: usize) -> Pair
-    requires numbered { Numbered size base }
-    requires disk_bound { disk < disks size }
-    ensures { (layout_of size base).through disk ≡ result.low ∷ result.high ∷ [] }
-{
-    let across = crate::across(size);
-    Pair {
-        low: disk / across,
-        high: base + disk % across,
-    }
-}
-
-// One number more than the highest stripe.
-pub fn bound(size: Size, base: usize) -> usize
-    requires { Numbered size base }
-    ensures { result ≡ (layout_of size base).stripe_bound }
-{
-    base + crate::across(size)
-}
-
-// Some disk lies on the stripe: it is a row or a column. From the last row to the base, and from the bound on, there are numbers of
-// no stripe.
-pub fn has_disks(size: Size, base: usize, stripe: usize) -> bool
-    requires { Numbered size base }
-    ensures { result ≡ has_disks size base stripe }
-{
-    let across = crate::across(size);
-    let down = crate::down(size);
-    if stripe < base {
-        return stripe < down;
-    }
-    stripe - base < across
 }
 
 // `count` disks that stand `step` apart from disk `first` on.
@@ -58,48 +32,79 @@ pub struct Run {
     pub count: usize,
 }
 
-// The disks of a stripe.
-pub fn disks_on(size: Size, base: usize, stripe: usize) -> Run
-    requires { Numbered size base }
-    ensures { result ≡ disks_on size base stripe }
-{
-    let across = crate::across(size);
-    let down = crate::down(size);
-    if stripe < base {
-        return Run {
-            first: stripe * across,
-            step: 1,
-            count: across,
-        };
+impl Grid {
+    // The two stripes of a disk.
+    pub fn stripes_of(self, disk: usize) -> Pair
+        requires disk_bound { disk < disks self.size }
+        ensures { (layout_of self.size self.base).through disk ≡ result.low ∷ result.high ∷ [] }
+    {
+        let across = crate::across(self.size);
+        Pair {
+            low: disk / across,
+            high: self.base + disk % across,
+        }
     }
-    Run {
-        first: stripe - base,
-        step: across,
-        count: down,
-    }
-}
 
-// Which of the disks of its stripe a disk is.
-pub fn place_on(size: Size, base: usize, disk: usize, stripe: usize) -> usize
-    requires { Numbered size base }
-    ensures { result ≡ place_on size base disk stripe }
-{
-    let across = crate::across(size);
-    if stripe < base {
-        return disk % across;
+    // One number more than the highest stripe.
+    pub fn bound(self) -> usize
+        ensures { result ≡ (layout_of self.size self.base).stripe_bound }
+    {
+        self.base + crate::across(self.size)
     }
-    disk / across
-}
 
-// The other stripe of disk number k of a stripe.
-pub fn other_at(size: Size, base: usize, stripe: usize, k: usize) -> usize
-    requires numbered { Numbered size base }
-    requires stripe_value { has_disks size base stripe ≡ true }
-    requires k_bound { k < (disks_on size base stripe).count }
-    ensures { result ≡ other_than stripe ((layout_of size base).through (run_disk (disks_on size base stripe) k)) }
-{
-    if stripe < base {
-        return base + k;
+    // Some disk lies on the stripe: it is a row or a column. From the last row to the base, and from the bound on, there are numbers of
+    // no stripe.
+    pub fn has_disks(self, stripe: usize) -> bool
+        ensures { result ≡ has_disks self.size self.base stripe }
+    {
+        let across = crate::across(self.size);
+        let down = crate::down(self.size);
+        if stripe < self.base {
+            return stripe < down;
+        }
+        stripe - self.base < across
     }
-    k
+
+    // The disks of a stripe.
+    pub fn disks_on(self, stripe: usize) -> Run
+        ensures { result ≡ disks_on self.size self.base stripe }
+    {
+        let across = crate::across(self.size);
+        let down = crate::down(self.size);
+        if stripe < self.base {
+            return Run {
+                first: stripe * across,
+                step: 1,
+                count: across,
+            };
+        }
+        Run {
+            first: stripe - self.base,
+            step: across,
+            count: down,
+        }
+    }
+
+    // Which of the disks of its stripe a disk is.
+    pub fn place_on(self, disk: usize, stripe: usize) -> usize
+        ensures { result ≡ place_on self.size self.base disk stripe }
+    {
+        let across = crate::across(self.size);
+        if stripe < self.base {
+            return disk % across;
+        }
+        disk / across
+    }
+
+    // The other stripe of disk number k of a stripe.
+    pub fn other_at(self, stripe: usize, k: usize) -> usize
+        requires stripe_value { has_disks self.size self.base stripe ≡ true }
+        requires k_bound { k < (disks_on self.size self.base stripe).count }
+        ensures { result ≡ other_than stripe ((layout_of self.size self.base).through (run_disk (disks_on self.size self.base stripe) k)) }
+    {
+        if stripe < self.base {
+            return self.base + k;
+        }
+        k
+    }
 }

@@ -18,10 +18,10 @@ pub struct Text {
 fn byte_at(input: &[u8], place: usize) -> usize
     ensures { result ≡ get_or input.now place 0 }
 {
-    if place < input.len() {
-        return input[place] as usize;
+    match input.get(place) {
+        Some(&byte) => byte as usize,
+        None => 0,
     }
-    0
 }
 
 // The size that the first two bytes of the input give.
@@ -38,11 +38,10 @@ fn size_of(input: &[u8]) -> Size
 fn map_of(input: &[u8]) -> &[u8]
     ensures { result.now ≡ drop 2 input.now }
 {
-    let len = input.len();
-    if len < 2 {
-        return &input[len..];
+    match input.get(2..) {
+        Some(map) => map,
+        None => &[],
     }
-    &input[2..]
 }
 
 // The text for an input: a byte for the data rows, one for the data columns, then the map.
@@ -54,8 +53,5 @@ pub fn listing_of(input: &[u8]) -> Text
 {
     let mut bytes = [0u8; 320];
     let len = report::report(&mut bytes, size_of(input), map_of(input));
-    Text {
-        bytes: bytes,
-        len: len,
-    }
+    Text { bytes, len }
 }

@@ -12,14 +12,7 @@ fn all_present(map: &[u8], sectors: usize, disk: usize) -> bool
     ensures { result ≡ all_present sectors map.now disk }
 {
     let first = disk * sectors;
-    let mut p = 0;
-    while p < sectors {
-        if map[first + p] != 0 {
-            return false;
-        }
-        p += 1;
-    }
-    true
+    map[first..first + sectors].iter().all(|&lost| lost == 0)
 }
 
 // Hands back the block of a present disk, as that part of the array, or an empty part.
@@ -36,7 +29,7 @@ pub fn look<'a>(
     ensures place { result.ref_ptr
         ≡ (array.entry.ref_ptr.0, array.entry.ref_ptr.1 + look_offset size block sector array.now map.now disk 0) }
 {
-    if refusal::sector_refusal(size, block, array.len(), sector) != 0 {
+    if refusal::test_sectors(size, block, array.len(), sector).is_err() {
         return &array[..0];
     }
     let sectors = block / sector;

@@ -18,7 +18,7 @@ use Rattle.stripes.specs.Sectors.{sectored, at_position, stretch_at, rising, sec
 use Rattle.stripes.proofs.Fold.{by_cases}
 use Rattle.stripes.proofs.Positions.{first_of}
 use Rattle.stripes.proofs.EachPosition.{rebuilt-alone, saved-alone}
-use Rattle.model.specs.Grid.{layout_of, column_base, disks, array_bytes, sector_fits}
+use Rattle.model.specs.Grid.{layout_of, column_base, array_bytes, sector_fits}
 use Rattle.model.specs.Sheet.{narrow, sheet_at}
 use Rattle.model.specs.Chain.{chain_entries}
 use Rattle.model.specs.Plan.{sheet_layout, outcome_status}
@@ -28,7 +28,7 @@ use Rattle.model.specs.Follow.{sheets_entries, follow_tests, follow_status, foll
 use Rattle.model.specs.Save.{save_layout, map_tests, save_tests, save_status, save_answer, save_array, saving_status}
 use Rattle.model.specs.Demand2.{SameAt}
 use Rattle.model.specs.declared.Size.{Size}
-use Rattle.model.specs.declared.Saving.TheVariants.{Saved, Refused}
+use Rattle.model.specs.Saving.{Saved, Refused}
 use Rattle.model.proofs.Grid.{rows-below, layout-disks, layout-two, sector-cut}
 use Rattle.model.proofs.Refusal.{ArrayFits, first-accepted}
 use Rattle.model.proofs.Accept.{buffers_fit, rebuild_fits}

@@ -17,8 +17,8 @@ use Rattle.model.specs.Equations.{Equations}
 use Rattle.model.specs.Refusal.{refusal, array_tests}
 use Rattle.model.specs.Array.{lowest_unsealed, checked, check_status}
 use Rattle.model.specs.declared.Size.{Size}
-use Rattle.model.specs.declared.Checked.{Checked}
-use Rattle.model.specs.declared.Checked.TheVariants.{Sealed, Unsealed, Refused}
+use Rattle.model.specs.Checked.{Checked}
+use Rattle.model.specs.Checked.{Sealed, Unsealed, Refused}
 use Rattle.stripes.proofs.Fold.{Lowest, lowest_is, lowest_unique}
 use Rattle.stripes.proofs.Sums.{place_of_nonzero, sums_of_zero, nonzero_of_place, zero_of_sums}
 use Rattle.model.proofs.Equations.{equations_iff_sums}

@@ -17,7 +17,7 @@ use Rattle.model.specs.Equations.{cell, row_data, column_data, Equations}
 use Rattle.model.specs.Refusal.{refusal, array_tests}
 use Rattle.model.specs.Array.{encoded_byte, encoded, seal_status, seal_array, checked, check_status, is_parity_of, written_byte, written, replaced, write_status, write_array}
 use Rattle.model.specs.declared.Size.{Size}
-use Rattle.model.specs.declared.Checked.TheVariants.{Sealed, Unsealed, Refused}
+use Rattle.model.specs.Checked.{Sealed, Unsealed, Refused}
 use Rattle.model.specs.Demand2.{SameAt, SealDemand, CheckDemand, WriteDemand}
 use Rattle.model.proofs.Equations.{equations_iff_sums}
 use Rattle.model.proofs.Refusal.{given-refused}

@@ -17,7 +17,7 @@ use Rattle.model.specs.Plan.{loss_outcome, loss_sheets, plan_outcome, plan_sheet
 use Rattle.model.specs.Edition.{superparity}
 use Rattle.model.specs.Grid.{rectangle, size_fits, sector_fits, rows, columns, map_bytes, layout_of}
 use Rattle.model.specs.declared.Size.{Size}
-use Rattle.model.specs.declared.Outcome.TheVariants.{Repairs, Refused}
+use Rattle.model.specs.Outcome.{Repairs, Refused}
 use Rattle.model.specs.Demand3.{Planned, InTurns, Demand3, Restorable, TurnKeeps}
 use Rattle.model.specs.Loop.{Loop}
 use Rattle.model.specs.Sheet.{narrow, repair_sheets, blank_sheets}

@@ -25,8 +25,8 @@ use Rattle.model.specs.Turn.{Turn, loss_told, contradiction, repairs_made, turn_
 use Rattle.model.specs.Rebuild.{buffer_tests, buffer_refusal, rebuild_refusal, rebuild_turn}
 use Rattle.model.specs.Follow.{sheets_entries, Usable, sheets_tests, list_tests, follow_tests, follow_status, list_outcome, list_array, follow_outcome, follow_array}
 use Rattle.model.specs.declared.Size.{Size}
-use Rattle.model.specs.declared.Outcome.{Outcome}
-use Rattle.model.specs.declared.Outcome.TheVariants.{Repairs, Refused}
+use Rattle.model.specs.Outcome.{Outcome}
+use Rattle.model.specs.Outcome.{Repairs, Refused}
 use Rattle.stripes.proofs.Fold.{by_cases, every_at, every_all}
 use Rattle.stripes.proofs.Degree.{two_ordered}
 use Rattle.stripes.proofs.Restore.{Bounded}

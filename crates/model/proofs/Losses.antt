@@ -22,8 +22,8 @@ use Rattle.model.specs.Plan.{loss_outcome, loss_sheets, cycle_sheets, outcome_st
 use Rattle.model.specs.Turn.{Turn, loss_told, contradiction, turn_of, accepted, unfinished, turns_by, turns_of, last_of, repair_count, made_by}
 use Rattle.model.specs.Edition.{Edition}
 use Rattle.model.specs.Demand3.{SmallestLoop, Planned, Lists, LostAt, InTurns, turns_for, Results, Demand3}
-use Rattle.model.specs.declared.Outcome.{Outcome}
-use Rattle.model.specs.declared.Outcome.TheVariants.{Repairs, Fatal}
+use Rattle.model.specs.Outcome.{Outcome}
+use Rattle.model.specs.Outcome.{Repairs, Fatal}
 use Rattle.stripes.proofs.Fold.{by_cases, lt_or_le}
 use Rattle.stripes.proofs.Peel.{repairs_peels, repairs-count}
 use Rattle.stripes.proofs.Degree.{two_ordered}

@@ -25,7 +25,7 @@ use Rattle.model.specs.PlanDisk.{can_be_wanted, plan_disk_tests, disk_outcome, d
 use Rattle.model.specs.Tidy.{Tidy}
 use Rattle.model.specs.Edition.{Edition, superparity}
 use Rattle.model.specs.declared.Size.{Size}
-use Rattle.model.specs.declared.Outcome.TheVariants.{Refused}
+use Rattle.model.specs.Outcome.{Refused}
 use Rattle.stripes.proofs.Fold.{by_cases, and_left, and_right, and_both, every_at}
 use Rattle.stripes.proofs.Erased.{is_erased}
 use Rattle.stripes.proofs.Peel.{without_at, after_snoc, is_fatal, repairs_peels}

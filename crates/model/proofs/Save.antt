@@ -33,9 +33,9 @@ use Rattle.model.specs.Turn.{repairs_made, contradiction, whole_rebuild}
 use Rattle.model.specs.Rebuild.{buffer_tests, buffer_refusal, rebuild_turn}
 use Rattle.model.specs.Save.{save_layout, map_tests, save_tests, save_status, save_answer, save_array, saving_status, saving_count, AsTurn, SaveDemand}
 use Rattle.model.specs.declared.Size.{Size}
-use Rattle.model.specs.declared.Outcome.TheVariants.{Fatal, Refused as Outcome-as-Refused}
-use Rattle.model.specs.declared.Saving.{Saving}
-use Rattle.model.specs.declared.Saving.TheVariants.{Saved, Refused}
+use Rattle.model.specs.Outcome.{Fatal, Refused as Outcome-as-Refused}
+use Rattle.model.specs.Saving.{Saving}
+use Rattle.model.specs.Saving.{Saved, Refused}
 use Rattle.model.proofs.Refusal.{no_tests, by_test, passed, passes, fails, refused_first, ArrayFits, sector_tests_lem, sector_passed}
 use Rattle.model.proofs.Losses.{Lawful, zero_six, zero_seven, order-restored, order_judged}
 use Rattle.model.proofs.Demand3.{Cut, array-cut, superparity_lawful, rebuild_whole_lem}

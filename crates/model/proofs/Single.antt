@@ -3,7 +3,7 @@
 use mathlib.Core.Path.{◌≡◌, refl, sym, ◌∙◌, ap, ap₂, subst}
 use mathlib.Core.Bool.{Bool, true, false, cond, ◌&&◌}
 use mathlib.Core.List.{List, [], ◌∷◌, ◌++◌}
-use Prim.Native.Nat.{ℕ, ◌+◌, ◌*◌, ◌/◌, ◌%◌, ◌<◌}
+use Prim.Native.Nat.{ℕ, ◌*◌, ◌/◌, ◌%◌, ◌<◌}
 use native.Mathlib.Nat.{add-zero, one-mul, mul-one, le_refl}
 use native.Mathlib.Omega.{arith}
 use borrow.Author.Tests.{eq-eqb, ne_eqb, eqb-true, eqb-false, ltb-true, le-leb}
@@ -33,8 +33,8 @@ use Rattle.model.specs.Follow.{sheets_entries, sheets_tests, list_tests, follow_
 use Rattle.model.specs.Save.{map_tests, save_tests, save_status, save_answer, save_array}
 use Rattle.model.specs.Array.{all_present, can_look}
 use Rattle.model.specs.declared.Size.{Size}
-use Rattle.model.specs.declared.Outcome.TheVariants.{Repairs, Fatal, Refused}
-use Rattle.model.specs.declared.Saving.TheVariants.{Saved, Refused as Saving-as-Refused}
+use Rattle.model.specs.Outcome.{Repairs, Fatal, Refused}
+use Rattle.model.specs.Saving.{Saved, Refused as Saving-as-Refused}
 use Rattle.model.proofs.Grid.{one_byte, block_fits_lem}
 use Rattle.model.proofs.Refusal.{refused_first, refusal-rest, passes, passed, array-fits, array_passed, given-refused}
 use Rattle.model.proofs.Accept.{buffers_fit}

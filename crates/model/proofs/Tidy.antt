@@ -24,12 +24,12 @@ use Rattle.model.specs.Refusal.{Test, refusal}
 use Rattle.model.specs.Sheet.{Format, narrow, record_at, sheet_bytes, sheet_of, sheets_of, sheets_bytes, sheet_at, repair_sheets}
 use Rattle.model.specs.Chain.{entry_at, chain_numbers, chain_tests, chain_refusal, on_chain, no_leftovers, clean_refusal, entries_at, chain_entries}
 use Rattle.model.specs.Tidy.{tidy_tests, tidy_status, tidy_form, tidy_sheet, Tidy, TidyDemand, tidy_sheets}
-use Rattle.model.specs.Plan.{plan_tests, plan_sheets, outcome_status, loss_outcome, loss_sheets, sheet_layout}
-use Rattle.model.specs.Turn.{loss_told, contradiction, repairs_made, turn_repairs, contradicts, turn_of}
-use Rattle.model.specs.Rebuild.{buffer_tests, buffer_refusal, rebuild_refusal, rebuild_turn}
+use Rattle.model.specs.Plan.{plan_tests, plan_sheets, outcome_status, loss_sheets, sheet_layout}
+use Rattle.model.specs.Turn.{repairs_made}
+use Rattle.model.specs.Rebuild.{buffer_tests, buffer_refusal, rebuild_turn}
 use Rattle.model.specs.Follow.{Usable, Reads, sheets_entries, chains_tests, sheets_tests, list_tests, follow_status, follow_tests, list_outcome, list_array, loose_status}
 use Rattle.model.specs.declared.Size.{Size}
-use Rattle.model.specs.declared.Outcome.TheVariants.{Refused}
+use Rattle.model.specs.Outcome.{Refused}
 use Rattle.model.proofs.Refusal.{given-accepted, given-refused, passes, passed, refused_first}
 use Rattle.model.proofs.Accept.{plan-fits, buffers_fit, buffers_passed, rebuild_fits}
 use Rattle.model.proofs.Sheets.{Fitting, Small, small, number_small, sheet_length, sheet_bytes_lem, sheet_is}

@@ -22,7 +22,7 @@ use Rattle.model.specs.Grid.{map_fits}
 use Rattle.model.specs.Sheet.{Format, repair_sheets, blank_sheets}
 use Rattle.model.specs.Turn.{Turn, clear, loss_told, contradiction, repairs_made, turn_repairs, contradicts, turn_of, accepted, unfinished, turns_by, turns_of, last_of, repair_count, made_by, whole_rebuild}
 use Rattle.model.specs.Demand3.{InTurns, turns_for}
-use Rattle.model.specs.declared.Outcome.TheVariants.{Repairs}
+use Rattle.model.specs.Outcome.{Repairs}
 use Rattle.stripes.proofs.Fold.{by_cases, lt_or_le, and_left, and_right, and_both, every_at, every_all}
 use Rattle.stripes.proofs.Bytes.{length-changed}
 use Rattle.stripes.proofs.Erased.{zero-set}

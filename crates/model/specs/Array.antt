@@ -8,8 +8,8 @@ use Rattle.model.specs.Grid.{rows, columns, across, layout_of, column_base, disk
 use Rattle.model.specs.Equations.{row_data, column_data}
 use Rattle.model.specs.Refusal.{Test, ◌unless◌, refusal, array_tests, sector_tests}
 use Rattle.model.specs.declared.Size.{Size}
-use Rattle.model.specs.declared.Checked.{Checked}
-use Rattle.model.specs.declared.Checked.TheVariants.{Sealed, Unsealed, Refused}
+use Rattle.model.specs.Checked.{Checked}
+use Rattle.model.specs.Checked.{Sealed, Unsealed, Refused}
 
 -- ---- Seal
 

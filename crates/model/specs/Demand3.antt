@@ -14,8 +14,8 @@ use Rattle.model.specs.Sheet.{Format, repair_sheets, blank_sheets}
 use Rattle.model.specs.Plan.{cycle_sheets, outcome_status}
 use Rattle.model.specs.Turn.{Turn}
 use Rattle.model.specs.Edition.{Edition}
-use Rattle.model.specs.declared.Outcome.{Outcome}
-use Rattle.model.specs.declared.Outcome.TheVariants.{Repairs, Fatal}
+use Rattle.model.specs.Outcome.{Outcome}
+use Rattle.model.specs.Outcome.{Repairs, Fatal}
 
 -- Of the loops of erased disks v is the shortest, and of equal ones that whose disk numbers in ascending order come first (paper 02, P7). There
 -- is no other such list.

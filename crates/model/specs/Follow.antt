@@ -14,8 +14,8 @@ use Rattle.model.specs.Plan.{sheet_layout}
 use Rattle.model.specs.Rebuild.{buffer_tests}
 use Rattle.stripes.specs.declared.Stretch.{Stretch}
 use Rattle.model.specs.declared.Size.{Size}
-use Rattle.model.specs.declared.Outcome.{Outcome}
-use Rattle.model.specs.declared.Outcome.TheVariants.{Repairs, Refused}
+use Rattle.model.specs.Outcome.{Outcome}
+use Rattle.model.specs.Outcome.{Repairs, Refused}
 
 -- What n sheets list: the repairs of each, positions in rising order.
 unfoldable pub sheets_entries : Format → (n : ℕ) → List ℕ → List Entry

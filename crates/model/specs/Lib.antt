@@ -18,3 +18,7 @@ pub mod Demand2
 pub mod Demand3
 pub mod PlanDisk
 pub mod Single
+pub mod Checked
+pub mod Outcome
+pub mod Saving
+pub mod Answers

@@ -11,8 +11,8 @@ use Rattle.model.specs.Grid.{layout_of, size_fits, sectors_fit, map_bytes, map_f
 use Rattle.model.specs.Refusal.{Test, ◌unless◌, refusal}
 use Rattle.model.specs.Sheet.{Format, narrow, sheets_bytes, sheets_of, sheet_of, blank_sheet, repair_sheets}
 use Rattle.model.specs.declared.Size.{Size}
-use Rattle.model.specs.declared.Outcome.{Outcome}
-use Rattle.model.specs.declared.Outcome.TheVariants.{Repairs, Fatal, Refused}
+use Rattle.model.specs.Outcome.{Outcome}
+use Rattle.model.specs.Outcome.{Repairs, Fatal, Refused}
 
 -- The tests of the map and of the length of the sheets, which come after those of the size, the block, the array and the sectors: n sectors
 -- a block.

@@ -14,8 +14,8 @@ use Rattle.model.specs.Plan.{one_tests, sheet_layout, loss_outcome, loss_sheets,
 use Rattle.model.specs.Edition.{Edition}
 use Rattle.model.specs.Demand3.{Planned}
 use Rattle.model.specs.declared.Size.{Size}
-use Rattle.model.specs.declared.Outcome.{Outcome}
-use Rattle.model.specs.declared.Outcome.TheVariants.{Repairs, Refused}
+use Rattle.model.specs.Outcome.{Outcome}
+use Rattle.model.specs.Outcome.{Repairs, Refused}
 
 -- Besides what plan tests, the wanted disk is one of the grid, and erased.
 unfoldable pub can_be_wanted : Size → List ℕ → ℕ → Bool

@@ -8,7 +8,7 @@ use Rattle.model.specs.Sheet.{narrow}
 use Rattle.model.specs.Plan.{sheet_tests, sheet_layout}
 use Rattle.model.specs.Turn.{Turn, turn_of, turns_by}
 use Rattle.model.specs.declared.Size.{Size}
-use Rattle.model.specs.declared.Outcome.TheVariants.{Refused}
+use Rattle.model.specs.Outcome.{Refused}
 
 -- The tests of the size and of the lent buffers with which rebuild and follow begin: blocks of B bytes with sectors of w.
 unfoldable pub buffer_tests : Size → (B w arrayLen : ℕ) → List ℕ → (len : ℕ) → List Test

@@ -14,8 +14,8 @@ use Rattle.model.specs.Plan.{outcome_status, outcome_count}
 use Rattle.model.specs.Turn.{Turn}
 use Rattle.model.specs.Edition.{Edition}
 use Rattle.model.specs.declared.Size.{Size}
-use Rattle.model.specs.declared.Saving.{Saving}
-use Rattle.model.specs.declared.Saving.TheVariants.{Saved, Refused}
+use Rattle.model.specs.Saving.{Saving}
+use Rattle.model.specs.Saving.{Saved, Refused}
 
 -- Save takes no sheet: stripes are numbered as check numbers them. Every sector is saved or not by itself, so that only the stripe system of
 -- the sectors is spoken of: n to a block.

@@ -6,7 +6,7 @@ use Rattle.model.specs.Sheet.{narrow, sheets_bytes, parts_in}
 use Rattle.model.specs.Turn.{Turn, last_of}
 use Rattle.model.specs.Rebuild.{rebuild_turns}
 use Rattle.model.specs.declared.Size.{Size}
-use Rattle.model.specs.declared.Outcome.TheVariants.{Refused}
+use Rattle.model.specs.Outcome.{Refused}
 
 -- The positions that a turn has sheets for. Where block or sector is refused, a turn gets one sheet and is refused.
 unfoldable pub positions : (B w : ℕ) → ℕ

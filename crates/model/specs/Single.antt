@@ -19,10 +19,10 @@ use Rattle.model.specs.Plan.{sheet_layout, outcome_status}
 use Rattle.model.specs.Turn.{Turn, contradicts}
 use Rattle.model.specs.Follow.{list_tests, list_outcome, list_array}
 use Rattle.model.specs.declared.Size.{Size}
-use Rattle.model.specs.declared.Outcome.{Outcome}
-use Rattle.model.specs.declared.Outcome.TheVariants.{Repairs, Fatal, Refused}
-use Rattle.model.specs.declared.Saving.{Saving}
-use Rattle.model.specs.declared.Saving.TheVariants.{Saved, Refused as Saving-as-Refused}
+use Rattle.model.specs.Outcome.{Outcome}
+use Rattle.model.specs.Outcome.{Repairs, Fatal, Refused}
+use Rattle.model.specs.Saving.{Saving}
+use Rattle.model.specs.Saving.{Saved, Refused as Saving-as-Refused}
 
 -- The tests of a map with a byte for each disk, and of one sheet.
 unfoldable pub whole_tests : Size → List ℕ → (len : ℕ) → List Test

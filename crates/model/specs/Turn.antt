@@ -10,8 +10,8 @@ use Rattle.stripes.specs.Sectors.{sectored, sector_repairs}
 use Rattle.stripes.specs.declared.Stretch.{Stretch}
 use Rattle.model.specs.Sheet.{Format, repair_sheets, blank_sheets}
 use Rattle.model.specs.Plan.{loss_outcome, loss_sheets}
-use Rattle.model.specs.declared.Outcome.{Outcome}
-use Rattle.model.specs.declared.Outcome.TheVariants.{Repairs, Fatal, Refused}
+use Rattle.model.specs.Outcome.{Outcome}
+use Rattle.model.specs.Outcome.{Repairs, Fatal, Refused}
 
 -- How a turn ends: its answer, and what the array, the map and the sheets hold then.
 pub record Turn : Type 0 where

@@ -40,15 +40,9 @@ pub fn note_all(size: Size, sectors: usize, map: &[u8], sheets: &mut [u8])
     ensures { EachNotes (disks size) sectors (erasures map.now) sheets.new }
 {
     sheet::zero_all(sheets, sectors);
-    let mut from = 0;
-    loop {
-        let i = tally::scan::next_erased(map, from);
-        if map.len() <= i {
-            return;
-        }
+    for i in tally::scan::erased(map) {
         let at = sheet::BYTES * (i % sectors);
         note(&mut sheets[at..at + sheet::BYTES], i / sectors);
-        from = i + 1;
     }
 }
 
@@ -64,11 +58,9 @@ fn load(sheet: &[u8], work: &mut [u8]) -> bool
         return false;
     }
     zeros::wipe(work, 0, work.len());
-    let mut k = 0;
-    while k < count {
+    for k in 0..count {
         let disk = sheet[k + 1] as usize;
         work[disk] = 1;
-        k += 1;
     }
     true
 }

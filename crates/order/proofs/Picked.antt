@@ -5,7 +5,7 @@ use mathlib.Core.Bool.{Bool, true, false, ◌&&◌, ◌||◌, cond, and-false}
 use mathlib.Core.Logic.{⊎_elim}
 use mathlib.Core.List.{List}
 use Prim.Native.Nat.{ℕ, ◌+◌, ◌≤◌, ◌<◌}
-use native.Mathlib.Nat.{le_refl, not-suc-le-zero}
+use native.Mathlib.Nat.{le_refl}
 use native.Mathlib.Omega.{arith}
 use borrow.Author.Count.{below_more}
 use borrow.Author.Tests.{lt-ltb, le-ltb, ne_eqb, eq-eqb}
@@ -18,15 +18,12 @@ use Rattle.stripes.proofs.Fold.{and_both, lt_or_le, lowest_found, lowest-end}
 use Rattle.stripes.proofs.Alone.{none-present, some-count, first_count}
 use Rattle.tally.specs.Tally.{Passed, Counted}
 use Rattle.tally.proofs.Counted.{low_held, high_held, Crossed}
-use Rattle.order.specs.declared.Next.TheVariants.{Repair, Nothing}
+use Rattle.std.proofs.Common.{Some, None}
 use Rattle.order.specs.Pick.{picked}
 
 -- No disk of c below d can be repaired while the disks e are erased.
 pub record Crowded (L : Layout) (c e : ℕ → Bool) (d : ℕ) : Type 0 where
   pub none : (i : ℕ) → i < d → (c i && some_allowed L e i (L.through i)) ≡ false
-
-pub crowded_none : (L : Layout) (c e : ℕ → Bool) → Crowded L c e 0
-crowded_none L c e = record { none = λ i l. absurd (not-suc-le-zero l) }
 
 -- Disks that are present are passed over.
 pub crowded_over : {L : Layout} {c : ℕ → Bool} {work : List ℕ} {d k : ℕ} → Crowded L c (erasures work) d → Passed work d k → Crowded L c (erasures work) k
@@ -46,7 +43,7 @@ module _ {L : Layout} {c e : ℕ → Bool} {d : ℕ} (crowded : Crowded L c e d)
   crowded_held q = crowded-more (ap (λ (b : Bool). b && some_allowed L e d (L.through d)) q)
 
   -- Past the last disk there is no repair.
-  pub picked_none : L.disks ≤ d → Nothing ≡ picked L c e
+  pub picked_none : L.disks ≤ d → None ≡ picked L c e
   unfolding picked next_disk
   picked_none end =
       let next : L.disks ≡ next_disk L c e = lowest-end L.disks _ (λ i l. crowded.none i (omega arith)) in
@@ -63,7 +60,7 @@ module _ {L : Layout} {c e : ℕ → Bool} {d : ℕ} (crowded : Crowded L c e d)
     crowded_next p q = crowded-more (ap (λ (b : Bool). c d && b) (some_is ∙ simp (ne_eqb _ 1 p, ne_eqb _ 1 q)) ∙ and-false (c d))
 
     picked-is : c d ≡ true → (s : ℕ) → (eqb (get_or counts low 0) 1 || eqb (get_or counts high 0) 1) ≡ true
-        → cond (eqb (get_or counts low 0) 1) low (cond (eqb (get_or counts high 0) 1) high 0) ≡ s → Repair d s ≡ picked L c e
+        → cond (eqb (get_or counts low 0) 1) low (cond (eqb (get_or counts high 0) 1) high 0) ≡ s → Some (record { disk = d; stripe = s }) ≡ picked L c e
     unfolding picked next_disk repair_of
     picked-is chosen s alone first =
         let next : d ≡ next_disk L c e = lowest_found L.disks _ d x.disk crowded.none (and_both chosen (some_is ∙ alone)) in
@@ -71,8 +68,8 @@ module _ {L : Layout} {c e : ℕ → Bool} {d : ℕ} (crowded : Crowded L c e d)
         first_count L e d x.disk erased low high x.listed ∙ simp (sym (low_held x k).1, sym (high_held x k).1) first in
         simp (sym next, lt-ltb d L.disks x.disk, by)
 
-    pub picked_low : c d ≡ true → get_or counts low 0 ≡ 1 → Repair d low ≡ picked L c e
+    pub picked_low : c d ≡ true → get_or counts low 0 ≡ 1 → Some (record { disk = d; stripe = low }) ≡ picked L c e
     picked_low chosen p = picked-is chosen low (simp (eq-eqb _ 1 p)) (simp (eq-eqb _ 1 p))
 
-    pub picked_high : c d ≡ true → (get_or counts low 0 ≡ 1 → ⊥) → get_or counts high 0 ≡ 1 → Repair d high ≡ picked L c e
+    pub picked_high : c d ≡ true → (get_or counts low 0 ≡ 1 → ⊥) → get_or counts high 0 ≡ 1 → Some (record { disk = d; stripe = high }) ≡ picked L c e
     picked_high chosen p q = picked-is chosen high (simp (ne_eqb _ 1 p, eq-eqb _ 1 q)) (simp (ne_eqb _ 1 p, eq-eqb _ 1 q))

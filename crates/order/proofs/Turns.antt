@@ -18,29 +18,29 @@ use Rattle.stripes.specs.Fold.{count}
 use Rattle.entries.specs.Listed.{word_of, listed}
 use Rattle.entries.proofs.Words.{listed_put}
 use Rattle.tally.specs.Tally.{Tallied}
-use Rattle.order.specs.declared.Next.{Next}
-use Rattle.order.specs.declared.Next.TheVariants.{Repair, Nothing}
+use Rattle.order.specs.declared.Repair.{Repair}
+use Rattle.std.proofs.Common.{Option, Some, None}
 use Rattle.order.specs.Pick.{picked}
 
 -- ---- the next repair
 
 -- What an answer says of it.
-abbrev Says : Layout → (c e : ℕ → Bool) → Next → Type 0
-Says L c e (Repair d s) = (next_disk L c e < L.disks) × (repair_of L e (next_disk L c e) ≡ record { disk = d; stripe = s })
-Says L c e Nothing = ¬ (next_disk L c e < L.disks)
+abbrev Says : Layout → (c e : ℕ → Bool) → Option Repair → Type 0
+Says L c e (Some r) = (next_disk L c e < L.disks) × (repair_of L e (next_disk L c e) ≡ record { disk = r.disk; stripe = r.stripe })
+Says L c e None = ¬ (next_disk L c e < L.disks)
 
-picked_says : (L : Layout) (c e : ℕ → Bool) (n : Next) → n ≡ picked L c e → Says L c e n
+picked_says : (L : Layout) (c e : ℕ → Bool) (n : Option Repair) → n ≡ picked L c e → Says L c e n
 unfolding picked repair_of
 picked_says L c e n q =
     subst (Says L c e) (sym q)
-    (by_cases (λ (b : Bool). Says L c e (cond b (Repair (next_disk L c e) (repair_of L e (next_disk L c e)).stripe) Nothing))
+    (by_cases (λ (b : Bool). Says L c e (cond b (Some (record { disk = next_disk L c e; stripe = (repair_of L e (next_disk L c e)).stripe })) None))
     (ltb (next_disk L c e) L.disks) (λ h. (ltb-true (next_disk L c e) L.disks h, refl))
     (λ h l. let m = ltb-false (next_disk L c e) L.disks h in omega arith))
 
-pub picked-allowed : (L : Layout) (c e : ℕ → Bool) (d s : ℕ) → Repair d s ≡ picked L c e → Allowed L e d s
+pub picked-allowed : (L : Layout) (c e : ℕ → Bool) (d s : ℕ) → Some (record { disk = d; stripe = s }) ≡ picked L c e → Allowed L e d s
 unfolding repair_of
 picked-allowed L c e d s q =
-    let (l, is) = picked_says L c e (Repair d s) q in
+    let (l, is) = picked_says L c e (Some (record { disk = d; stripe = s })) q in
     subst (λ (r : Entry). Allowed L e r.disk r.stripe) is (allowed_is L e _ _ (next-allowed L c e l))
 
 -- ---- turn by turn
@@ -62,16 +62,16 @@ unfolding after listed
 turn_none list tallied = record { within = zero-le; tallied = tallied; left = refl; written = refl }
 
 module _ {L : Layout} {c e : ℕ → Bool} {work stripes counts list : List ℕ} {k : ℕ} (turn : Turn L c e work stripes counts list k) where
-  says_then : (n : Next) → n ≡ picked L c (erasures work) → Says L c (after e (take k (made L c e))) n
+  says_then : (n : Option Repair) → n ≡ picked L c (erasures work) → Says L c (after e (take k (made L c e))) n
   says_then n q = subst (λ (f : ℕ → Bool). Says L c f n) turn.left (picked_says L c (erasures work) n q)
 
   -- A repair is made: its disk is no longer erased, and it is written into the list.
-  pub turn_next : (d s : ℕ) → Repair d s ≡ picked L c (erasures work) → k < length list → d < 65536 → s < 65536
+  pub turn_next : (d s : ℕ) → Some (record { disk = d; stripe = s }) ≡ picked L c (erasures work) → k < length list → d < 65536 → s < 65536
       → {work' counts' list' : List ℕ} → Tallied L work' stripes counts' → erasures work' ≡ without (erasures work) d
       → list' ≡ set list k (word_of d s) → Turn L c e work' stripes counts' list' (k + 1)
   turn_next d s q room low high tallied' left' written' =
       let done : List Entry = take k (made L c e) in
-      let (l, is) = says_then (Repair d s) q in
+      let (l, is) = says_then (Some (record { disk = d; stripe = s })) q in
       let (more, longer) = peel_goes L c L.disks e (count_le L.disks e) k turn.within l in
       let next : take (k + 1) (made L c e) ≡ done ++ (record { disk = d; stripe = s } ∷ []) =
       longer ∙ ap (λ (r : Entry). done ++ (r ∷ [])) is in
@@ -85,8 +85,8 @@ module _ {L : Layout} {c e : ℕ → Bool} {work stripes counts list : List ℕ}
       }
 
   -- No repair is allowed, or no disk is erased any more: all are made.
-  pub turn_stuck : Nothing ≡ picked L c (erasures work) → k ≡ length (made L c e)
-  turn_stuck q = peel_stops L c L.disks e (count_le L.disks e) k turn.within (says_then Nothing q)
+  pub turn_stuck : None ≡ picked L c (erasures work) → k ≡ length (made L c e)
+  turn_stuck q = peel_stops L c L.disks e (count_le L.disks e) k turn.within (says_then None q)
 
   pub turn_done : (erased : ℕ) → erased ≡ count L.disks e → erased ≤ k → k ≡ length (made L c e)
   turn_done erased all done = omega (arith, peel-count L e (made L c e) (peel_peels L c L.disks e), turn.within)

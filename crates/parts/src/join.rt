@@ -2,29 +2,21 @@
 ghost use Rattle.std.specs.Prelude.{◌≤◌, length};
 ghost use Rattle.stripes.specs.Erased.{erasures};
 ghost use Rattle.model.specs.Grid.{layout_of};
-ghost use Rattle.layout.specs.Stripe.{Numbered};
 ghost use Rattle.tally.specs.Tally.{Table};
 ghost use Rattle.parts.specs.Parted.{Parted};
 
-use model::Size;
+use layout::stripe::Grid;
 
 // `parts` becomes the table of the parts that all erased disks make. What it held does not matter.
-pub fn join_all(size: Size, base: usize, work: &[u8], stripes: &[u8], parts: &mut [u8])
-    requires numbered { Numbered size base }
-    requires table { Table (layout_of size base) work.now stripes.now }
-    requires base_in_bounds { (layout_of size base).stripe_bound ≤ length parts.old }
-    ensures { Parted (layout_of size base) (erasures work.now) (layout_of size base).disks parts.new }
+pub fn join_all(grid: Grid, work: &[u8], stripes: &[u8], parts: &mut [u8])
+    requires table { Table (layout_of grid.size grid.base) work.now stripes.now }
+    requires base_in_bounds { (layout_of grid.size grid.base).stripe_bound ≤ length parts.old }
+    ensures { Parted (layout_of grid.size grid.base) (erasures work.now) (layout_of grid.size grid.base).disks parts.new }
 {
-    let bound = layout::stripe::bound(size, base);
+    let bound = grid.bound();
     crate::table::start(parts, bound);
-    let mut from = 0;
-    loop {
-        let d = tally::scan::next_erased(work, from);
-        if work.len() <= d {
-            return;
-        }
-        let pair = tally::table::stripes_of(size, base, work, stripes, d);
+    for d in tally::scan::erased(work) {
+        let pair = tally::table::stripes_of(grid, work, stripes, d);
         crate::table::unite(parts, bound, pair.low, pair.high);
-        from = d + 1;
     }
 }

@@ -11,10 +11,8 @@ pub fn start(parts: &mut [u8], bound: usize)
     requires bound_bound { bound ≤ 256 }
     ensures { Values (λ s. s) bound parts.new }
 {
-    let mut s = 0;
-    while s < bound {
+    for s in 0..bound {
         parts[s] = s as u8;
-        s += 1;
     }
 }
 
@@ -23,11 +21,7 @@ pub fn clear(ways: &mut [u64], bound: usize)
     requires { bound ≤ length ways.old }
     ensures { Values (λ s. 0) bound ways.new }
 {
-    let mut s = 0;
-    while s < bound {
-        ways[s] = 0;
-        s += 1;
-    }
+    ways[..bound].fill(0);
 }
 
 // The new name of a part, if it is the one that gets one.
@@ -50,10 +44,8 @@ pub fn unite(parts: &mut [u8], bound: usize, low: usize, high: usize)
 {
     let name = parts[low];
     let old = parts[high];
-    let mut s = 0;
-    while s < bound {
+    for s in 0..bound {
         parts[s] = renamed(parts[s], old, name);
-        s += 1;
     }
 }
 
@@ -73,9 +65,7 @@ pub fn extend(parts: &[u8], ways: &mut [u64], bound: usize, old: u8, links: u64)
     requires bound_in_bounds_2 { bound ≤ length ways.old }
     ensures { Values (λ s. get_or ways.old s 0 ⊕ gate (eqb (get_or parts.now s 0) old) links) bound ways.new }
 {
-    let mut s = 0;
-    while s < bound {
-        ways[s] = ways[s] ^ added(parts[s], old, links);
-        s += 1;
+    for s in 0..bound {
+        ways[s] ^= added(parts[s], old, links);
     }
 }

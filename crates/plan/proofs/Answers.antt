@@ -21,8 +21,8 @@ use Rattle.model.specs.Sheet.{narrow, sheet_of, blank_sheet, sheets_of, repair_s
 use Rattle.model.specs.Plan.{sheet_tests, plan_tests, loss_outcome, cycle_sheets, loss_sheets, sheet_layout, plan_outcome, plan_sheets}
 use Rattle.model.specs.Single.{whole_outcome}
 use Rattle.model.specs.declared.Size.{Size}
-use Rattle.model.specs.declared.Outcome.{Outcome}
-use Rattle.model.specs.declared.Outcome.TheVariants.{Repairs, Fatal, Refused}
+use Rattle.model.specs.Outcome.{Outcome}
+use Rattle.model.specs.Outcome.{Repairs, Fatal, Refused}
 use Rattle.model.proofs.SheetRow.{one_sheet}
 use Rattle.model.proofs.Single.{loss_single}
 use Rattle.model.proofs.Refusal.{fails, passes, given-accepted, given-refused}

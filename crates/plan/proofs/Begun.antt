@@ -2,8 +2,7 @@
 -- Assumes nothing.
 use mathlib.Core.Path.{◌≡◌, refl, sym, ◌∙◌, ap, ap₂}
 use mathlib.Core.Bool.{Bool, true, false, cond}
-use mathlib.Core.Logic.{⊎_elim}
-use mathlib.Core.List.{List, [], ◌∷◌, map}
+use mathlib.Core.List.{List, map}
 use Prim.Native.Nat.{ℕ, zero, suc, ◌+◌, ◌*◌, ◌-◌, ◌≤◌, ◌<◌, min}
 use native.Mathlib.Nat.{not-suc-le-zero}
 use native.Mathlib.Numerals.{add-one}
@@ -23,9 +22,11 @@ use Rattle.model.specs.Grid.{size_fits}
 use Rattle.model.specs.Sheet.{narrow, sheet_of, blank_sheet, sheets_of, sheet_at, repair_sheets}
 use Rattle.model.specs.Plan.{loss_outcome, cycle_sheets, sheet_layout}
 use Rattle.model.specs.declared.Size.{Size}
-use Rattle.model.specs.declared.Outcome.{Outcome}
-use Rattle.model.specs.declared.Outcome.TheVariants.{Repairs, Fatal}
-use Rattle.model.specs.contracts.Outcome as outcome
+use Rattle.model.specs.Outcome.{Outcome}
+use Rattle.model.specs.Outcome.{Repairs, Fatal}
+use Rattle.model.specs.declared.answer.Verdict.{Verdict}
+use Rattle.model.specs.declared.answer.Verdict.TheVariants as Found
+use Rattle.model.specs.Answers.{verdict_of}
 use Rattle.model.proofs.Grid.{rows-below}
 use Rattle.model.proofs.Limits.{grid-repairs-bound}
 use Rattle.model.proofs.Sheets.{sheet_length}
@@ -60,6 +61,12 @@ module _ (L : Layout) (e : ℕ → Bool) where
       go : (b : Bool) → answer ≡ cond b (Fatal (lost L e) p) (Repairs (length (repairs L e))) → b ≡ true
       go true is = refl
       go false is = absurd (other _ is)
+
+-- What code answers in place of repairs is no number of repairs.
+pub unrepaired : (v : Verdict) → ((number : ℕ) → v ≡ Found.Repairs number → ⊥) → (number : ℕ) → verdict_of v ≡ Repairs number → ⊥
+unfolding verdict_of
+unrepaired (Found.Repairs c) other number h = other c refl
+unrepaired (Found.Fatal l p) other number h = let z : ◌≡◌ {A = ℕ} 0 1 = cc in omega arith
 
 -- ---- the positions in rising order
 module _ (n : ℕ) (L : Layout) (e : ℕ → Bool) where

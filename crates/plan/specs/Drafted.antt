@@ -8,8 +8,8 @@ use Rattle.stripes.specs.Smallest.{shown_cycle}
 use Rattle.stripes.specs.Sectors.{at_position, sector_repairs, fatal_position}
 use Rattle.model.specs.Sheet.{Format, sheet_of, repair_sheets}
 use Rattle.model.specs.Plan.{cycle_sheets}
-use Rattle.model.specs.declared.Outcome.{Outcome}
-use Rattle.model.specs.declared.Outcome.TheVariants.{Repairs, Fatal}
+use Rattle.model.specs.Outcome.{Outcome}
+use Rattle.model.specs.Outcome.{Repairs, Fatal}
 
 -- What the loss of the disks e at position p comes to.
 unfoldable pub position_outcome : Layout → (e : ℕ → Bool) → (p : ℕ) → Outcome

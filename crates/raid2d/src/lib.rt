@@ -14,8 +14,11 @@ ghost use Rattle.model.specs.Rebuild.{rebuild_turn};
 ghost use Rattle.model.specs.Follow.{follow_outcome, follow_array};
 ghost use Rattle.model.specs.Tidy.{tidy_status, tidy_sheet};
 ghost use Rattle.model.specs.Save.{save_answer, save_array, saving_status, saving_count};
+ghost use Rattle.model.specs.Answers.{status_of, outcome_of, repairs_of, saving_of};
 
-use model::{Checked, Outcome, Saving, Size};
+use model::Size;
+use model::answer::Verdict;
+use refusal::Refusal;
 
 // The version of the library: 10000 times the major number, 100 times the minor number, and the patch.
 #[unsafe(no_mangle)]
@@ -76,12 +79,23 @@ pub extern "C" fn raid2d_sheet_next(sheet: &[u8; 98], number: usize) -> usize
     fields::next(sheet, number)
 }
 
+// The number of what seal, write and tidy answer: 0, or that of a refusal.
+fn status(answer: Result<(), Refusal>) -> u32
+    ensures { result ≡ status_of answer }
+{
+    match answer {
+        Ok(()) => 0,
+        Err(refusal) => refusal.number(),
+    }
+}
+
 #[unsafe(no_mangle)]
 pub extern "C" fn raid2d_seal(rows: usize, columns: usize, block: usize, array: &mut [u8]) -> u32
     ensures status { result ≡ seal_status (rectangle rows columns) block array.old }
     ensures array { array.new ≡ seal_array (rectangle rows columns) block array.old }
 {
-    seal::seal(Size { rows, columns }, block, array)
+    let answer = seal::seal(Size { rows, columns }, block, array);
+    status(answer)
 }
 
 #[unsafe(no_mangle)]
@@ -97,12 +111,12 @@ pub extern "C" fn raid2d_check(
 {
     let answer = scrub::check(Size { rows, columns }, block, array);
     match answer {
-        Checked::Sealed => 0,
-        Checked::Unsealed(lowest) => {
+        Ok(None) => 0,
+        Ok(Some(lowest)) => {
             *stripe = lowest;
             64
         }
-        Checked::Refused(status) => status,
+        Err(refusal) => refusal.number(),
     }
 }
 
@@ -118,7 +132,8 @@ pub extern "C" fn raid2d_write(
     ensures status { result ≡ write_status (rectangle rows columns) block array.old disk «data».now }
     ensures array { array.new ≡ write_array (rectangle rows columns) block array.old disk «data».now }
 {
-    write::write(Size { rows, columns }, block, array, disk, data)
+    let answer = write::write(Size { rows, columns }, block, array, disk, data);
+    status(answer)
 }
 
 #[unsafe(no_mangle)]
@@ -145,33 +160,50 @@ pub extern "C" fn raid2d_look(
     len
 }
 
-// The number of an outcome; its count goes to `count`, if it has one, and the position that it names to `position`.
-fn report(answer: Outcome, count: &mut usize, position: &mut usize) -> u32
-    ensures status { result ≡ outcome_status answer }
-    ensures count { count.new ≡ outcome_count answer count.old }
-    ensures position { position.new ≡ outcome_position answer position.old }
+// The number of what plan, the plan for one disk and rebuild answer; its count goes to `count`, if it has one, and the position that it
+// names to `position`.
+fn report(answer: Result<Verdict, Refusal>, count: &mut usize, position: &mut usize) -> u32
+    ensures status { result ≡ outcome_status (outcome_of answer) }
+    ensures count { count.new ≡ outcome_count (outcome_of answer) count.old }
+    ensures position { position.new ≡ outcome_position (outcome_of answer) position.old }
 {
     match answer {
-        Outcome::Repairs(number) => {
+        Ok(Verdict::Repairs(number)) => {
             *count = number;
             0
         }
-        Outcome::Fatal { lost, position: at } => {
+        Ok(Verdict::Fatal { lost, position: at }) => {
             *count = lost;
             *position = at;
             6
         }
-        Outcome::Refused(status) => status,
+        Err(reason) => reason.number(),
     }
 }
 
 // The same where there is one position.
-fn report_one(answer: Outcome, count: &mut usize) -> u32
-    ensures status { result ≡ outcome_status answer }
-    ensures count { count.new ≡ outcome_count answer count.old }
+fn report_one(answer: Result<Verdict, Refusal>, count: &mut usize) -> u32
+    ensures status { result ≡ outcome_status (outcome_of answer) }
+    ensures count { count.new ≡ outcome_count (outcome_of answer) count.old }
 {
     let mut position = 0;
     report(answer, count, &mut position)
+}
+
+// The number of what follow and save answer; its count goes to `count`, if it has one.
+fn report_count(answer: Result<usize, Refusal>, count: &mut usize) -> u32
+    ensures repairs { result ≡ outcome_status (repairs_of answer) }
+    ensures repairs_count { count.new ≡ outcome_count (repairs_of answer) count.old }
+    ensures saved { result ≡ saving_status (saving_of answer) }
+    ensures saved_count { count.new ≡ saving_count (saving_of answer) count.old }
+{
+    match answer {
+        Ok(number) => {
+            *count = number;
+            0
+        }
+        Err(refusal) => refusal.number(),
+    }
 }
 
 #[unsafe(no_mangle)]
@@ -274,7 +306,7 @@ pub extern "C" fn raid2d_follow(
         count.old }
 {
     let answer = follow::follow(Size { rows, columns }, block, array, sector, map, sheets);
-    report_one(answer, count)
+    report_count(answer, count)
 }
 
 #[unsafe(no_mangle)]
@@ -282,21 +314,8 @@ pub extern "C" fn raid2d_tidy(sheet: &mut [u8]) -> u32
     ensures status { result ≡ tidy_status narrow sheet.old }
     ensures sheet { sheet.new ≡ tidy_sheet narrow sheet.old }
 {
-    tidy::tidy(sheet)
-}
-
-// The number of what save answers; its count goes to `count`, if it has one.
-fn report_saving(answer: Saving, count: &mut usize) -> u32
-    ensures status { result ≡ saving_status answer }
-    ensures count { count.new ≡ saving_count answer count.old }
-{
-    match answer {
-        Saving::Saved(number) => {
-            *count = number;
-            0
-        }
-        Saving::Refused(status) => status,
-    }
+    let answer = tidy::tidy(sheet);
+    status(answer)
 }
 
 #[unsafe(no_mangle)]
@@ -315,5 +334,5 @@ pub extern "C" fn raid2d_save(
         count.old }
 {
     let answer = save::save(Size { rows, columns }, block, array, sector, map);
-    report_saving(answer, count)
+    report_count(answer, count)
 }

@@ -4,9 +4,7 @@ use mathlib.Core.Path.{◌≡◌, refl, sym, ◌∙◌, ap}
 use mathlib.Core.Bool.{Bool, true, false, cond, not, ◌&&◌}
 use mathlib.Core.List.{List}
 use Prim.Native.Nat.{ℕ, ◌+◌, ◌<◌}
-use native.Mathlib.Nat.{not-suc-le-zero}
 use native.Mathlib.Omega.{arith}
-use borrow.Author.Count.{below_more}
 use borrow.Author.Tests.{eqb-true, eqb-false}
 use lib.ListN.{length, get_or, set, length-set}
 use lib.Seq.{get_or-set_same, get_or-set_other}
@@ -15,26 +13,6 @@ use Rattle.reach.specs.Reached.{has, reached, steps_to, word_stripes}
 use Rattle.reach.proofs.Steps.{steps_found, steps_none, steps_self}
 use Rattle.reach.proofs.Search.{Searched, beside, fresh-reached, fresh_new, others_as_before}
 
--- ---- one level for all
--- The first k places of the table have it.
-pub record Filled (level : ℕ) (before : List ℕ) (k : ℕ) (levels : List ℕ) : Type 0 where
-  pub long : length levels ≡ length before
-  pub done : (t : ℕ) → t < k → get_or levels t 0 ≡ level
-
-pub filled_none : (level : ℕ) (before : List ℕ) → Filled level before 0 before
-filled_none level before = record { long = refl; done = λ t l. absurd (not-suc-le-zero l) }
-
-pub filled_next : {level : ℕ} {before : List ℕ} {k : ℕ} {levels : List ℕ} → Filled level before k levels → k < length levels
-    → Filled level before (k + 1) (set levels k level)
-filled_next {level} {before} {k} {levels} filled l =
-    record {
-      long = length-set levels k level ∙ filled.long;
-      done =
-          below_more (λ t. get_or (set levels k level) t 0 ≡ level) k
-          (λ t w. get_or-set_other levels k t level 0 (λ q. omega arith) ∙ filled.done t w) (get_or-set_same levels k level 0 l);
-    }
-
--- ---- the levels of a search
 -- After k steps, what is reached has its number of steps, and everything else one more than the limit.
 pub record Levelled (next : ℕ → ℕ → Bool) (from limit k : ℕ) (levels : List ℕ) : Type 0 where
   pub long : length levels ≡ word_stripes

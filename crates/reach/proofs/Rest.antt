@@ -12,7 +12,8 @@ use lib.ListN.{length, get_or, set, length-set}
 use lib.Seq.{get_or-set_same, get_or-set_other}
 use Rattle.stripes.proofs.Fold.{by_cases}
 use Rattle.reach.specs.Reached.{has, some, word_stripes}
-use Rattle.reach.proofs.Words.{Without, has-none, has_or}
+use Rattle.reach.specs.Members.{Without}
+use Rattle.reach.proofs.Words.{has-none, has_or}
 use Rattle.reach.proofs.Steps.{some_ext, some-none, some_at, some_or}
 use Rattle.reach.proofs.Search.{beside}
 

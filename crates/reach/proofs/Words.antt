@@ -15,6 +15,7 @@ use Rattle.stripes.specs.Fold.{◌⊕◌, bit}
 use Rattle.stripes.proofs.Fold.{lt_or_le}
 use Rattle.stripes.proofs.Digits.{digit, digit-none, digit-one, digit_or, digit-⊕}
 use Rattle.reach.specs.Reached.{has}
+pub use Rattle.reach.specs.Members.{Without}
 
 -- ---- digits and tests
 -- A digit is 1 for a stripe that the set has, else 0.
@@ -142,13 +143,6 @@ module _ (q s : ℕ) where
   has-lowest =
       let form : q * 2 ^ suc s + 2 ^ s ≡ suc (q * 2) * 2 ^ s = rw (suc-mul, mul_assoc, pow-succ') in
       eq-eqb _ _ (ap (λ (x : ℕ). x / 2 ^ s % 2) form ∙ ap (λ (x : ℕ). x % 2) (shl-shr (suc (q * 2)) s) ∙ omega arith)
-
--- A set without one of its stripes: the stripe is in it and is one that a word has room for, all others are left, and the word is smaller.
-pub record Without (set s rest : ℕ) : Type 0 where
-  pub small : s < 64
-  pub member : has set s ≡ true
-  pub others : (t : ℕ) → has rest t ≡ (has set t && not (eqb t s))
-  pub less : rest < set
 
 -- The code takes the lowest stripe out of a set that is not empty.
 pub lowest_out : (set : ℕ) → (set ≡ 0 → ⊥) → set < 2 ^ 64 → Without set (count_trailing_zeros 64 set) (bit_and set (set - 1))

@@ -3,6 +3,8 @@
 #![tactic(auto)]
 
 ghost use Rattle.std.specs.Prelude.{◌≡◌, ◌&&◌, not, cond, ℕ, ◌+◌, ◌^◌, ◌≤◌, ◌<◌, length, get_or};
+ghost use Rattle.std.specs.Iterator.{at_most};
+ghost use Rattle.reach.specs.Members.{Takes};
 ghost use Rattle.reach.specs.Reached.{has as Reached·has, some, reached, next_in, steps_to, word_stripes};
 
 // The stripes that a word, and a table of words, has room for.
@@ -24,17 +26,44 @@ pub fn has(set: u64, stripe: usize) -> bool
     (set >> stripe) % 2 == 1
 }
 
-// The stripes next to those of a set. Digits that are 0 are passed over at once.
+// The stripes of a set, one after another. Digits that are 0 are passed over at once.
+#[derive(Drop)]
+pub struct Members {
+    left: u64,
+}
+
+impl Iterator for Members {
+    type Item = usize;
+
+    ghost next_gives = { λ s r t. Takes s.left r t.left };
+
+    ghost remaining = { λ s. at_most s.left };
+
+    fn next(&mut self) -> Option<usize> {
+        if self.left == 0 {
+            return None;
+        }
+        let stripe = self.left.trailing_zeros() as usize;
+        self.left &= self.left - 1;
+        Some(stripe)
+    }
+}
+
+// Goes over the stripes of a set.
+pub fn members_of(set: u64) -> Members
+    ensures { result.left ≡ set }
+{
+    Members { left: set }
+}
+
+// The stripes next to those of a set.
 fn neighbours(near: &[u64], set: u64) -> u64
     requires { word_stripes ≤ length near.now }
     ensures { (t : ℕ) → Reached·has result t ≡ some word_stripes (λ s. Reached·has set s && next_in near.now s t) }
 {
-    let mut all = 0u64;
-    let mut rest = set;
-    while rest != 0 {
-        let s = u64::trailing_zeros(rest) as usize;
+    let mut all = 0;
+    for s in members_of(set) {
         all |= near[s];
-        rest = rest & (rest - 1);
     }
     all
 }
@@ -48,8 +77,8 @@ fn fresh(near: &[u64], front: u64, seen: u64) -> u64
     (neighbours(near, front) | seen) ^ seen
 }
 
-// How many steps lead from one stripe to another, or limit + 1 where `limit` steps are not enough. Only the stripes that the last step
-// found are gone on from.
+// How many steps lead from one stripe to another, or limit + 1 where `limit` steps are not enough, as `steps_to` has it. Only
+// the stripes that the last step found are gone on from.
 pub fn distance(near: &[u64], from: usize, to: usize, limit: usize) -> usize
     requires word_stripes_in_bounds { word_stripes ≤ length near.now }
     requires from_lt_word_stripes { from < word_stripes }
@@ -62,15 +91,13 @@ pub fn distance(near: &[u64], from: usize, to: usize, limit: usize) -> usize
     }
     let mut seen = one(from);
     let mut front = seen;
-    let mut k = 0;
-    while k < limit {
+    for k in 0..limit {
         front = fresh(near, front, seen);
         if front == 0 {
             return limit + 1;
         }
-        k += 1;
         if has(front, to) {
-            return k;
+            return k + 1;
         }
         seen |= front;
     }
@@ -86,28 +113,14 @@ pub fn ball(near: &[u64], from: usize, steps: usize) -> u64
 {
     let mut inside = one(from);
     let mut front = inside;
-    let mut taken = 0;
-    while taken < steps {
+    for _taken in 0..steps {
         front = fresh(near, front, inside);
         if front == 0 {
             return inside;
         }
         inside |= front;
-        taken += 1;
     }
     inside
-}
-
-// Every stripe has one level.
-fn fill(levels: &mut [u8], level: u8)
-    requires { length levels.old ≡ word_stripes }
-    ensures { (t : ℕ) → t < word_stripes → get_or levels.new t 0 ≡ level }
-{
-    let mut t = 0;
-    while t < STRIPES {
-        levels[t] = level;
-        t += 1;
-    }
 }
 
 // The stripes of a set get a level.
@@ -115,16 +128,13 @@ fn mark(levels: &mut [u8], set: u64, level: u8)
     requires { length levels.old ≡ word_stripes }
     ensures { (t : ℕ) → get_or levels.new t 0 ≡ cond (Reached·has set t) level (get_or levels.old t 0) }
 {
-    let mut left = set;
-    while left != 0 {
-        let s = u64::trailing_zeros(left) as usize;
+    for s in members_of(set) {
         levels[s] = level;
-        left = left & (left - 1);
     }
 }
 
-// `levels` becomes the table of how many steps lead from one stripe to each, limit + 1 where `limit` steps are not enough. What it held does
-// not matter.
+// `levels` becomes the table of how many steps lead from one stripe to each, limit + 1 where `limit` steps are not enough, as `steps_to` has
+// it. What it held does not matter.
 pub fn levels(near: &[u64], from: usize, limit: usize, levels: &mut [u8])
     requires word_stripes_in_bounds { word_stripes ≤ length near.now }
     requires from_lt_word_stripes { from < word_stripes }
@@ -133,18 +143,16 @@ pub fn levels(near: &[u64], from: usize, limit: usize, levels: &mut [u8])
     ensures { (t : ℕ) → t < word_stripes →
         get_or levels.new t 0 ≡ steps_to (next_in near.now) word_stripes from limit t }
 {
-    fill(levels, limit as u8 + 1);
+    levels.fill(limit as u8 + 1);
     levels[from] = 0;
     let mut done = one(from);
     let mut front = done;
-    let mut level = 0;
-    while level < limit {
+    for level in 0..limit {
         front = fresh(near, front, done);
         if front == 0 {
             return;
         }
-        level += 1;
-        mark(levels, front, level as u8);
+        mark(levels, front, level as u8 + 1);
         done |= front;
     }
 }

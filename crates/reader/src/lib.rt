@@ -15,7 +15,11 @@ pub struct Reader<'a> {
 #[derive(Clone, Copy)]
 pub enum Found {
     // A record: its disk, its stripe, the number of the next record.
-    Record(usize, usize, usize),
+    Record {
+        disk: usize,
+        stripe: usize,
+        next: usize,
+    },
     // Number 0, which ends the chain.
     End,
     // A number that no record of the sheet has.
@@ -23,6 +27,7 @@ pub enum Found {
 }
 
 // What stands under a number of a sheet.
+#[tactic(auto, unfolding(crate::specs::Found::found_at, model::specs::Chain::entry_at, model::specs::Chain::next_number, model::specs::Sheet::number_at))]
 pub fn record_at(sheet: &[u8], number: usize) -> Found
     ensures { result ≡ found_at sheet.now number }
 {
@@ -36,22 +41,22 @@ pub fn record_at(sheet: &[u8], number: usize) -> Found
         return Found::Outside;
     }
     let at = 2 + sheet::RECORD_BYTES * (number - 1);
-    Found::Record(
-        sheet[at] as usize,
-        sheet[at + sheet::DISK_BYTES] as usize,
-        sheet[at + sheet::DISK_BYTES + 1] as usize,
-    )
+    Found::Record {
+        disk: sheet[at] as usize,
+        stripe: sheet[at + sheet::DISK_BYTES] as usize,
+        next: sheet[at + sheet::DISK_BYTES + 1] as usize,
+    }
 }
 
 // A reader of a sheet, before the record with this number.
-pub fn new<'a>(sheet: &'a [u8], number: usize) -> Reader<'a>
+pub fn new(sheet: &[u8], number: usize) -> Reader<'_>
     ensures { (result.sheet ≡ sheet.entry) × (result.number ≡ number) }
 {
     Reader { sheet, number }
 }
 
 // The record that it stands before.
-pub fn next<'a>(reader: Reader<'a>) -> Found
+pub fn next(reader: Reader<'_>) -> Found
     ensures { result ≡ found_at reader.entry.sheet.now reader.entry.number }
 {
     record_at(reader.sheet, reader.number)

@@ -2,8 +2,7 @@
 -- Assumes nothing.
 use mathlib.Core.Path.{◌≡◌, refl, sym, ◌∙◌, ap, subst}
 use mathlib.Core.Bool.{Bool, true, false, cond, not}
-use mathlib.Core.List.{List, [], ◌∷◌}
-use mathlib.Core.Logic.{⊎_elim}
+use mathlib.Core.List.{List}
 use Prim.Native.Nat.{ℕ, ◌/◌, ◌≤◌, ◌<◌, min}
 use native.Mathlib.Omega.{arith}
 use borrow.Author.Tests.{not-true, not-false}
@@ -26,8 +25,8 @@ use Rattle.model.specs.Turn.{Turn, loss_told, contradiction, repairs_made, turn_
 use Rattle.model.specs.Rebuild.{buffer_tests, buffer_refusal, rebuild_tests, rebuild_refusal, rebuild_turn}
 use Rattle.model.specs.Follow.{sheets_entries}
 use Rattle.model.specs.declared.Size.{Size}
-use Rattle.model.specs.declared.Outcome.{Outcome}
-use Rattle.model.specs.declared.Outcome.TheVariants.{Repairs, Fatal, Refused}
+use Rattle.model.specs.Outcome.{Outcome}
+use Rattle.model.specs.Outcome.{Repairs, Fatal, Refused}
 use Rattle.model.proofs.Refusal.{refused_first, sector_fits_lem, sector_passed}
 use Rattle.model.proofs.Accept.{BuffersFit, buffers_fit, limit_passed}
 use Rattle.model.proofs.Turns.{first_peels}
@@ -35,7 +34,6 @@ use Rattle.model.proofs.Demand3.{limit_refused, rebuild_refused, rebuild_accepte
 use Rattle.model.proofs.Grid.{map-length}
 use Rattle.model.proofs.Chain.{clean_exact}
 use Rattle.model.proofs.SheetRow.{length-repair_sheets, sheet_clean, sheets-list, sectors_fitting}
-use Rattle.model.specs.contracts.Outcome as outcome
 use Rattle.plan.specs.Drafted.{draft_sheets}
 use Rattle.restore.specs.Restored.{Sectored}
 use Rattle.rebuild.specs.Marked.{Within}

@@ -3,11 +3,15 @@
 
 ghost use Rattle.std.specs.Prelude.{◌≡◌};
 ghost use Rattle.model.specs.Rebuild.{rebuild_turn};
+ghost use Rattle.model.specs.Answers.{outcome_of};
 
 mod mark;
 mod turn;
 
-use model::{Outcome, Size};
+use layout::stripe::Grid;
+use model::Size;
+use model::answer::Verdict;
+use refusal::Refusal;
 
 // Restores the first erased sectors in plan's order, at most `limit`, has the map call them present, and lists these repairs in the sheets
 // of their positions. Where nothing is erased then, every stripe is tested; if the survivors contradict each other, the sectors of this turn
@@ -20,43 +24,31 @@ pub fn rebuild(
     map: &mut [u8],
     sheets: &mut [u8],
     limit: usize,
-) -> Outcome
-    ensures outcome { result ≡ (rebuild_turn size block sector array.old map.old sheets.old limit).answer }
+) -> Result<Verdict, Refusal>
+    ensures outcome { outcome_of result ≡ (rebuild_turn size block sector array.old map.old sheets.old limit).answer }
     ensures array { array.new ≡ (rebuild_turn size block sector array.old map.old sheets.old limit).array }
     ensures map { map.new ≡ (rebuild_turn size block sector array.old map.old sheets.old limit).map }
     ensures sheets { sheets.new ≡ (rebuild_turn size block sector array.old map.old sheets.old limit).sheets }
 {
-    let of_array = refusal::sector_refusal(size, block, array.len(), sector);
-    if of_array != 0 {
-        return Outcome::Refused(of_array);
-    }
+    refusal::test_sectors(size, block, array.len(), sector)?;
     let sectors = block / sector;
-    let of_sheets = refusal::sheet_refusal(size, sectors, map, sheets.len());
-    if of_sheets != 0 {
-        return Outcome::Refused(of_sheets);
-    }
+    refusal::test_sheets(size, sectors, map, sheets.len())?;
     if limit == 0 {
-        return Outcome::Refused(12);
+        return Err(Refusal::Limit);
     }
     let answer = plan::draft(size, sectors, map, sheets, limit);
-    let Outcome::Repairs(count) = answer else {
-        return answer;
+    let Verdict::Repairs(count) = answer else {
+        return Ok(answer);
     };
     let made = entries::at_most(count, limit);
-    if !turn::make(
+    let grid = Grid {
         size,
-        sheet::BASE,
-        block,
-        sector,
-        array,
-        map,
-        sheets,
-        count,
-        made,
-    ) {
+        base: sheet::BASE,
+    };
+    if !turn::make(grid, block, sector, array, map, sheets, count, made) {
         sheet::zero_all(sheets, sectors);
-        return Outcome::Refused(7);
+        return Err(Refusal::Survivors);
     }
     mark::mark_present(map, sectors, sheets);
-    Outcome::Repairs(made)
+    Ok(Verdict::Repairs(made))
 }

@@ -18,11 +18,9 @@ fn mark_position(map: &mut [u8], sectors: usize, position: usize, list: &[u32], 
     ensures { map.new
         ≡ map_after map.old (List·map (sector_entry sectors position) (listed list.now count)) }
 {
-    let mut k = 0;
-    while k < count {
+    for k in 0..count {
         let disk = entries::disk_of(list, k);
         map[disk * sectors + position] = 0;
-        k += 1;
     }
 }
 
@@ -35,11 +33,9 @@ pub fn mark_present(map: &mut [u8], sectors: usize, sheets: &[u8])
     ensures { map.new ≡ map_after map.old (sheets_entries narrow sectors sheets.now) }
 {
     let mut list = [0u32; entries::CAPACITY];
-    let mut p = 0;
-    while p < sectors {
+    for p in 0..sectors {
         let at = sheet::BYTES * p;
         let count = chain::list(&sheets[at..at + sheet::BYTES], &mut list);
         mark_position(map, sectors, p, &list, count);
-        p += 1;
     }
 }

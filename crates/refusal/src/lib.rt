@@ -1,12 +1,14 @@
-// What the calls refuse: the tests of their arguments, each with its number, in the order's sequence.
+// What the calls refuse: the tests of their arguments, each with its refusal, in the order's sequence.
 #![tactic(auto)]
 
 ghost use Rattle.std.specs.Prelude.{◌≡◌, true};
 ghost use Rattle.model.specs.Grid.{side_fits, size_fits, block_fits, sector_fits, sectors_fit, map_bytes, map_fits};
 ghost use Rattle.model.specs.Refusal.{refusal, array_tests, sector_tests};
 ghost use Rattle.model.specs.Plan.{sheet_tests};
+ghost use Rattle.model.specs.Answers.{number, status_of};
 
 use model::Size;
+pub use model::answer::Refusal;
 
 // The least and the most data rows, and data columns.
 const SIDE_MIN: usize = 2;
@@ -86,10 +88,8 @@ fn bytes_fit(len: usize, map: &[u8]) -> bool
         return false;
     }
     let mut any = 0u8;
-    let mut d = 0;
-    while d < map.len() {
-        any = any | map[d];
-        d += 1;
+    for &byte in map {
+        any |= byte;
     }
     any <= 1
 }
@@ -103,48 +103,44 @@ pub fn map_fits(size: Size, sectors: usize, map: &[u8]) -> bool
     bytes_fit(layout::disks(size) * sectors, map)
 }
 
-// The tests of the size, the block's length and the array's length, which come first in every call on an array: the
-// refusal, or 0.
-pub fn array_refusal(size: Size, block: usize, len: usize) -> u32
-    ensures { result ≡ refusal (array_tests size block len) }
+// The tests of the size, the block's length and the array's length, which come first in every call on an array.
+pub fn test_array(size: Size, block: usize, len: usize) -> Result<(), Refusal>
+    ensures { status_of result ≡ refusal (array_tests size block len) }
 {
     if !size_fits(size) {
-        return 1;
+        return Err(Refusal::Size);
     }
     if !block_fits(block) {
-        return 2;
+        return Err(Refusal::Block);
     }
     if len != layout::array_bytes(size, block) {
-        return 3;
+        return Err(Refusal::Array);
     }
-    0
+    Ok(())
 }
 
-// Besides, the test of the sectors, where a call takes their length: the refusal, or 0.
-pub fn sector_refusal(size: Size, block: usize, len: usize, sector: usize) -> u32
-    ensures { result ≡ refusal (sector_tests size block len sector) }
+// Besides, the test of the sectors, where a call takes their length.
+pub fn test_sectors(size: Size, block: usize, len: usize, sector: usize) -> Result<(), Refusal>
+    ensures { status_of result ≡ refusal (sector_tests size block len sector) }
 {
-    let status = array_refusal(size, block, len);
-    if status != 0 {
-        return status;
-    }
+    test_array(size, block, len)?;
     if !sector_fits(block, sector) {
-        return 16;
+        return Err(Refusal::Sector);
     }
-    0
+    Ok(())
 }
 
-// The tests of the map and of the length of the sheets, which follow the others in every call that takes both: the refusal, or 0.
-pub fn sheet_refusal(size: Size, sectors: usize, map: &[u8], len: usize) -> u32
+// The tests of the map and of the length of the sheets, which follow the others in every call that takes both.
+pub fn test_sheets(size: Size, sectors: usize, map: &[u8], len: usize) -> Result<(), Refusal>
     requires size_value { size_fits size ≡ true }
     requires sectors_value { sectors_fit sectors ≡ true }
-    ensures { result ≡ refusal (sheet_tests size sectors map.now len) }
+    ensures { status_of result ≡ refusal (sheet_tests size sectors map.now len) }
 {
     if !map_fits(size, sectors, map) {
-        return 4;
+        return Err(Refusal::Map);
     }
     if len != SHEET_BYTES * sectors {
-        return 5;
+        return Err(Refusal::Sheets);
     }
-    0
+    Ok(())
 }

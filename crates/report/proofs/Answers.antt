@@ -3,7 +3,7 @@
 use mathlib.Core.Path.{◌≡◌, refl, sym, ◌∙◌, ap}
 use mathlib.Core.Bool.{Bool, true, false, cond}
 use mathlib.Core.List.{List}
-use Prim.Native.Nat.{ℕ, suc, ◌≤◌}
+use Prim.Native.Nat.{ℕ, suc, ◌≤◌, ◌<◌}
 use native.Mathlib.Omega.{arith}
 use lib.ListN.{length, get_or, drop}
 use Rattle.stripes.specs.System.{Layout}
@@ -17,6 +17,9 @@ use Rattle.model.specs.Plan.{sheet_tests, one_tests, sheet_layout}
 use Rattle.model.specs.Listing.{repair_word, fatal_word, refused_word, listed as Listing·listed, listing}
 use Rattle.model.specs.declared.Size.{Size}
 use Rattle.model.proofs.Refusal.{given-accepted, given-refused, fails, passes}
+use Rattle.model.specs.declared.answer.Refusal.{Refusal}
+use Rattle.model.specs.declared.answer.Refusal.TheVariants as Because
+use Rattle.model.specs.Answers.{number}
 use Rattle.entries.specs.Listed.{listed}
 use Rattle.solve.specs.Solved.{Repairable, Lossy}
 use Rattle.solve.proofs.Fitting.{repairs_fit, cycle-fits}
@@ -29,6 +32,25 @@ use Rattle.report.proofs.Entries.{printable}
 pub input_reported : (input : List ℕ) → reported (rectangle (get_or input 0 0) (get_or input 1 0)) (drop 2 input) ≡ listing input
 unfolding reported listing rectangle rows columns
 input_reported input = refl
+
+-- The number of a refusal has at most three digits.
+pub number_short : (r : Refusal) → number r < 1000
+unfolding number
+number_short Because.Size = omega arith
+number_short Because.Block = omega arith
+number_short Because.Array = omega arith
+number_short Because.Map = omega arith
+number_short Because.Sheets = omega arith
+number_short Because.Survivors = omega arith
+number_short Because.Disk = omega arith
+number_short Because.Data = omega arith
+number_short Because.Chain = omega arith
+number_short Because.Repairs = omega arith
+number_short Because.Limit = omega arith
+number_short Because.Ring = omega arith
+number_short Because.Leftovers = omega arith
+number_short Because.Wanted = omega arith
+number_short Because.Sector = omega arith
 
 -- ---- the text for a size and a map
 module _ (z : Size) (m : List ℕ) where

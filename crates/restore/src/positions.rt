@@ -8,43 +8,38 @@ ghost use Rattle.model.specs.Grid.{layout_of};
 ghost use Rattle.model.specs.Sheet.{narrow, sheets_bytes, sheet_at};
 ghost use Rattle.model.specs.Chain.{chain_refusal};
 ghost use Rattle.model.specs.Follow.{sheets_entries};
-ghost use Rattle.layout.specs.Stripe.{Numbered};
 ghost use Rattle.restore.specs.Restored.{Sectored};
 
-use model::Size;
+use layout::stripe::Grid;
 use stripes::Stretch;
 
 // Makes the repairs of each sheet, positions in rising order. The map says only of what the contract speaks.
 pub fn repair_positions(
-    size: Size,
-    base: usize,
+    grid: Grid,
     block: usize,
     sector: usize,
     array: &mut [u8],
     map: &[u8],
     sheets: &[u8],
 )
-    requires numbered { Numbered size base }
-    requires sectored { Sectored size block sector array.old }
+    requires sectored { Sectored grid.size block sector array.old }
     requires sheets_len { length sheets.now ≡ sheets_bytes narrow (block / sector) }
     requires by_index { (p : ℕ) → p < block / sector → chain_refusal narrow (sheet_at narrow p sheets.now) ≡ 0 }
-    requires peels { Peels (sectored (block / sector) (layout_of size base)) (erasures map.now) (sheets_entries narrow (block / sector) sheets.now) }
+    requires peels { Peels (sectored (block / sector) (layout_of grid.size grid.base)) (erasures map.now) (sheets_entries narrow (block / sector) sheets.now) }
     ensures { array.new
-        ≡ rebuilt (sectored (block / sector) (layout_of size base)) (whole sector) array.old
+        ≡ rebuilt (sectored (block / sector) (layout_of grid.size grid.base)) (whole sector) array.old
         (sheets_entries narrow (block / sector) sheets.now) }
 {
     let mut list = [0u32; entries::CAPACITY];
     let sectors = block / sector;
-    let mut p = 0;
-    while p < sectors {
+    for p in 0..sectors {
         let at = sheet::BYTES * p;
         let count = chain::list(&sheets[at..at + sheet::BYTES], &mut list);
         let stretch = Stretch {
-            block: block,
+            block,
             offset: p * sector,
             width: sector,
         };
-        crate::repair::repair_all(size, base, stretch, array, &list, count);
-        p += 1;
+        crate::repair::repair_all(grid, stretch, array, &list, count);
     }
 }

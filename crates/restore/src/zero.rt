@@ -10,11 +10,9 @@ pub fn zero_erased(sector: usize, array: &mut [u8], map: &[u8])
     requires array_len_bound { length array.old ≤ 1048576 }
     ensures { array.new ≡ zeroed (whole sector) array.old (erasures map.now) }
 {
-    let mut i = 0;
-    while i < map.len() {
+    for i in 0..map.len() {
         if map[i] == 1 {
             zeros::wipe(array, i * sector, sector);
         }
-        i += 1;
     }
 }

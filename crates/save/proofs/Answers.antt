@@ -21,8 +21,8 @@ use Rattle.model.specs.Grid.{layout_of, column_base, disks, array_bytes, sector_
 use Rattle.model.specs.Refusal.{refusal, sector_tests}
 use Rattle.model.specs.Save.{save_layout, map_tests, save_answer, save_array}
 use Rattle.model.specs.declared.Size.{Size}
-use Rattle.model.specs.declared.Saving.{Saving}
-use Rattle.model.specs.declared.Saving.TheVariants.{Saved, Refused}
+use Rattle.model.specs.Saving.{Saving}
+use Rattle.model.specs.Saving.{Saved, Refused}
 use Rattle.model.proofs.Grid.{layout-two, layout-disks, disks-bound, bytes-bound, size_fits_lem, block_fits_lem, map-length, sector-cut, sector-some, sectors-some}
 use Rattle.model.proofs.Refusal.{fails, refused_first, ArrayFits, sector_fits_lem, sector_passed}
 use Rattle.model.proofs.Save.{SaveFits, save_first, save_judged}

@@ -1,7 +1,7 @@
 // The lines that the programs print, and the numbers of the papers for what the calls answer.
 #![tactic(auto)]
 
-use model::{Checked, Outcome};
+use model::answer::{Refusal, Verdict};
 use std::io;
 
 // A size, without the end of a line.
@@ -19,28 +19,31 @@ pub fn number(rt: &impl Print, what: &str, value: usize) -> io::Result<()> {
     println!(rt; "{what}: {value}")
 }
 
-// The same for a status.
-pub fn status(rt: &impl Print, what: &str, value: u32) -> io::Result<()> {
-    number(rt, what, value as usize)
+// The same for a call that answers nothing of which a number tells: 0, or the number of its refusal.
+pub fn status<T: Copy>(rt: &impl Print, what: &str, answer: Result<T, Refusal>) -> io::Result<()> {
+    let status = match answer {
+        Ok(_) => 0,
+        Err(refusal) => refusal.number(),
+    };
+    number(rt, what, status as usize)
 }
 
-// The same for what check answers: 0 for sealed, 64 for not sealed, or a refusal.
-pub fn checked(rt: &impl Print, what: &str, answer: Checked) -> io::Result<()> {
-    match answer {
-        Checked::Sealed => status(rt, what, 0),
-        Checked::Unsealed(_) => status(rt, what, 64),
-        Checked::Refused(k) => status(rt, what, k),
+// The same for what check answers: 0 for sealed, 64 for not sealed, or the number of a refusal.
+pub fn checked(
+    rt: &impl Print,
+    what: &str,
+    answer: Result<Option<usize>, Refusal>,
+) -> io::Result<()> {
+    if let Ok(Some(_)) = answer {
+        return number(rt, what, 64);
     }
+    status(rt, what, answer)
 }
 
-// The same for what plan, rebuild and follow answer: 0 for repairs, 6 for a fatal loss, or a refusal.
-pub fn outcome(rt: &impl Print, what: &str, answer: Outcome) -> io::Result<()> {
-    match answer {
-        Outcome::Repairs(_) => status(rt, what, 0),
-        Outcome::Fatal {
-            lost: _lost,
-            position: _position,
-        } => status(rt, what, 6),
-        Outcome::Refused(k) => status(rt, what, k),
+// The same for what plan and rebuild answer: 0 for repairs, 6 for a fatal loss, or the number of a refusal.
+pub fn outcome(rt: &impl Print, what: &str, answer: Result<Verdict, Refusal>) -> io::Result<()> {
+    if let Ok(Verdict::Fatal { .. }) = answer {
+        return number(rt, what, 6);
     }
+    status(rt, what, answer)
 }

@@ -13,7 +13,7 @@ use Rattle.model.specs.Grid.{layout_of, column_base}
 use Rattle.model.specs.Refusal.{refusal, array_tests}
 use Rattle.model.specs.Array.{lowest_unsealed, checked}
 use Rattle.model.specs.declared.Size.{Size}
-use Rattle.model.specs.declared.Checked.TheVariants.{Sealed, Unsealed}
+use Rattle.model.specs.Checked.{Sealed, Unsealed}
 use Rattle.model.proofs.Refusal.{given-accepted}
 use Rattle.sums.specs.Held.{nonzero}
 

@@ -14,10 +14,8 @@ pub fn fill_rows(size: Size, block: usize, array: &mut [u8])
     let across = layout::across(size);
     let last = layout::columns(size);
     let row_bytes = across * block;
-    let mut row = 0;
-    while row < layout::rows(size) {
+    for row in 0..layout::rows(size) {
         xor::fill::fill(array, row * row_bytes, block, across, last, block);
-        row += 1;
     }
 }
 

@@ -2,8 +2,9 @@
 -- Assumes nothing.
 use mathlib.Core.Path.{◌≡◌, refl, sym, ◌∙◌, ap}
 use mathlib.Core.Bool.{Bool, true, false, cond, not, ◌&&◌, true≢false}
-use mathlib.Core.List.{List, [], ◌∷◌}
+use mathlib.Core.List.{List}
 use mathlib.Core.Logic.{⊎_elim}
+use Rattle.std.specs.Prelude.{Result, Ok, Err}
 use Prim.Native.Nat.{ℕ, zero, suc, ◌+◌, ◌*◌, ◌-◌, ◌/◌, ◌≤◌, ◌<◌}
 use native.Mathlib.Nat.{mul_comm, mul-suc, le-mul_of_pos_right}
 use native.Mathlib.Numerals.{add-one}
@@ -27,9 +28,10 @@ use Rattle.model.specs.Plan.{sheet_layout, loss_outcome, cycle_sheets, loss_shee
 use Rattle.model.specs.Turn.{Turn, clear, accepted, unfinished, loss_told, contradiction, repairs_made, turn_repairs, contradicts, turn_of, repair_count}
 use Rattle.model.specs.Rebuild.{rebuild_refusal, rebuild_turn}
 use Rattle.model.specs.declared.Size.{Size}
-use Rattle.model.specs.declared.Outcome.{Outcome}
-use Rattle.model.specs.declared.Outcome.TheVariants.{Repairs, Fatal, Refused}
-use Rattle.model.specs.contracts.Outcome as outcome
+use Rattle.model.specs.Outcome.{Outcome}
+use Rattle.model.specs.Outcome.{Repairs, Fatal, Refused}
+use Rattle.model.specs.declared.answer.Verdict.{Verdict}
+use Rattle.model.specs.declared.answer.Verdict.TheVariants as Found
 use Rattle.model.proofs.Accept.{BuffersFit, rebuild_fits, buffers_fit}
 use Rattle.model.proofs.Demand3.{rebuild_accepted, rebuild_refused, sectors-number}
 use Rattle.model.proofs.Grid.{rows-below, map-length, sectors-some, sectors-bound}
@@ -37,8 +39,9 @@ use Rattle.model.proofs.Limits.{grid-repairs-bound}
 use Rattle.model.proofs.SheetRow.{length-repair_sheets, length-blank_sheets, length-cycle_sheets}
 use Rattle.model.proofs.Turns.{turn_length, turn_map}
 use Rattle.model.specs.Series.{positions, turn_bytes}
-use Rattle.series.specs.Total.{next_total}
-use Rattle.series.specs.declared.Turns.{Turns}
+use Rattle.model.specs.declared.answer.Refusal.{Refusal}
+use Rattle.model.specs.Answers.{verdict_of, outcome_of}
+use Rattle.series.specs.Total.{Total, next_total}
 use Rattle.tally.specs.Tally.{next_erased}
 use Rattle.tally.proofs.Scanned.{next_erased_lem, next_passed}
 
@@ -86,6 +89,15 @@ module _ (c n : ℕ) where
   number_small limit some room = let least = le-mul_of_pos_right (n + 1) some in let same = mul_comm c (n + 1) in omega arith
 
 -- ---- answers
+
+-- What code answers in place of a number of repairs is none.
+pub unrepaired : (r : Result Verdict Refusal) → ((number : ℕ) → r ≡ Ok (Found.Repairs number) → ⊥)
+    → (number : ℕ) → outcome_of r ≡ Repairs number → ⊥
+unfolding outcome_of verdict_of
+unrepaired (Ok (Found.Repairs c)) other number e = other c refl
+unrepaired (Ok (Found.Fatal l p)) other number e = let clash : ◌≡◌ {A = ℕ} 0 1 = cc in omega arith
+unrepaired (Err k) other number e = let clash : ◌≡◌ {A = ℕ} 0 1 = cc in omega arith
+
 not-repairs : (o : Outcome) → ((number : ℕ) → o ≡ Repairs number → ⊥) → (accepted o ≡ false) × (repair_count o ≡ 0)
 unfolding accepted repair_count
 not-repairs (Repairs c) other = absurd (other c refl)
@@ -147,7 +159,7 @@ module _ (z : Size) (B w : ℕ) (a m s : List ℕ) (k : ℕ) where
   t = rebuild_turn z B w a m s k
 
   -- A turn that is refused is the last.
-  pub refused_last : (d : Turns) (o : Outcome) → o ≡ t.answer → ((number : ℕ) → o ≡ Repairs number → ⊥)
+  pub refused_last : (d : Total) (o : Outcome) → o ≡ t.answer → ((number : ℕ) → o ≡ Repairs number → ⊥)
       → record { last = o; turns = d.turns + 1; made = d.made; left = 0 } ≡ next_total S d t
   unfolding unfinished
   refused_last d o is other =
@@ -239,12 +251,13 @@ module _ (z : Size) (B w : ℕ) (a m s : List ℕ) (k : ℕ) where
         map-length (map_bytes z (B / w)) t.map map_fits_lem ∙ sym (sectors-number z narrow.base (B / w)) in
         rw (sym (ap accepted is), map_is, long) (positive (count S.disks (erasures t.map)))
 
-    pub repairs-counted : (d : Turns) (n : List ℕ) → n ≡ t.map → (b : Bool) → b ≡ ltb 0 (count (length n) (erasures n))
-        → record { last = Repairs c; turns = d.turns + 1; made = d.made + c; left = cond b (d.left - 1) 0 } ≡ next_total S d t
+    pub repairs-counted : (d : Total) (o : Outcome) → o ≡ t.answer → (n : List ℕ) → n ≡ t.map
+        → (b : Bool) → b ≡ ltb 0 (count (length n) (erasures n))
+        → record { last = o; turns = d.turns + 1; made = d.made + c; left = cond b (d.left - 1) 0 } ≡ next_total S d t
     unfolding repair_count
-    repairs-counted d n map_is b more =
+    repairs-counted d o answer n map_is b more =
         let same : b ≡ unfinished S t = more ∙ sym (goes_on map_is) in
-        λ i. record { last = is i; turns = d.turns + 1; made = d.made + repair_count (is i); left = cond (same i) (d.left - 1) 0 }
+        λ i. record { last = answer i; turns = d.turns + 1; made = d.made + repair_count (is i); left = cond (same i) (d.left - 1) 0 }
 
   -- So no answer counts more.
   pub few-counted : repair_count t.answer ≤ turn_bytes B w

@@ -18,8 +18,7 @@ use Rattle.model.specs.Rebuild.{rebuild_turn, rebuild_turns}
 use Rattle.model.specs.declared.Size.{Size}
 use Rattle.series.proofs.Ends.{sheets-kept, array-kept, map-kept, few-counted}
 use Rattle.model.specs.Series.{turn_bytes, start, turns_in, Written}
-use Rattle.series.specs.Total.{total_of, next_total}
-use Rattle.series.specs.declared.Turns.{Turns}
+use Rattle.series.specs.Total.{Total, total_of, next_total}
 
 -- ---- parts of a buffer
 
@@ -111,8 +110,8 @@ sheets_snoc [] t = refl
 sheets_snoc (u ∷ us) t = ap (λ (ss : List (List ℕ)). u.sheets ∷ ss) (sheets_snoc us t)
 
 -- Each uses its sheets.
-pub fewer : (L : Layout) (d e : Turns) (t : Turn) → e ≡ next_total L d t → 0 < d.left → e.left < d.left
-fewer L d e t is some = rw (ap (λ (x : Turns). x.left) is) (go (unfinished L t) d.left some)
+pub fewer : (L : Layout) (d e : Total) (t : Turn) → e ≡ next_total L d t → 0 < d.left → e.left < d.left
+fewer L d e t is some = rw (ap (λ (x : Total). x.left) is) (go (unfinished L t) d.left some)
   where
     go : (b : Bool) (j : ℕ) → 0 < j → cond b (j - 1) 0 < j
     go true j h = omega arith
@@ -137,7 +136,7 @@ module _ (z : Size) (B w k c : ℕ) where
 
   module _ (a₀ m₀ s₀ : List ℕ) where
     -- The turns ts are made, and those that follow are to be made on what they left.
-    pub record Progress (ts : List Turn) (d : Turns) (a m s : List ℕ) : Type 0 where
+    pub record Progress (ts : List Turn) (d : Total) (a m s : List ℕ) : Type 0 where
       pub bytes : c ≡ turn_bytes B w
       pub follows : rebuild_turns z B w k (parts_in c (length s₀ / c) s₀) a₀ m₀
           ≡ ts ++ rebuild_turns z B w k (parts_in c d.left (drop (c * length ts) s₀)) a m
@@ -170,7 +169,7 @@ module _ (z : Size) (B w k c : ℕ) where
           room = rw (zero-add (length s₀ / c), mul_comm c (length s₀ / c)) (div-mul-le_self (length s₀) c);
         }
 
-module _ {z : Size} {B w k c : ℕ} {a₀ m₀ s₀ : List ℕ} {ts : List Turn} {d : Turns} {a m s : List ℕ}
+module _ {z : Size} {B w k c : ℕ} {a₀ m₀ s₀ : List ℕ} {ts : List Turn} {d : Total} {a m s : List ℕ}
     (p : Progress z B w k c a₀ m₀ s₀ ts d a m s) where
   -- After the last.
   abbrev Sums : (bytes : ℕ) → List Turn → Type 0
@@ -241,7 +240,7 @@ module _ {z : Size} {B w k c : ℕ} {a₀ m₀ s₀ : List ℕ} {ts : List Turn}
         ∙ first_of z B w k c (d.left - 1) (drop (c * length ts) s₀) a m
         ∙ (rw (rest, sym same-sheets) refl)
 
-    goes-own : (e : Turns) (b n s₂ : List ℕ) → e ≡ next_total S d t → b ≡ t.array → n ≡ t.map
+    goes-own : (e : Total) (b n s₂ : List ℕ) → e ≡ next_total S d t → b ≡ t.array → n ≡ t.map
         → s₂ ≡ take at s ++ (t.sheets ++ drop (at + c) s) → Progress z B w k c a₀ m₀ s₀ (ts ++ (t ∷ [])) e b n s₂
     goes-own e b n s₂ is array map written =
         let snoc : length (ts ++ (t ∷ [])) ≡ suc (length ts) = length-append ts (t ∷ []) ∙ add-one (length ts) in
@@ -251,10 +250,10 @@ module _ {z : Size} {B w k c : ℕ} {a₀ m₀ s₀ : List ℕ} {ts : List Turn}
         let few = few-counted z B w a m (take c (drop at s)) k in
         let bytes = p.bytes in
         let before = p.few in
-        let turns : e.turns ≡ d.turns + 1 = ap (λ (x : Turns). x.turns) is in
+        let turns : e.turns ≡ d.turns + 1 = ap (λ (x : Total). x.turns) is in
         let grown : c * e.turns ≡ c * d.turns + c =
         ap (λ (i : ℕ). c * i) (turns ∙ add-one d.turns) ∙ omega (arith, next c d.turns) in
-        let made : e.made ≡ d.made + repair_count t.answer = ap (λ (x : Turns). x.made) is in
+        let made : e.made ≡ d.made + repair_count t.answer = ap (λ (x : Total). x.made) is in
         let left : e.left ≤ d.left - 1 = rw is (lesser (unfinished S t) (d.left - 1)) in
         let same = p.turns in
         let room = p.room in
@@ -264,7 +263,7 @@ module _ {z : Size} {B w k c : ℕ} {a₀ m₀ s₀ : List ℕ} {ts : List Turn}
           follows =
               p.follows ∙ ap (λ (l : List Turn). ts ++ l) then ∙ sym (append_assoc ts (t ∷ []) _)
               ∙ (rw (snoc, is, array, map) refl);
-          last = ap (λ (x : Turns). x.last) is ∙ ap (λ (u : Turn). u.answer) (sym (last_snoc (start a₀ m₀) ts t));
+          last = ap (λ (x : Total). x.last) is ∙ ap (λ (u : Turn). u.answer) (sym (last_snoc (start a₀ m₀) ts t));
           turns = turns ∙ omega arith;
           made = made ∙ ap (λ (i : ℕ). i + repair_count t.answer) p.made ∙ sym (made_snoc ts t);
           few = omega arith;
@@ -292,7 +291,7 @@ module _ {z : Size} {B w k c : ℕ} {a₀ m₀ s₀ : List ℕ} {ts : List Turn}
         lesser false j = omega arith
 
     -- With the sheets as the part of the buffer that is lent.
-    pub goes : {own : List ℕ} {e : Turns} {b n s₂ : List ℕ} → own ≡ take c (drop at s) → let u = rebuild_turn z B w a m own k in
+    pub goes : {own : List ℕ} {e : Total} {b n s₂ : List ℕ} → own ≡ take c (drop at s) → let u = rebuild_turn z B w a m own k in
         e ≡ next_total S d u → b ≡ u.array → n ≡ u.map → s₂ ≡ take at s ++ (u.sheets ++ drop (at + c) s)
         → Progress z B w k c a₀ m₀ s₀ (ts ++ (u ∷ [])) e b n s₂
     goes {e = e} {b = b} {n = n} {s₂ = s₂} is =

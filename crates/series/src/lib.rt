@@ -8,15 +8,17 @@ ghost use Rattle.model.specs.Plan.{sheet_layout};
 ghost use Rattle.stripes.specs.Sectors.{sectored};
 ghost use Rattle.model.specs.Rebuild.{rebuild_turn};
 ghost use Rattle.model.specs.Series.{positions as Series·positions, turn_bytes, start, turns_in, end_of, Written};
-ghost use Rattle.series.specs.Total.{total_of, next_total};
+ghost use Rattle.series.specs.Total.{total_of_turns, total_of, next_total};
 
-use model::{Outcome, Size};
+use model::Size;
+use model::answer::Verdict;
+use refusal::Refusal;
 
 // What turns come to: the last answer, how many they are, how many repairs they made, and for how many others sheets are left; none
 // if no other is to come.
 #[derive(Clone, Copy)]
 pub struct Turns {
-    pub last: Outcome,
+    pub last: Result<Verdict, Refusal>,
     pub turns: usize,
     pub made: usize,
     pub left: usize,
@@ -56,7 +58,7 @@ fn turn(
     requires left_nonzero { 0 < done.left }
     requires made_bound { done.made ≤ turn_bytes block sector * done.turns }
     requires turns_bound { turn_bytes block sector * (done.turns + 1) < 9223372036854775808 }
-    ensures turns { result ≡ next_total (sectored (block / sector) (sheet_layout size)) done
+    ensures turns { total_of_turns result ≡ next_total (sectored (block / sector) (sheet_layout size)) (total_of_turns done)
         (rebuild_turn size block sector array.old map.old sheets.old limit) }
     ensures array { array.new ≡ (rebuild_turn size block sector array.old map.old sheets.old limit).array }
     ensures map { map.new ≡ (rebuild_turn size block sector array.old map.old sheets.old limit).map }
@@ -64,25 +66,25 @@ fn turn(
 {
     let last = rebuild::rebuild(size, block, array, sector, map, sheets, limit);
     let turns = done.turns + 1;
-    let Outcome::Repairs(count) = last else {
+    let Ok(Verdict::Repairs(count)) = last else {
         return Turns {
-            last: last,
-            turns: turns,
+            last,
+            turns,
             made: done.made,
             left: 0,
         };
     };
     if any_erased(map) {
         return Turns {
-            last: last,
-            turns: turns,
+            last,
+            turns,
             made: done.made + count,
             left: done.left - 1,
         };
     }
     Turns {
-        last: last,
-        turns: turns,
+        last,
+        turns,
         made: done.made + count,
         left: 0,
     }
@@ -98,7 +100,7 @@ pub fn rebuild_in_turns(
     sheets: &mut [u8],
     limit: usize,
 ) -> Turns
-    ensures turns { result ≡ total_of (start array.old map.old)
+    ensures turns { total_of_turns result ≡ total_of (start array.old map.old)
         (turns_in size block sector limit sheets.old array.old map.old) }
     ensures array { array.new ≡ (end_of size block sector limit sheets.old array.old map.old).array }
     ensures map { map.new ≡ (end_of size block sector limit sheets.old array.old map.old).map }
@@ -107,11 +109,12 @@ pub fn rebuild_in_turns(
 {
     let bytes = sheet::BYTES * positions(block, sector);
     let mut done = Turns {
-        last: Outcome::Refused(5),
+        last: Err(Refusal::Sheets),
         turns: 0,
         made: 0,
         left: sheets.len() / bytes,
     };
+    // A while, since each turn says for how many others sheets are left, and the last leaves none.
     while 0 < done.left {
         let at = bytes * done.turns;
         let own = &mut sheets[at..at + bytes];

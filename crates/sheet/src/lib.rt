@@ -31,12 +31,7 @@ pub fn zero(sheet: &mut [u8])
     requires { length sheet.old ≡ sheet_bytes narrow }
     ensures { sheet.new ≡ blank_sheet narrow }
 {
-    let blank = [0u8; BYTES];
-    let mut i = 0;
-    while i < BYTES {
-        sheet[i] = blank[i];
-        i += 1;
-    }
+    sheet.fill(0);
 }
 
 // Zeros all of some sheets that stand one after another.
@@ -71,12 +66,10 @@ pub fn write(kind: u8, list: &[u32], count: usize, sheet: &mut [u8])
 {
     zero(sheet);
     sheet[0] = kind;
-    let mut k = 0;
-    while k < count {
+    for k in 0..count {
         let at = 1 + RECORD_BYTES * k;
         sheet[at] = (1 + k) as u8;
         sheet[at + 1] = (entries::disk_of(list, k) % 256) as u8;
         sheet[at + 2] = entries::stripe_of(list, k) as u8;
-        k += 1;
     }
 }

@@ -32,12 +32,14 @@ use Rattle.zeros.proofs.Stored.{length-stored, get_or-stored, get_d_after}
 use Rattle.tally.specs.Tally.{Table, Passed}
 use Rattle.tally.proofs.Counted.{Crossed, table_fewer}
 use Rattle.reach.specs.Reached.{has, word_stripes}
-use Rattle.smallest.specs.Leads.{leads, Near, from, closes, Nearest}
+use Rattle.neighbours.specs.Near.{Near}
+use Rattle.smallest.specs.Leads.{leads, from, closes, Nearest}
 use Rattle.smallest.specs.Ways.{level_in, way_level, within, kept, Levelled, Narrowed, Measured}
 use Rattle.smallest.proofs.Leads.{leads-ends, ends-leads}
 use Rattle.smallest.proofs.Through.{within_is, level_crosses}
 use Rattle.smallest.proofs.Chosen.{Cheapest, Chosen, chosen-start, chosen_over, chosen_pass, chosen-take, chosen-end, chosen_full, left_far}
-use Rattle.smallest.proofs.Neighbours.{Apart, near_same, near_reached}
+use Rattle.neighbours.proofs.Neighbours.{Apart, near_same}
+use Rattle.smallest.proofs.Neighbours.{near_reached}
 use Rattle.smallest.proofs.Cutting.{near_cut, cut-alone}
 use Rattle.smallest.proofs.Levels.{lower-low, higher-high, level_in_lem}
 use Rattle.smallest.proofs.Searched.{above-next}

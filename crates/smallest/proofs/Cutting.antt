@@ -24,11 +24,12 @@ use Rattle.zeros.proofs.Stored.{length-stored, get_or-stored, get_d_after, store
 use Rattle.tally.proofs.Counted.{Crossed}
 use Rattle.reach.specs.Reached.{has, some, next_in, word_stripes}
 use Rattle.reach.proofs.Words.{has-none, has_one, has_or, has_and, has-without, has_room, lowest_out}
-use Rattle.smallest.specs.Leads.{meets, Near, side_of, cut_table, leaves, on_crossing, leaving_of}
+use Rattle.neighbours.specs.Near.{meets, Near, Met}
+use Rattle.smallest.specs.Leads.{side_of, cut_table, leaves, on_crossing, leaving_of}
 use Rattle.smallest.specs.Ways.{within, kept}
-use Rattle.smallest.proofs.Leads.{or_which, or_first, or_second, some_found, some_of, other-bound, Met, meets_is, meets_of}
+use Rattle.neighbours.proofs.Meeting.{or_which, or_first, or_second, some_found, some_of, other-bound, meets_is, meets_of}
 use Rattle.smallest.proofs.Through.{crosses_where}
-use Rattle.smallest.proofs.Neighbours.{Apart, over_which, near_same, near_toggle}
+use Rattle.neighbours.proofs.Neighbours.{Apart, over_which, near_same, near_toggle}
 
 -- ---- the words of the table
 

@@ -1,99 +1,24 @@
 -- Stripes that disks lead to, told by sets of disks with two ends: at most k disks lead from one stripe to another exactly if a set of at most k
 -- disks has these two for its ends.
 -- Assumes nothing.
-use mathlib.Core.Path.{◌≡◌, refl, sym, ◌∙◌, ap, subst}
-use mathlib.Core.Bool.{Bool, true, false, cond, not, ◌&&◌, ◌||◌, or-true, true≢false}
+use mathlib.Core.Path.{◌≡◌, refl, sym, ◌∙◌, subst}
+use mathlib.Core.Bool.{Bool, true, false, cond, not, ◌&&◌, true≢false}
 use mathlib.Core.Logic.{◌⊎◌, inl, inr, ⊎_elim}
 use Prim.Native.Nat.{ℕ, zero, suc, ◌+◌, ◌≤◌, ◌<◌}
 use native.Mathlib.Nat.{le_refl, eq-or-lt_of_le, le_of_suc-le-suc}
 use native.Mathlib.Omega.{arith}
-use borrow.Author.Tests.{ltb-true, lt-ltb, leb-true, le-leb, eq-eqb, eqb-true, eqb-false}
+use borrow.Author.Tests.{leb-true, le-leb, eq-eqb, eqb-true, eqb-false}
 use lib.Dec.{eqb, leb}
 use Rattle.stripes.specs.Fold.{count}
 use Rattle.stripes.specs.System.{Layout, TwoStripes, on, other_than}
-use Rattle.stripes.proofs.Fold.{by_cases, lt_or_le, and_left, and_right, and_both, same_test, count-some, count_found, count_none, count-without, lowest_is}
-use Rattle.stripes.proofs.Degree.{other-first, other_second, on-low, on-high, on_which, on-bound}
+use Rattle.stripes.proofs.Fold.{by_cases, lt_or_le, and_left, and_right, and_both, same_test, count-some, count_none, count-without, lowest_is}
 use Rattle.stripes.proofs.Ends.{Ends, ends-none, ends-back, ends-chain, ends_chain_count, ends-over, ends_found, ends-step, ends_step_count, ends_wider}
 use Rattle.reach.specs.Reached.{some, reached, steps_to, word_stripes}
-use Rattle.smallest.specs.Leads.{meets, leads, disks_to}
-
--- ---- tests
-
--- One of two tests holds.
-pub or_which : (a b : Bool) → (a || b) ≡ true → (a ≡ true) ⊎ (b ≡ true)
-or_which true b h = inl refl
-or_which false b h = inr h
-
-pub or_first : (a b : Bool) → a ≡ true → (a || b) ≡ true
-or_first a b h = ap (λ (x : Bool). x || b) h
-
-pub or_second : (a b : Bool) → b ≡ true → (a || b) ≡ true
-or_second a b h = ap (λ (x : Bool). a || x) h ∙ or-true a
-
--- A test that holds of some number.
-pub some_found : (n : ℕ) (t : ℕ → Bool) → some n t ≡ true → (i : ℕ) × (i < n) × (t i ≡ true)
-unfolding some
-some_found n t h = count_found n t (ltb-true 0 (count n t) h)
-
-pub some_of : (n : ℕ) (t : ℕ → Bool) (i : ℕ) → i < n → t i ≡ true → some n t ≡ true
-unfolding some
-some_of n t i l h = lt-ltb 0 (count n t) (count-some n t i l h)
-
--- ---- a disk and its two stripes
-module _ (L : Layout) (two : TwoStripes L) (d : ℕ) (inside : d < L.disks) (t : ℕ) (there : on L d t ≡ true) where
-  apart : two.high d ≡ two.low d → ⊥
-  apart e = let h = two.order d inside in omega arith
-
-  -- A disk lies on the other of its stripes as well,
-  pub on-other : on L d (other_than t (L.through d)) ≡ true
-  on-other =
-      ⊎_elim
-      (λ (q : t ≡ two.low d). rw (q, two.two d inside, other-first (two.low d) (two.high d) apart) (on-high L two d inside))
-      (λ (q : t ≡ two.high d). rw (q, two.two d inside, other_second (two.low d) (two.high d) apart) (on-low L two d inside))
-      (on_which L two d inside t there)
-
-  -- from which the first is the other.
-  pub other_back : other_than (other_than t (L.through d)) (L.through d) ≡ t
-  other_back =
-      ⊎_elim
-      (λ (q : t ≡ two.low d).
-      rw (q, two.two d inside, other-first (two.low d) (two.high d) apart) (other_second (two.low d) (two.high d) apart))
-      (λ (q : t ≡ two.high d).
-      rw (q, two.two d inside, other_second (two.low d) (two.high d) apart) (other-first (two.low d) (two.high d) apart))
-      (on_which L two d inside t there)
-
-  pub other-bound : other_than t (L.through d) < L.stripe_bound
-  other-bound = on-bound L two d inside (other_than t (L.through d)) on-other
+use Rattle.neighbours.specs.Near.{meets}
+use Rattle.neighbours.proofs.Meeting.{or_which, or_first, or_second, some_found, some_of, on-other, other_back, other-bound, meets_is, meets_of}
+use Rattle.smallest.specs.Leads.{leads, disks_to}
 
 -- ---- one disk
-
--- A disk of c that lies on stripe s and on stripe t besides.
-pub record Met (L : Layout) (c : ℕ → Bool) (s t : ℕ) : Type 0 where
-  pub disk : ℕ
-  pub inside : disk < L.disks
-  pub held : c disk ≡ true
-  pub here : on L disk s ≡ true
-  pub next : other_than s (L.through disk) ≡ t
-
-pub meets_is : (L : Layout) (c : ℕ → Bool) (s t : ℕ) → meets L c s t ≡ true → Met L c s t
-unfolding meets
-meets_is L c s t h =
-    let (d, l, e) = some_found L.disks (λ d. c d && (on L d s && eqb (other_than s (L.through d)) t)) h in
-    let rest = and_right (c d) (on L d s && eqb (other_than s (L.through d)) t) e in
-    record {
-      disk = d;
-      inside = l;
-      held = and_left (c d) (on L d s && eqb (other_than s (L.through d)) t) e;
-      here = and_left (on L d s) (eqb (other_than s (L.through d)) t) rest;
-      next = eqb-true (other_than s (L.through d)) t (and_right (on L d s) (eqb (other_than s (L.through d)) t) rest);
-    }
-
-pub meets_of : (L : Layout) (c : ℕ → Bool) (s t d : ℕ) → d < L.disks → c d ≡ true → on L d s ≡ true → other_than s (L.through d) ≡ t
-    → meets L c s t ≡ true
-unfolding meets
-meets_of L c s t d l h there next =
-    some_of L.disks (λ d. c d && (on L d s && eqb (other_than s (L.through d)) t)) d l
-    (and_both h (and_both there (eq-eqb (other_than s (L.through d)) t next)))
 
 -- A single disk counts one.
 count_single : (n d : ℕ) → d < n → count n (λ i. eqb i d) ≡ 1

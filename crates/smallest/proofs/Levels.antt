@@ -13,9 +13,11 @@ use Rattle.stripes.specs.System.{Layout, TwoStripes, first_of, other_than, lower
 use Rattle.stripes.proofs.Fold.{bit-zero}
 use Rattle.tally.proofs.Counted.{Crossed}
 use Rattle.reach.specs.Reached.{steps_to, next_in, word_stripes}
-use Rattle.smallest.specs.Leads.{Near, disks_to}
+use Rattle.neighbours.specs.Near.{Near}
+use Rattle.smallest.specs.Leads.{disks_to}
 use Rattle.smallest.specs.Ways.{Levelled, level_in, way_level}
-use Rattle.smallest.proofs.Neighbours.{Apart, near_steps, near_own}
+use Rattle.neighbours.proofs.Neighbours.{Apart, near_own}
+use Rattle.smallest.proofs.Neighbours.{near_steps}
 
 -- ---- what is read for a disk on two stripes
 

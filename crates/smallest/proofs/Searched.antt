@@ -35,9 +35,11 @@ use Rattle.layout.specs.Stripe.{Numbered}
 use Rattle.layout.proofs.Runs.{numbered_two, stripes_few}
 use Rattle.tally.proofs.Counted.{Crossed}
 use Rattle.reach.specs.Reached.{steps_to, next_in, word_stripes}
-use Rattle.smallest.specs.Leads.{disks_to, toggled, Near, from, closes, Nearest}
+use Rattle.neighbours.specs.Near.{toggled, Near}
+use Rattle.smallest.specs.Leads.{disks_to, from, closes, Nearest}
 use Rattle.smallest.proofs.Leads.{leads-ends, ends-leads, disks_lead, disks-least}
-use Rattle.smallest.proofs.Neighbours.{Apart, near_same, near_toggle, near_steps}
+use Rattle.neighbours.proofs.Neighbours.{Apart, near_same, near_toggle}
+use Rattle.smallest.proofs.Neighbours.{near_steps}
 use Rattle.smallest.proofs.Levels.{lower-low, higher-high}
 
 -- ---- the disks from a number on

@@ -23,7 +23,8 @@ use Rattle.stripes.proofs.Ends.{Ends, ends-back, ends-chain, ends_chain_count, e
 use Rattle.reach.specs.Reached.{word_stripes}
 use Rattle.smallest.specs.Leads.{leads, disks_to}
 use Rattle.smallest.specs.Ways.{way_level, within}
-use Rattle.smallest.proofs.Leads.{on-other, other_back, other-bound, leads_self, leads_more, ends-longer, leads-ends, ends-leads, leads_back, leads_chain, leads-disk, disks_to_lem, disks_lead, disks-least}
+use Rattle.neighbours.proofs.Meeting.{on-other, other_back, other-bound}
+use Rattle.smallest.proofs.Leads.{leads_self, leads_more, ends-longer, leads-ends, ends-leads, leads_back, leads_chain, leads-disk, disks_to_lem, disks_lead, disks-least}
 
 -- ---- out of some stripes
 

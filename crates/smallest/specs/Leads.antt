@@ -1,16 +1,12 @@
 -- Stripes that erased disks lead to step by step, and the disk with which the shortest cycle begins.
 -- Assumes nothing.
-use Rattle.std.specs.Prelude.{◌≡◌, Bool, true, false, cond, not, ◌&&◌, ◌||◌, List, ℕ, ◌^◌, ◌<◌, eqb, leb, length, get_or, set}
+use Rattle.std.specs.Prelude.{◌≡◌, Bool, true, false, cond, not, ◌&&◌, ◌||◌, List, ℕ, ◌^◌, ◌<◌, eqb, leb, get_or}
 use Rattle.std.specs.Int.Bits.{bit_and, bit_or, bit_xor}
-use Rattle.stripes.specs.Fold.{◌⊕◌}
-use Rattle.stripes.specs.System.{Layout, on, other_than, lower, higher}
+use Rattle.stripes.specs.System.{Layout, lower, higher}
 use Rattle.stripes.specs.Erased.{above}
 use Rattle.zeros.specs.Stored.{stored}
 use Rattle.reach.specs.Reached.{has, some, reached, steps_to, next_in, word_stripes}
-
--- A disk of c lies on stripe s, and on stripe t besides.
-unfoldable pub meets : Layout → (c : ℕ → Bool) → (s t : ℕ) → Bool
-meets L c s t = some L.disks (λ d. c d && (on L d s && eqb (other_than s (L.through d)) t))
+use Rattle.neighbours.specs.Near.{meets, toggled}
 
 -- At most k disks of c lead from stripe s to stripe t; and how many do, or m + 1 where m are not enough.
 abbrev pub leads : Layout → (c : ℕ → Bool) → (s k t : ℕ) → Bool
@@ -18,12 +14,6 @@ leads L c s k t = reached (meets L c) word_stripes s k t
 
 abbrev pub disks_to : Layout → (c : ℕ → Bool) → (s m t : ℕ) → ℕ
 disks_to L c s m t = steps_to (meets L c) word_stripes s m t
-
--- The table with a disk on two stripes put in, or taken out.
-unfoldable pub toggled : List ℕ → (low high : ℕ) → List ℕ
-toggled near low high =
-    let next : List ℕ = set near low (get_or near low 0 ⊕ 2 ^ high) in
-    set next high (get_or next high 0 ⊕ 2 ^ low)
 
 -- Those stripes of a word that are in a set, or those that are not.
 unfoldable pub side_of : (word inside : ℕ) → (here : Bool) → ℕ
@@ -46,11 +36,6 @@ unfoldable pub leaving_of : (word inside s : ℕ) → ℕ
 leaving_of word inside s =
     let out : ℕ = side_of word inside false in
     cond (eqb out 0) 0 (bit_or (2 ^ s) out)
-
--- The table has for each stripe those that a disk of c leads to.
-pub record Near (L : Layout) (c : ℕ → Bool) (near : List ℕ) : Type 0 where
-  pub room : length near ≡ word_stripes
-  pub next : (s t : ℕ) → s < word_stripes → next_in near s t ≡ meets L c s t
 
 -- Disks of e from number k on.
 unfoldable pub from : ℕ → (ℕ → Bool) → ℕ → Bool

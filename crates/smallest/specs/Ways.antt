@@ -6,7 +6,8 @@ use Rattle.stripes.specs.System.{Layout, lower, higher}
 use Rattle.stripes.specs.Joined.{crosses}
 use Rattle.reach.specs.Reached.{has, reached, steps_to, next_in, word_stripes}
 use Rattle.tally.specs.Tally.{Table}
-use Rattle.smallest.specs.Leads.{disks_to, cut_table, on_crossing, Near}
+use Rattle.neighbours.specs.Near.{Near}
+use Rattle.smallest.specs.Leads.{disks_to, cut_table, on_crossing}
 
 -- Where k disks of c lead from stripe s to stripe t and no fewer do: the number of disks that come before disk d on such a way, or k where d is
 -- on none. A disk is on one if the disks to one of its stripes, the disk itself and those from its other stripe on are k.

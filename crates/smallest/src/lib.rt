@@ -7,7 +7,6 @@ ghost use Rattle.stripes.specs.Erased.{erasures};
 ghost use Rattle.stripes.specs.Repair.{fatal};
 ghost use Rattle.stripes.specs.Smallest.{on_smallest};
 ghost use Rattle.model.specs.Grid.{layout_of};
-ghost use Rattle.layout.specs.Stripe.{Numbered};
 ghost use Rattle.tally.specs.Tally.{Table};
 
 mod choose;
@@ -15,18 +14,17 @@ mod near;
 mod search;
 mod way;
 
-use model::Size;
+use layout::stripe::Grid;
 
 // `set` becomes the disks of the smallest cycle of the erased disks. It is as long as the working map, which is used up. What `set` held does
 // not matter.
-pub fn find(size: Size, base: usize, work: &mut [u8], stripes: &[u8], set: &mut [u8])
-    requires numbered { Numbered size base }
-    requires table { Table (layout_of size base) work.old stripes.now }
-    requires work_value { fatal (layout_of size base) (erasures work.old) ≡ true }
+pub fn find(grid: Grid, work: &mut [u8], stripes: &[u8], set: &mut [u8])
+    requires table { Table (layout_of grid.size grid.base) work.old stripes.now }
+    requires work_value { fatal (layout_of grid.size grid.base) (erasures work.old) ≡ true }
     requires set_len { length set.old ≡ length work.old }
-    ensures { erasures set.new ≡ on_smallest (layout_of size base) (erasures work.old) }
+    ensures { erasures set.new ≡ on_smallest (layout_of grid.size grid.base) (erasures work.old) }
 {
     let mut near = [0u64; reach::STRIPES];
-    let found = search::search(size, base, work, stripes, &mut near);
-    choose::choose(size, base, work, stripes, found, &mut near, set);
+    let found = search::search(grid, work, stripes, &mut near);
+    choose::choose(grid, work, stripes, found, &mut near, set);
 }

@@ -3,12 +3,12 @@ ghost use Rattle.std.specs.Prelude.{◌≡◌, true, length};
 ghost use Rattle.stripes.specs.Erased.{erasures};
 ghost use Rattle.stripes.specs.Repair.{fatal};
 ghost use Rattle.model.specs.Grid.{layout_of};
-ghost use Rattle.layout.specs.Stripe.{Numbered};
 ghost use Rattle.tally.specs.Tally.{Table};
 ghost use Rattle.reach.specs.Reached.{word_stripes};
-ghost use Rattle.smallest.specs.Leads.{Near, from as Leads·from, Nearest};
+ghost use Rattle.neighbours.specs.Near.{Near};
+ghost use Rattle.smallest.specs.Leads.{from as Leads·from, Nearest};
 
-use model::Size;
+use layout::stripe::Grid;
 
 // The disk, how many others are on the cycle, and the number from which on the table of neighbours has the erased disks.
 #[derive(Clone, Copy)]
@@ -23,25 +23,23 @@ const FEWEST: usize = 3;
 
 // The erased disks go in rising order, and each is taken out of the table of neighbours, which then has the disks above it. A search ends one
 // step short of the best so far, so the first of equal disks stays, and there is none where the grid has no shorter cycle.
-pub fn search(size: Size, base: usize, work: &[u8], stripes: &[u8], near: &mut [u64]) -> Found
-    requires numbered { Numbered size base }
-    requires table_2 { Table (layout_of size base) work.now stripes.now }
-    requires work_value { fatal (layout_of size base) (erasures work.now) ≡ true }
+pub fn search(grid: Grid, work: &[u8], stripes: &[u8], near: &mut [u64]) -> Found
+    requires table_2 { Table (layout_of grid.size grid.base) work.now stripes.now }
+    requires work_value { fatal (layout_of grid.size grid.base) (erasures work.now) ≡ true }
     requires near_len { length near.old ≡ word_stripes }
-    ensures nearest { Nearest (layout_of size base) (erasures work.now) result.disk result.others }
-    ensures table { Near (layout_of size base) (Leads·from result.from (erasures work.now)) near.new }
+    ensures nearest { Nearest (layout_of grid.size grid.base) (erasures work.now) result.disk result.others }
+    ensures table { Near (layout_of grid.size grid.base) (Leads·from result.from (erasures work.now)) near.new }
 {
-    crate::near::load(size, base, work, stripes, near);
+    neighbours::load(grid, work, stripes, near);
     let mut disk = work.len();
     let mut others = reach::STRIPES;
     let mut from = 0;
-    while FEWEST < others {
-        let d = tally::scan::next_erased(work, from);
-        if work.len() <= d {
+    for d in tally::scan::erased(work) {
+        if others <= FEWEST {
             break;
         }
-        let pair = tally::table::stripes_of(size, base, work, stripes, d);
-        crate::near::toggle(near, pair);
+        let pair = tally::table::stripes_of(grid, work, stripes, d);
+        neighbours::toggle(near, pair);
         let steps = reach::distance(near, pair.low, pair.high, others - 1);
         if steps < others {
             disk = d;
@@ -49,9 +47,5 @@ pub fn search(size: Size, base: usize, work: &[u8], stripes: &[u8], near: &mut [
         }
         from = d + 1;
     }
-    Found {
-        disk: disk,
-        others: others,
-        from: from,
-    }
+    Found { disk, others, from }
 }

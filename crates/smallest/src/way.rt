@@ -6,14 +6,8 @@ ghost use Rattle.smallest.specs.Ways.{level_in, Levelled, Narrowed};
 
 use layout::stripe::Pair;
 
-// A byte as a number.
-fn wide(byte: u8) -> usize
-    ensures { result ≡ byte }
-{
-    byte as usize
-}
-
-// The number of disks before a disk on a shortest way of `others` disks, or `others` where it is on none or not in the table of neighbours.
+// The number of disks before a disk on a shortest way of `others` disks, or `others` where it is on none or not in the table of
+// neighbours, as `level_in` has it.
 pub fn level_of(near: &[u64], levels: &[u8], pair: Pair, others: usize) -> usize
     requires near_len { length near.now ≡ word_stripes }
     requires levels_len { length levels.now ≡ 128 }
@@ -26,12 +20,12 @@ pub fn level_of(near: &[u64], levels: &[u8], pair: Pair, others: usize) -> usize
     if !reach::has(near[low], high) {
         return others;
     }
-    let here = wide(levels[low]);
-    if here + 1 + wide(levels[reach::STRIPES + high]) <= others {
+    let here = usize::from(levels[low]);
+    if here + 1 + usize::from(levels[reach::STRIPES + high]) <= others {
         return here;
     }
-    let there = wide(levels[high]);
-    if there + 1 + wide(levels[reach::STRIPES + low]) <= others {
+    let there = usize::from(levels[high]);
+    if there + 1 + usize::from(levels[reach::STRIPES + low]) <= others {
         return there;
     }
     others

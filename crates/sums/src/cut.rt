@@ -6,11 +6,10 @@ ghost use Rattle.stripes.specs.Fold.{every};
 ghost use Rattle.stripes.specs.System.{byte, changed};
 ghost use Rattle.stripes.specs.Erased.{erasures};
 ghost use Rattle.model.specs.Grid.{layout_of, disks};
-ghost use Rattle.layout.specs.Stripe.{Numbered};
 ghost use Rattle.sums.specs.Held.{Held};
 ghost use Rattle.sums.specs.Cut.{in_part, cut_over, cut_sum, cut_on, Survivors, Listed, AddedBy};
 
-use model::Size;
+use layout::stripe::Grid;
 use stripes::Stretch;
 
 // The disk is a survivor, and this other stripe of it is not in the part.
@@ -28,8 +27,7 @@ fn leaves(map: &[u8], parts: &[u8], name: u8, disk: usize, other: usize) -> bool
 // Lists such survivors on one stripe, behind the `have` numbers of the list, and answers how many there are then. A stripe that is not
 // in the part adds none.
 fn list_stripe(
-    size: Size,
-    base: usize,
+    grid: Grid,
     map: &[u8],
     parts: &[u8],
     name: u8,
@@ -37,70 +35,51 @@ fn list_stripe(
     list: &mut [u16],
     have: usize,
 ) -> usize
-    requires numbered { Numbered size base }
-    requires size_in_bounds { disks size ≤ length map.now }
-    requires base_in_bounds { (layout_of size base).stripe_bound ≤ length parts.now }
-    requires stripe_bound { stripe < (layout_of size base).stripe_bound }
-    requires survivors { Survivors (layout_of size base) (erasures map.now) list.old have }
-    requires stripe_in_bounds { have + cut_on (layout_of size base) (erasures map.now) (in_part parts.now name) stripe ≤ length list.old }
-    ensures { AddedBy (layout_of size base) (erasures map.now) (in_part parts.now name) stripe list.old have
+    requires size_in_bounds { disks grid.size ≤ length map.now }
+    requires base_in_bounds { (layout_of grid.size grid.base).stripe_bound ≤ length parts.now }
+    requires stripe_bound { stripe < (layout_of grid.size grid.base).stripe_bound }
+    requires survivors { Survivors (layout_of grid.size grid.base) (erasures map.now) list.old have }
+    requires stripe_in_bounds { have + cut_on (layout_of grid.size grid.base) (erasures map.now) (in_part parts.now name) stripe ≤ length list.old }
+    ensures { AddedBy (layout_of grid.size grid.base) (erasures map.now) (in_part parts.now name) stripe list.old have
         list.new result }
 {
     if parts[stripe] != name {
         return have;
     }
-    if !layout::stripe::has_disks(size, base, stripe) {
+    if !grid.has_disks(stripe) {
         return have;
     }
-    let run = layout::stripe::disks_on(size, base, stripe);
-    let first = run.first;
-    let step = run.step;
-    let count = run.count;
+    let run = grid.disks_on(stripe);
     let mut n = have;
-    let mut k = 0;
-    while k < count {
-        let disk = first + k * step;
-        let other = layout::stripe::other_at(size, base, stripe, k);
+    for k in 0..run.count {
+        let disk = run.first + k * run.step;
+        let other = grid.other_at(stripe, k);
         if leaves(map, parts, name, disk, other) {
             list[n] = disk as u16;
             n += 1;
         }
-        k += 1;
     }
     n
 }
 
 // Lists the survivors of which just one stripe is in the part, and answers how many they are.
-pub fn list_cut(
-    size: Size,
-    base: usize,
-    map: &[u8],
-    parts: &[u8],
-    name: u8,
-    list: &mut [u16],
-) -> usize
-    requires numbered { Numbered size base }
-    requires size_in_bounds { disks size ≤ length map.now }
-    requires base_in_bounds { (layout_of size base).stripe_bound ≤ length parts.now }
-    requires size_in_bounds_2 { disks size ≤ length list.old }
-    ensures { Listed (layout_of size base) (erasures map.now) list.new result (length list.new)
-        (cut_over (layout_of size base) (erasures map.now) (in_part parts.now name)) }
+pub fn list_cut(grid: Grid, map: &[u8], parts: &[u8], name: u8, list: &mut [u16]) -> usize
+    requires size_in_bounds { disks grid.size ≤ length map.now }
+    requires base_in_bounds { (layout_of grid.size grid.base).stripe_bound ≤ length parts.now }
+    requires size_in_bounds_2 { disks grid.size ≤ length list.old }
+    ensures { Listed (layout_of grid.size grid.base) (erasures map.now) list.new result (length list.new)
+        (cut_over (layout_of grid.size grid.base) (erasures map.now) (in_part parts.now name)) }
 {
-    let bound = layout::stripe::bound(size, base);
     let mut n = 0;
-    let mut s = 0;
-    while s < bound {
-        let more = list_stripe(size, base, map, parts, name, s, list, n);
-        n = more;
-        s += 1;
+    for s in 0..grid.bound() {
+        n = list_stripe(grid, map, parts, name, s, list, n);
     }
     n
 }
 
 // Their sum is zero at each place of the stretch. The list is room to work in.
 pub fn cancels(
-    size: Size,
-    base: usize,
+    grid: Grid,
     stretch: Stretch,
     array: &[u8],
     map: &[u8],
@@ -108,26 +87,28 @@ pub fn cancels(
     name: u8,
     list: &mut [u16],
 ) -> bool
-    requires numbered { Numbered size base }
-    requires held { Held size stretch array.now }
-    requires size_in_bounds { disks size ≤ length map.now }
-    requires base_in_bounds { (layout_of size base).stripe_bound ≤ length parts.now }
-    requires size_in_bounds_2 { disks size ≤ length list.old }
+    requires held { Held grid.size stretch array.now }
+    requires size_in_bounds { disks grid.size ≤ length map.now }
+    requires base_in_bounds { (layout_of grid.size grid.base).stripe_bound ≤ length parts.now }
+    requires size_in_bounds_2 { disks grid.size ≤ length list.old }
     ensures { result
         ≡ every stretch.width (λ p.
-        eqb (cut_sum (layout_of size base) stretch (erasures map.now) (in_part parts.now name) array.now p) 0) }
+        eqb (cut_sum (layout_of grid.size grid.base) stretch (erasures map.now) (in_part parts.now name) array.now p) 0) }
 {
-    let count = list_cut(size, base, map, parts, name, list);
-    let block = stretch.block;
-    let offset = stretch.offset;
-    let width = stretch.width;
-    xor::picked::cancels(array, offset, block, list, count, width)
+    let count = list_cut(grid, map, parts, name, list);
+    xor::picked::cancels(
+        array,
+        stretch.offset,
+        stretch.block,
+        list,
+        count,
+        stretch.width,
+    )
 }
 
 // The stretch of an erased disk becomes their sum. The list is room to work in.
 pub fn fill(
-    size: Size,
-    base: usize,
+    grid: Grid,
     stretch: Stretch,
     array: &mut [u8],
     map: &[u8],
@@ -136,22 +117,26 @@ pub fn fill(
     list: &mut [u16],
     disk: usize,
 )
-    requires numbered { Numbered size base }
-    requires held { Held size stretch array.old }
-    requires size_in_bounds { disks size ≤ length map.now }
-    requires base_in_bounds { (layout_of size base).stripe_bound ≤ length parts.now }
-    requires size_in_bounds_2 { disks size ≤ length list.old }
-    requires disk_bound { disk < disks size }
+    requires held { Held grid.size stretch array.old }
+    requires size_in_bounds { disks grid.size ≤ length map.now }
+    requires base_in_bounds { (layout_of grid.size grid.base).stripe_bound ≤ length parts.now }
+    requires size_in_bounds_2 { disks grid.size ≤ length list.old }
+    requires disk_bound { disk < disks grid.size }
     requires disk_value { erasures map.now disk ≡ true }
     ensures { array.new
         ≡ changed stretch array.old (λ d p.
         cond (eqb d disk)
-        (cut_sum (layout_of size base) stretch (erasures map.now) (in_part parts.now name) array.old p)
+        (cut_sum (layout_of grid.size grid.base) stretch (erasures map.now) (in_part parts.now name) array.old p)
         (byte stretch array.old d p)) }
 {
-    let count = list_cut(size, base, map, parts, name, list);
-    let block = stretch.block;
-    let offset = stretch.offset;
-    let width = stretch.width;
-    xor::picked::fill(array, offset, block, list, count, disk, width);
+    let count = list_cut(grid, map, parts, name, list);
+    xor::picked::fill(
+        array,
+        stretch.offset,
+        stretch.block,
+        list,
+        count,
+        disk,
+        stretch.width,
+    );
 }

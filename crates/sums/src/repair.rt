@@ -3,42 +3,27 @@ ghost use Rattle.std.specs.Prelude.{◌≡◌, true, ◌<◌};
 ghost use Rattle.stripes.specs.System.{on};
 ghost use Rattle.stripes.specs.Repair.{repaired};
 ghost use Rattle.model.specs.Grid.{layout_of, disks};
-ghost use Rattle.layout.specs.Stripe.{Numbered};
 ghost use Rattle.sums.specs.Held.{Held};
 
-use model::Size;
+use layout::stripe::Grid;
 use stripes::Stretch;
 
 // The stretch of a disk becomes the sum of those of the other disks of a stripe through it.
-pub fn repair(
-    size: Size,
-    base: usize,
-    stretch: Stretch,
-    array: &mut [u8],
-    disk: usize,
-    stripe: usize,
-)
-    requires numbered { Numbered size base }
-    requires held { Held size stretch array.old }
-    requires disk_bound { disk < disks size }
-    requires stripe_value { on (layout_of size base) disk stripe ≡ true }
+pub fn repair(grid: Grid, stretch: Stretch, array: &mut [u8], disk: usize, stripe: usize)
+    requires held { Held grid.size stretch array.old }
+    requires disk_bound { disk < disks grid.size }
+    requires stripe_value { on (layout_of grid.size grid.base) disk stripe ≡ true }
     ensures { array.new
-        ≡ repaired (layout_of size base) stretch array.old (record { disk = disk; stripe = stripe }) }
+        ≡ repaired (layout_of grid.size grid.base) stretch array.old (record { disk = disk; stripe = stripe }) }
 {
-    let run = layout::stripe::disks_on(size, base, stripe);
-    let own = layout::stripe::place_on(size, base, disk, stripe);
-    let first = run.first;
-    let step = run.step;
-    let count = run.count;
-    let block = stretch.block;
-    let offset = stretch.offset;
-    let width = stretch.width;
+    let run = grid.disks_on(stripe);
+    let own = grid.place_on(disk, stripe);
     xor::fill::fill(
         array,
-        first * block + offset,
-        step * block,
-        count,
+        run.first * stretch.block + stretch.offset,
+        run.step * stretch.block,
+        run.count,
         own,
-        width,
+        stretch.width,
     );
 }

@@ -16,7 +16,8 @@ use Rattle.stripes.specs.Fold.{every}
 use Rattle.stripes.specs.Erased.{erasures}
 use Rattle.stripes.proofs.Fold.{and_left, and_right, and_both, lt_or_le, every_at, Lowest, lowest_is, lowest_unique}
 use Rattle.stripes.proofs.Erased.{is_present}
-use Rattle.tally.specs.Tally.{next_erased, Passed}
+use Rattle.std.proofs.Common.{Some}
+use Rattle.tally.specs.Tally.{next_erased, Passed, Steps}
 use Rattle.zeros.specs.Stored.{stored}
 use Rattle.zeros.proofs.Stored.{get_or-before, get_or-stored, length-stored}
 
@@ -82,6 +83,23 @@ module _ (m : List ℕ) (from : ℕ) {d : ℕ} (found : d ≡ next_erased m from
         within = next-lowest.within;
         none = λ i a b. ap (λ (x : Bool). x && erasures m i) (sym (le-leb from i a)) ∙ next-lowest.none i b;
       }
+
+-- ---- a scan of the map m, known as n
+
+-- A turn of it, which goes from before disk `from` over disk d.
+pub record Turned (m : List ℕ) (from d behind : ℕ) : Type 0 where
+  pub passed : Passed m from d
+  pub inside : d < length m
+  pub erased : erasures m d ≡ true
+  pub goes : behind ≡ d + 1
+
+module _ {m n : List ℕ} {from : ℕ} (same : n ≡ m) where
+  pub turned : {d behind : ℕ} → Steps n from (Some d) behind → Turned m from d behind
+  turned {d = d} {behind = behind} s =
+      subst (λ (x : List ℕ). Turned x from d behind) same (record { passed = s.0; inside = s.1; erased = s.2; goes = s.3 })
+
+  pub ended : Passed n from (length n) → Passed m from (length m)
+  ended p = subst (λ (x : List ℕ). Passed x from (length x)) same p
 
 -- ---- a map whose bytes are copied
 

@@ -1,6 +1,6 @@
 -- The planner's working map: the disks still erased, the table of their stripes, and the counts.
 -- Assumes nothing.
-use Rattle.std.specs.Prelude.{◌≡◌, Bool, true, false, ◌&&◌, List, [], ◌∷◌, ℕ, ◌+◌, ◌*◌, ◌≤◌, ◌<◌, leb, length, get_or}
+use Rattle.std.specs.Prelude.{◌≡◌, Bool, true, false, ◌&&◌, List, [], ◌∷◌, ℕ, ◌+◌, ◌*◌, ◌≤◌, ◌<◌, leb, length, get_or, Option, MatchOption}
 use Rattle.stripes.specs.Fold.{count, lowest}
 use Rattle.stripes.specs.System.{Layout, on}
 use Rattle.stripes.specs.Erased.{erasures}
@@ -14,6 +14,13 @@ pub record Passed (m : List ℕ) (from d : ℕ) : Type 0 where
   pub after : from ≤ d
   pub within : d ≤ length m
   pub none : (i : ℕ) → from ≤ i → i < d → erasures m i ≡ false
+
+-- What a step of a scan gives that stands before disk `from`: the next erased disk d, behind which it stands then, or nothing where no disk
+-- from `from` on is erased.
+abbrev pub Steps : (m : List ℕ) (from : ℕ) → Option ℕ → (behind : ℕ) → Type 0
+Steps m from found behind =
+    MatchOption found (Passed m from (length m))
+    (λ d. Passed m from d × (d < length m) × (erasures m d ≡ true) × (behind ≡ d + 1))
 
 -- `work` has a 1 for each disk that is still erased, and `stripes` has the two stripes of each of them, those of disk d from
 -- 2 * d on.

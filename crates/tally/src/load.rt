@@ -4,10 +4,11 @@ ghost use Rattle.stripes.specs.Fold.{count};
 ghost use Rattle.stripes.specs.Erased.{erasures};
 ghost use Rattle.stripes.specs.Sectors.{at_position};
 ghost use Rattle.model.specs.Grid.{disks, layout_of};
-ghost use Rattle.layout.specs.Stripe.{Numbered, stripe_limit};
+ghost use Rattle.layout.specs.Stripe.{stripe_limit};
 ghost use Rattle.tally.specs.Tally.{Tallied};
 ghost use Rattle.tally.specs.Column.{column_of, Located};
 
+use layout::stripe::Grid;
 use model::Size;
 
 // `work` becomes a map, with zeros behind it.
@@ -15,12 +16,8 @@ pub fn copy(map: &[u8], work: &mut [u8])
     requires { length map.now ≤ length work.old }
     ensures { erasures work.new ≡ erasures map.now }
 {
-    let mut i = 0;
-    while i < map.len() {
-        work[i] = map[i];
-        i += 1;
-    }
-    zeros::wipe(work, i, work.len() - i);
+    work[..map.len()].copy_from_slice(map);
+    zeros::wipe(work, map.len(), work.len() - map.len());
 }
 
 // `work` becomes the bytes of one position of a map that has `sectors` bytes for each disk. The size says only of what the contract speaks.
@@ -28,10 +25,8 @@ pub fn gather(size: Size, map: &[u8], sectors: usize, position: usize, work: &mu
     requires { Located size sectors position map.now work.old }
     ensures { work.new ≡ column_of (disks size) sectors position map.now }
 {
-    let mut i = 0;
-    while i < work.len() {
-        work[i] = map[i * sectors + position];
-        i += 1;
+    for d in 0..work.len() {
+        work[d] = map[d * sectors + position];
     }
 }
 
@@ -49,28 +44,22 @@ pub fn load_position(size: Size, map: &[u8], sectors: usize, position: usize, wo
 
 // Writes the stripes of each erased disk into the table, counts the erased disks on every stripe, and says how many they are.
 // What the table and the counts held before does not matter.
-pub fn tally(size: Size, base: usize, work: &[u8], stripes: &mut [u8], counts: &mut [u8]) -> usize
-    requires numbered { Numbered size base }
-    requires size_in_bounds { disks size ≤ length work.now }
-    requires by_index { (d : ℕ) → disks size ≤ d → erasures work.now d ≡ false }
+pub fn tally(grid: Grid, work: &[u8], stripes: &mut [u8], counts: &mut [u8]) -> usize
+    requires size_in_bounds { disks grid.size ≤ length work.now }
+    requires by_index { (d : ℕ) → disks grid.size ≤ d → erasures work.now d ≡ false }
     requires work_in_bounds { 2 * length work.now ≤ length stripes.old }
     requires stripe_limit_in_bounds { stripe_limit ≤ length counts.old }
-    ensures number { result ≡ count (disks size) (erasures work.now) }
-    ensures tallied { Tallied (layout_of size base) work.now stripes.new counts.new }
+    ensures number { result ≡ count (disks grid.size) (erasures work.now) }
+    ensures tallied { Tallied (layout_of grid.size grid.base) work.now stripes.new counts.new }
 {
     zeros::wipe(counts, 0, counts.len());
     let mut number = 0;
-    let mut from = 0;
-    loop {
-        let d = crate::scan::next_erased(work, from);
-        if work.len() <= d {
-            return number;
-        }
-        let pair = layout::stripe::stripes_of(size, base, d);
+    for d in crate::scan::erased(work) {
+        let pair = grid.stripes_of(d);
         crate::table::enter(stripes, d, pair);
         crate::count::raise(counts, pair.low);
         crate::count::raise(counts, pair.high);
         number += 1;
-        from = d + 1;
     }
+    number
 }

@@ -4,8 +4,7 @@ ghost use Rattle.stripes.specs.Erased.{erasures};
 ghost use Rattle.model.specs.Grid.{layout_of};
 ghost use Rattle.tally.specs.Tally.{Table};
 
-use layout::stripe::Pair;
-use model::Size;
+use layout::stripe::{Grid, Pair};
 
 // Writes the stripes of a disk.
 pub fn enter(stripes: &mut [u8], disk: usize, pair: Pair)
@@ -19,13 +18,6 @@ pub fn enter(stripes: &mut [u8], disk: usize, pair: Pair)
     stripes[at + 1] = pair.high as u8;
 }
 
-// A byte as a number.
-fn wide(byte: u8) -> usize
-    ensures { result ≡ byte }
-{
-    byte as usize
-}
-
 // What stands in the table for a disk.
 fn read(stripes: &[u8], disk: usize) -> Pair
     requires { 2 * disk + 1 < length stripes.now }
@@ -34,16 +26,17 @@ fn read(stripes: &[u8], disk: usize) -> Pair
 {
     let at = 2 * disk;
     Pair {
-        low: wide(stripes[at]),
-        high: wide(stripes[at + 1]),
+        low: usize::from(stripes[at]),
+        high: usize::from(stripes[at + 1]),
     }
 }
 
-// The stripes of an erased disk. The size, the base and the map say only of what the contract speaks.
-pub fn stripes_of(size: Size, base: usize, work: &[u8], stripes: &[u8], disk: usize) -> Pair
-    requires table { Table (layout_of size base) work.now stripes.now }
+// The stripes of an erased disk. The grid and the map say only of what the contract speaks. Map and table stay parameters of their own: a
+// struct of both would hold loans, which an `ensures` sees at two moments, and would make each contract longer.
+pub fn stripes_of(grid: Grid, work: &[u8], stripes: &[u8], disk: usize) -> Pair
+    requires table { Table (layout_of grid.size grid.base) work.now stripes.now }
     requires disk_value { erasures work.now disk ≡ true }
-    ensures { (layout_of size base).through disk ≡ result.low ∷ result.high ∷ [] }
+    ensures { (layout_of grid.size grid.base).through disk ≡ result.low ∷ result.high ∷ [] }
 {
     read(stripes, disk)
 }

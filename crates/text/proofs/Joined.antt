@@ -2,14 +2,15 @@
 -- Assumes nothing.
 use mathlib.Core.Path.{◌≡◌, refl, sym, ◌∙◌, ap, ap₂, subst}
 use mathlib.Core.Logic.{⊎_elim}
-use mathlib.Core.List.{List, [], ◌∷◌, ◌++◌}
-use Prim.Native.Nat.{ℕ, zero, suc, ◌+◌, ◌-◌, ◌/◌, ◌%◌, ◌≤◌, ◌<◌}
+use mathlib.Core.List.{List, [], ◌∷◌, ◌++◌, append_assoc}
+use Prim.Native.Nat.{ℕ, suc, ◌+◌, ◌-◌, ◌/◌, ◌%◌, ◌≤◌, ◌<◌}
 use native.Mathlib.Nat.{add-zero, zero-add, add-suc, suc-add}
-use native.Mathlib.Numerals.{add-one}
 use native.Mathlib.Omega.{arith}
 use borrow.Author.Tests.{lt-ltb, le-ltb}
-use lib.ListN.{length, get_or, set, take, drop, replicate, length-append, length-replicate}
-use lib.Seq.{sets, length-sets, sets-eq, take-suc, take_at, drop_at}
+use borrow.Rule.Slice.PartMut.{put_mid, Post-is}
+use lib.ListN.{length, set, take, drop, replicate, length-append, length-replicate}
+use lib.Seq.{sets, length-sets, sets-eq, take_at, drop_at}
+use Rattle.std.proofs.lemmas.List.{drop-replicate}
 use Rattle.model.specs.Listing.{digit, decimal}
 use Rattle.stripes.proofs.Fold.{lt_or_le}
 use Rattle.text.specs.Lines.{word_line, pair_line}
@@ -43,17 +44,11 @@ both_written {b} {c} {d} {s} {t} {i} {j} {k} p q =
 pub written_as : {b c s t : List ℕ} {i j : ℕ} → s ≡ t → Written b i s c j → Written b i t c j
 written_as {b} {c} {s} {t} {i} {j} e p = subst (λ (t : List ℕ). Written b i t c j) e p
 
--- One letter more of a word.
-pub letter_written : (s : List ℕ) {b c : List ℕ} {at i : ℕ} → i < length s → at + i < length c → Written b at (take i s) c (at + i)
-    → Written b at (take (i + 1) s) (set c (at + i) (get_or s i 0)) (at + (i + 1))
-letter_written s {b} {c} {at} {i} h room p =
-    written_as (sym (take-suc s i 0 h) ∙ ap (λ (k : ℕ). take k s) (sym (add-one i)))
-    (both_written p (record { bytes = refl; end = omega arith; within = omega arith }))
-
-drop-replicate : (a j n : ℕ) → drop j (replicate n a) ≡ replicate (n - j) a
-drop-replicate a zero n = ap (λ (k : ℕ). replicate k a) (let e : n ≡ n - 0 = omega arith in e)
-drop-replicate a (suc j) zero = ap (λ (k : ℕ). replicate k a) (let e : 0 ≡ 0 - suc j = omega arith in e)
-drop-replicate a (suc j) (suc n) = drop-replicate a j n ∙ ap (λ (k : ℕ). replicate k a) (let e : n - j ≡ suc n - suc j = omega arith in e)
+-- A text copied into a part of the buffer that is as long.
+pub part_written : (b : List ℕ) (at : ℕ) (s : List ℕ) → at + length s ≤ length b → put_mid at (at + length s - at) b s ≡ sets b at s
+part_written b at s h =
+    ap (λ (rest : List ℕ). take at b ++ (s ++ rest)) (Post-is at (at + length s) b (omega arith))
+    ∙ sym (append_assoc (take at b) s _) ∙ sym (sets-eq s b at h)
 
 -- A text at the start of a buffer of zeros.
 pub written-alone : (n : ℕ) {t c : List ℕ} {j : ℕ} → Written (replicate n 0) 0 t c j
@@ -65,7 +60,7 @@ written-alone n {t} {c} {j} p =
     let inside = p.within in
     let whole : c ≡ t ++ drop (0 + length t) zeros = p.bytes ∙ sets-eq t zeros 0 (omega arith) in (
       ap (take j) whole ∙ take_at t _ j (sym end),
-      ap (drop j) whole ∙ drop_at t _ j (sym end) ∙ ap (λ (k : ℕ). drop k zeros) (zero-add (length t) ∙ sym end) ∙ drop-replicate 0 j n,
+      ap (drop j) whole ∙ drop_at t _ j (sym end) ∙ ap (λ (k : ℕ). drop k zeros) (zero-add (length t) ∙ sym end) ∙ drop-replicate j n 0,
       omega arith,
     )
 

@@ -20,12 +20,9 @@ fn word(out: &mut [u8], at: usize, letters: &[u8]) -> usize
     requires { at + length letters.now ≤ length out.old }
     ensures { Written out.old at letters.now out.new result }
 {
-    let mut i = 0;
-    while i < letters.len() {
-        out[at + i] = letters[i];
-        i += 1;
-    }
-    at + i
+    let end = at + letters.len();
+    out[at..end].copy_from_slice(letters);
+    end
 }
 
 // One decimal digit.
@@ -34,7 +31,7 @@ fn digit(out: &mut [u8], at: usize, value: usize) -> usize
     requires value_bound { value < 10 }
     ensures { Written out.old at (Listing·digit value ∷ []) out.new result }
 {
-    byte(out, at, (48 + value) as u8)
+    byte(out, at, b'0' + value as u8)
 }
 
 // A number in decimal.

@@ -16,8 +16,8 @@ use Rattle.model.proofs.Tidy.{tidy_takes, tidy_taken, tidy_refused, chain_fittin
 use Rattle.entries.specs.Listed.{listed}
 use Rattle.sheet.proofs.Fitting.{Small, listed-fits}
 use Rattle.chain.specs.Read.{chain_read}
-use Rattle.chain.specs.declared.Chain.{Chain}
-use Rattle.chain.specs.declared.Chain.TheVariants.{Records, Refused}
+use Rattle.chain.specs.Read.{Chain}
+use Rattle.chain.specs.Read.{Records, Refused}
 use Rattle.chain.proofs.Clean.{by_number, by_records}
 
 -- What tidy promises of its answer and of the sheet after it.

@@ -1,18 +1,16 @@
 -- What the plan for a disk answers, and the sheet after it, in each case.
 -- Assumes nothing.
-use mathlib.Core.Path.{◌≡◌, refl, sym, ◌∙◌, ap}
-use mathlib.Core.Bool.{Bool, true, false}
-use mathlib.Core.List.{List, [], ◌∷◌}
+use mathlib.Core.Path.{◌≡◌, sym, ◌∙◌, ap}
+use mathlib.Core.Bool.{true, false}
+use mathlib.Core.List.{List}
 use Prim.Native.Nat.{ℕ, ◌≤◌, ◌<◌}
 use native.Mathlib.Omega.{arith}
 use borrow.Author.Tests.{le-ltb, lt-ltb, ltb-true}
 use lib.Dec.{eqb, ltb}
-use lib.ListN.{length, get_or, length-append}
-use Rattle.stripes.specs.System.{Layout}
+use lib.ListN.{length, get_or}
 use Rattle.stripes.specs.Erased.{erasures}
 use Rattle.stripes.specs.Repair.{repairs, residual, fatal}
-use Rattle.stripes.specs.Wanted.{side_repairs, wanted_stripe, wanted_repairs}
-use Rattle.stripes.proofs.Fold.{by_cases, and_left, and_right}
+use Rattle.stripes.proofs.Fold.{and_left, and_right}
 use Rattle.stripes.proofs.Peel.{is_fatal, repairs_peels}
 use Rattle.stripes.proofs.Wanted.{reached_of, wanted_is}
 use Rattle.stripes.proofs.Positions.{one-fatal}
@@ -22,8 +20,8 @@ use Rattle.model.specs.Sheet.{narrow, sheet_of}
 use Rattle.model.specs.Plan.{sheet_tests, one_tests, sheet_layout, loss_outcome, loss_sheets}
 use Rattle.model.specs.PlanDisk.{can_be_wanted, plan_disk_tests, disk_outcome, disk_sheet, plan_disk_outcome, plan_disk_sheet}
 use Rattle.model.specs.declared.Size.{Size}
-use Rattle.model.specs.declared.Outcome.{Outcome}
-use Rattle.model.specs.declared.Outcome.TheVariants.{Repairs, Refused}
+use Rattle.model.specs.Outcome.{Outcome}
+use Rattle.model.specs.Outcome.{Repairs, Refused}
 use Rattle.model.proofs.Grid.{layout-disks, layout-two, map-length, rows-below}
 use Rattle.model.proofs.Refusal.{fails, passes, no_tests}
 use Rattle.model.proofs.Accept.{one-fits, one_passed}
@@ -32,7 +30,7 @@ use Rattle.model.proofs.Limits.{peels_fitting}
 use Rattle.entries.specs.Listed.{listed}
 use Rattle.sheet.proofs.Fitting.{Small, listed-fits}
 use Rattle.plan.specs.Drafted.{draft_sheets}
-use Rattle.wanted.specs.Found.{Found}
+use Rattle.wanted.specs.Found.{Reaching}
 
 -- ---- the test of the disk, where the map is as long as the grid has disks
 module _ (z : Size) (m : List ℕ) (d : ℕ) where
@@ -50,22 +48,6 @@ module _ (z : Size) (m : List ℕ) (d : ℕ) where
       let all = layout-disks z narrow.base in
       let l = ltb-true d (disks z) (and_left (ltb d (disks z)) _ can) in
       (omega arith, and_right (ltb d (disks z)) _ can)
-
--- ---- what was found
-module _ (L : Layout) (e : ℕ → Bool) (d : ℕ) {count : ℕ} {list : List ℕ} (f : Found L e d count list) where
-  -- A list for a disk has the disk at least, so none was found exactly if plan's order leaves the disk.
-  none_left : count ≡ 0 → residual L e d ≡ true
-  unfolding wanted_repairs
-  none_left none =
-      by_cases (λ (b : Bool). b ≡ true) (residual L e d) (λ q. refl)
-      (λ q.
-      let long = length-append (side_repairs L e d (wanted_stripe L e d)) (record { disk = d; stripe = wanted_stripe L e d } ∷ []) in
-      let is : count ≡ length (wanted_repairs L e d) = f.number ∙ (rw q) in
-      absurd (omega arith))
-
-  some-reached : (count ≡ 0 → ⊥) → residual L e d ≡ false
-  some-reached some =
-      by_cases (λ (b : Bool). b ≡ false) (residual L e d) (λ q. absurd (some (f.number ∙ (rw q)))) (λ q. refl)
 
 -- ---- the tests of plan's arguments at one position
 module _ (z : Size) (m : List ℕ) (len : ℕ) where
@@ -101,37 +83,34 @@ module _ (z : Size) (m sheet : List ℕ) (d : ℕ) where
       unfolding plan_disk_tests
       accepted = one_passed z m (length sheet) ok _ ∙ passes 15 _ _ can ∙ no_tests
 
-      module _ {count : ℕ} {list : List ℕ} (f : Found (sheet_layout z) (erasures m) d count list) where
-        -- Where no list was found, the loss is fatal, and plan's draft decides, whatever its limit.
-        pub unreached : count ≡ 0 → (k : ℕ) (answer : Outcome) (after : List ℕ) → answer ≡ loss_outcome 1 (sheet_layout z) (erasures m)
-            → after ≡ draft_sheets 1 (sheet_layout z) narrow (erasures m) k → Answers answer after
-        unfolding disk_outcome disk_sheet loss_sheets draft_sheets
-        unreached none k answer after outcome written =
-            let (l, erased) = is_wanted z m d can in
-            let left = none_left (sheet_layout z) (erasures m) d f none in
-            let lossy : fatal (sheet_layout z) (erasures m) ≡ true = (is_fatal (sheet_layout z) (erasures m)).1 (d, l, left) in
-            let same : draft_sheets 1 (sheet_layout z) narrow (erasures m) k ≡ disk_sheet (sheet_layout z) narrow (erasures m) d =
-            rw (left, one-fatal (sheet_layout z) (erasures m), lossy) in
-            let (gives, shows) = disk_given z m sheet d accepted in
-            (outcome ∙ sym (gives ∙ (rw left)), written ∙ same ∙ sym shows)
+      -- Where no list was found, the loss is fatal, and plan's draft decides, whatever its limit.
+      pub unreached : residual (sheet_layout z) (erasures m) d ≡ true → (k : ℕ) (answer : Outcome) (after : List ℕ) → answer ≡ loss_outcome 1 (sheet_layout z) (erasures m)
+          → after ≡ draft_sheets 1 (sheet_layout z) narrow (erasures m) k → Answers answer after
+      unfolding disk_outcome disk_sheet loss_sheets draft_sheets
+      unreached left k answer after outcome written =
+          let (l, erased) = is_wanted z m d can in
+          let lossy : fatal (sheet_layout z) (erasures m) ≡ true = (is_fatal (sheet_layout z) (erasures m)).1 (d, l, left) in
+          let same : draft_sheets 1 (sheet_layout z) narrow (erasures m) k ≡ disk_sheet (sheet_layout z) narrow (erasures m) d =
+          rw (left, one-fatal (sheet_layout z) (erasures m), lossy) in
+          let (gives, shows) = disk_given z m sheet d accepted in
+          (outcome ∙ sym (gives ∙ (rw left)), written ∙ same ∙ sym shows)
 
-        -- Otherwise its repairs fit a sheet, and are what is asked for.
-        pub small : (count ≡ 0 → ⊥) → Small list count
+      -- Otherwise its repairs fit a sheet, and are what is asked for.
+      module _ {count : ℕ} {list : List ℕ} (f : Reaching (sheet_layout z) (erasures m) d count list) where
+        pub small : Small list count
         unfolding residual
-        small some =
-            let left = some-reached (sheet_layout z) (erasures m) d f some in
+        small =
             let (l, erased) = is_wanted z m d can in
             let (size, map, long) = one-fits z m (length sheet) ok in
-            let reached = reached_of (sheet_layout z) d (repairs (sheet_layout z) (erasures m)) (erasures m) (repairs_peels (sheet_layout z) (erasures m)) erased left in
+            let reached = reached_of (sheet_layout z) d (repairs (sheet_layout z) (erasures m)) (erasures m) (repairs_peels (sheet_layout z) (erasures m)) erased f.fine in
             let w = wanted_is (sheet_layout z) (layout-two z narrow.base (rows-below z size)) (erasures m) d reached in
-            listed-fits (peels_fitting z size (erasures m) _ w.allowed_all) list count (f.entries left)
+            listed-fits (peels_fitting z size (erasures m) _ w.allowed_all) list count f.entries
 
-        pub reaches : (count ≡ 0 → ⊥) → (after : List ℕ) → after ≡ sheet_of narrow 1 (listed list count) → Answers (Repairs count) after
+        pub reaches : (after : List ℕ) → after ≡ sheet_of narrow 1 (listed list count) → Answers (Repairs count) after
         unfolding disk_outcome disk_sheet
-        reaches some after written =
-            let left = some-reached (sheet_layout z) (erasures m) d f some in
-            let number : count ≡ length (wanted_repairs (sheet_layout z) (erasures m) d) = f.number ∙ (rw left) in
+        reaches after written =
+            let left = f.fine in
             let (gives, shows) = disk_given z m sheet d accepted in (
-              ap Repairs number ∙ sym (gives ∙ (rw left)),
-              written ∙ ap (sheet_of narrow 1) (f.entries left) ∙ sym (shows ∙ (rw left)),
+              ap Repairs f.number ∙ sym (gives ∙ (rw left)),
+              written ∙ ap (sheet_of narrow 1) f.entries ∙ sym (shows ∙ (rw left)),
             )

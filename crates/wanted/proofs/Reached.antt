@@ -8,7 +8,7 @@ use Prim.Native.Nat.{ℕ, ◌+◌, ◌≤◌, ◌<◌}
 use native.Mathlib.Omega.{arith}
 use borrow.Author.Tests.{eq-eqb, ne_eqb, eqb-true, eqb-false, lt-leb, le-leb, not-false}
 use lib.Dec.{eqb, leb}
-use lib.ListN.{length, get_or, set, length-append}
+use lib.ListN.{length, get_or, set}
 use Rattle.stripes.specs.Fold.{bit, count}
 use Rattle.stripes.specs.System.{Layout, TwoStripes, on, among, lower, higher, first_of, other_than}
 use Rattle.stripes.specs.Erased.{erasures, without}
@@ -33,6 +33,7 @@ use Rattle.tally.proofs.Counted.{crossed}
 use Rattle.order.specs.Pick.{held_repairs}
 use Rattle.wanted.specs.Side.{in_part, other_in, side_in}
 use Rattle.wanted.specs.Found.{Others, Tried, Found}
+use Rattle.std.proofs.Common.{Option, Some, None}
 use Rattle.wanted.proofs.Near.{sideWith, held_side, held-serves}
 
 module _ {L : Layout} (two : TwoStripes L) {map : List ℕ} {d : ℕ} (erased : erasures map d ≡ true)
@@ -114,27 +115,20 @@ module _ {L : Layout} (two : TwoStripes L) (e : ℕ → Bool) (d : ℕ) (erased 
       ∙ sym (allowed-count L (erasures work') d inside waits s here)
       ∙ ap (λ (f : ℕ → Bool). allowed L f d s) left ∙ held-serves L two e d s erased
 
-  pub tried_none : s < length counts → (get_or counts s 0 ≡ 1 → ⊥) → Tried L e d s 0 list
-  tried_none l n =
-      let fails : serves L e d s ≡ false = sym (count-serves l) ∙ ne_eqb (get_or counts s 0) 1 n in
-      record {
-        number = sym (ap (λ (b : Bool). cond b (length (ending_with (side_repairs L e d s) d s)) 0) fails);
-        entries = λ h. absurd (true≢false (sym h ∙ fails));
-      }
+  pub tried_none : s < length counts → (get_or counts s 0 ≡ 1 → ⊥) → Tried L e d s None list
+  tried_none l n = sym (count-serves l) ∙ ne_eqb (get_or counts s 0) 1 n
 
   -- Then the disk is put behind them.
   pub tried_list : s < length counts → get_or counts s 0 ≡ 1 → made < length list → d < 65536 → s < 65536
-      → {list' : List ℕ} → list' ≡ set list made (word_of d s) → Tried L e d s (made + 1) list'
+      → {list' : List ℕ} → list' ≡ set list made (word_of d s) → Tried L e d s (Some (made + 1)) list'
   tried_list l one room low high {list'} put =
-      let holds : serves L e d s ≡ true = sym (count-serves l) ∙ eq-eqb (get_or counts s 0) 1 one in
       let all : listed list' (made + 1) ≡ ending_with (side_repairs L e d s) d s =
       ap (λ (m : List ℕ). listed m (made + 1)) put ∙ listed_put list made d s room low high
       ∙ ap (λ (v : List Entry). ending_with v d s) side-listed in
       record {
-        number =
-            sym (listed-length list' (made + 1)) ∙ ap length all
-            ∙ sym (ap (λ (b : Bool). cond b (length (ending_with (side_repairs L e d s) d s)) 0) holds);
-        entries = λ h. all;
+        fine = sym (count-serves l) ∙ eq-eqb (get_or counts s 0) 1 one;
+        number = sym (listed-length list' (made + 1)) ∙ ap length all;
+        entries = all;
       }
 
 -- ---- both sides
@@ -154,40 +148,11 @@ listed-higher L two d {low} {high} l pair =
     ap₂ other_than (listed-lower L d pair) pair
     ∙ other-first low high (λ q. let one : bit (eqb high low) ≡ 1 = ap bit (eq-eqb high low q) in omega (arith, (crossed two l pair).apart))
 
--- A list that was found has at least one repair.
-some-repairs : (v : List Entry) (d s : ℕ) → length (ending_with v d s) ≡ 0 → ⊥
-some-repairs v d s h = let long = length-append v (record { disk = d; stripe = s } ∷ []) in omega arith
-
 module _ {L : Layout} (two : TwoStripes L) (e : ℕ → Bool) (d : ℕ) (erased : e d ≡ true) where
-  -- A stripe serves exactly if trying it gives repairs.
-  tried-serves : {s r : ℕ} {list : List ℕ} → Tried L e d s r list → (r ≡ 0 → ⊥) → serves L e d s ≡ true
-  tried-serves {s} {r} t n =
-      by_cases (λ (b : Bool). serves L e d s ≡ b → b ≡ true) (serves L e d s) (λ q h. refl)
-      (λ q h. absurd (n (t.number ∙ ap (λ (b : Bool). cond b (length (ending_with (side_repairs L e d s) d s)) 0) h))) refl
-
-  tried-fails : {s r : ℕ} {list : List ℕ} → Tried L e d s r list → r ≡ 0 → serves L e d s ≡ false
-  tried-fails {s} {r} t z =
-      by_cases (λ (b : Bool). serves L e d s ≡ b → b ≡ false) (serves L e d s)
-      (λ q h.
-      absurd (some-repairs (side_repairs L e d s) d s
-      (sym (ap (λ (b : Bool). cond b (length (ending_with (side_repairs L e d s) d s)) 0) h) ∙ sym t.number ∙ z)))
-      (λ q h. refl) refl
-
-  -- The first stripe or, if that does not serve, the second.
-  pub tried_first : (first second : ℕ) {r : ℕ} {list : List ℕ} → Tried L e d first r list → (r ≡ 0 → ⊥)
-      → Tried L e d (cond (serves L e d first) first second) r list
-  tried_first first second {r} {list} t n =
-      subst (λ (b : Bool). Tried L e d (cond b first second) r list) (sym (tried-serves t n)) t
-
-  pub tried_second : (first second : ℕ) {r : ℕ} (list : List ℕ) → Tried L e d first r list → r ≡ 0 → {q : ℕ} {list' : List ℕ}
-      → Tried L e d second q list' → Tried L e d (cond (serves L e d first) first second) q list'
-  tried_second first second list t z {q} {list'} u =
-      subst (λ (b : Bool). Tried L e d (cond b first second) q list') (sym (tried-fails t z)) u
-
   -- With other names for the two stripes.
-  pub tried_at : {s t first second : ℕ} → first ≡ s → second ≡ t → {r : ℕ} {list : List ℕ}
-      → Tried L e d (cond (serves L e d first) first second) r list → Tried L e d (cond (serves L e d s) s t) r list
-  tried_at p q {r} {list} u = subst (λ (x : ℕ × ℕ). Tried L e d (cond (serves L e d x.0) x.0 x.1) r list) (λ i. (p i, q i)) u
+  pub tried_at : {p q : ℕ × ℕ} → p ≡ q → (r : Option ℕ) (list : List ℕ)
+      → Tried L e d (cond (serves L e d p.0) p.0 p.1) r list → Tried L e d (cond (serves L e d q.0) q.0 q.1) r list
+  tried_at same r list u = subst (λ (x : ℕ × ℕ). Tried L e d (cond (serves L e d x.0) x.0 x.1) r list) same u
 
   -- The stripe that is taken.
   takes_low : serves L e d (lower L d) ≡ true
@@ -221,58 +186,53 @@ module _ {L : Layout} (two : TwoStripes L) (e : ℕ → Bool) (d : ℕ) (erased 
       (λ q k. refl) refl
 
   -- What is found by the stripe that is taken, and that nothing is where neither serves.
-  found-by : {s r : ℕ} {list : List ℕ} → Tried L e d s r list → serves L e d s ≡ true → wanted_stripe L e d ≡ s → Found L e d r list
+  found-by : (s : ℕ) (r : Option ℕ) (list : List ℕ) → Tried L e d s r list → serves L e d s ≡ true → wanted_stripe L e d ≡ s → Found L e d r list
   unfolding wanted_repairs
-  found-by {s} {r} {list} t h is =
-      let all : listed list r ≡ wanted_repairs L e d = t.entries h ∙ ap (λ (u : ℕ). ending_with (side_repairs L e d u) d u) (sym is) in
-      let reached : residual L e d ≡ false =
-      by_cases (λ (b : Bool). residual L e d ≡ b → b ≡ false) (residual L e d)
-      (λ q k. absurd (left-unreached L d e k (side_repairs L e d s, s, serves_peels L two e d s h))) (λ q k. refl) refl in
+  found-by s None list none h is = absurd (true≢false (sym h ∙ none))
+  found-by s (Some n) list t h is =
+      let all : listed list n ≡ wanted_repairs L e d = t.entries ∙ ap (λ (u : ℕ). ending_with (side_repairs L e d u) d u) (sym is) in
       record {
-        number = sym (listed-length list r) ∙ ap length all ∙ sym (ap (λ (b : Bool). cond b 0 (length (wanted_repairs L e d))) reached);
-        entries = λ k. all;
+        fine =
+            by_cases (λ (b : Bool). residual L e d ≡ b → b ≡ false) (residual L e d)
+            (λ q k. absurd (left-unreached L d e k (side_repairs L e d s, s, serves_peels L two e d s h))) (λ q k. refl) refl;
+        number = sym (listed-length list n) ∙ ap length all;
+        entries = all;
       }
 
-  found_none : {s r : ℕ} {list : List ℕ} → Tried L e d s r list → serves L e d s ≡ false → serves L e d (lower L d) ≡ false
+  found_none : (s : ℕ) (r : Option ℕ) (list : List ℕ) → Tried L e d s r list → serves L e d s ≡ false → serves L e d (lower L d) ≡ false
       → serves L e d (higher L d) ≡ false → Found L e d r list
-  found_none {s} {r} t none low high =
-      let lost : residual L e d ≡ true =
-      not-false (residual L e d) (sym (serves_either L two e d erased) ∙ ap₂ (λ (a b : Bool). a || b) low high) in
-      record {
-        number =
-            t.number ∙ ap (λ (b : Bool). cond b (length (ending_with (side_repairs L e d s) d s)) 0) none
-            ∙ sym (ap (λ (b : Bool). cond b 0 (length (wanted_repairs L e d))) lost);
-        entries = λ fine. absurd (true≢false (sym lost ∙ fine));
-      }
+  found_none s None list none fails low high =
+      not-false (residual L e d) (sym (serves_either L two e d erased) ∙ ap₂ (λ (a b : Bool). a || b) low high)
+  found_none s (Some n) list t fails low high = absurd (true≢false (sym t.fine ∙ fails))
 
   -- The side with fewer disks first, on a tie that at the lower stripe.
-  pub found_low : count L.disks (on_side L e d (lower L d)) ≤ count L.disks (on_side L e d (higher L d)) → {r : ℕ} {list : List ℕ}
+  pub found_low : count L.disks (on_side L e d (lower L d)) ≤ count L.disks (on_side L e d (higher L d)) → (r : Option ℕ) (list : List ℕ)
       → Tried L e d (cond (serves L e d (lower L d)) (lower L d) (higher L d)) r list → Found L e d r list
-  found_low few {r} {list} = go (serves L e d (lower L d)) refl (serves L e d (higher L d)) refl
+  found_low few r list = go (serves L e d (lower L d)) refl (serves L e d (higher L d)) refl
     where
       go : (a : Bool) → serves L e d (lower L d) ≡ a → (b : Bool) → serves L e d (higher L d) ≡ b
           → Tried L e d (cond a (lower L d) (higher L d)) r list → Found L e d r list
-      go true h b k t = found-by t h (takes_low h (λ z. few))
-      go false h true k t = found-by t k (takes-high k (λ z. absurd (true≢false (sym z ∙ h))))
-      go false h false k t = found_none t k h k
+      go true h b k t = found-by _ r list t h (takes_low h (λ z. few))
+      go false h true k t = found-by _ r list t k (takes-high k (λ z. absurd (true≢false (sym z ∙ h))))
+      go false h false k t = found_none _ r list t k h k
 
-  pub found_high : count L.disks (on_side L e d (higher L d)) < count L.disks (on_side L e d (lower L d)) → {r : ℕ} {list : List ℕ}
+  pub found_high : count L.disks (on_side L e d (higher L d)) < count L.disks (on_side L e d (lower L d)) → (r : Option ℕ) (list : List ℕ)
       → Tried L e d (cond (serves L e d (higher L d)) (higher L d) (lower L d)) r list → Found L e d r list
-  found_high fewer {r} {list} = go (serves L e d (higher L d)) refl (serves L e d (lower L d)) refl
+  found_high fewer r list = go (serves L e d (higher L d)) refl (serves L e d (lower L d)) refl
     where
       go : (a : Bool) → serves L e d (higher L d) ≡ a → (b : Bool) → serves L e d (lower L d) ≡ b
           → Tried L e d (cond a (higher L d) (lower L d)) r list → Found L e d r list
-      go true h b k t = found-by t h (takes-high h (λ z. fewer))
-      go false h true k t = found-by t k (takes_low k (λ z. absurd (true≢false (sym z ∙ h))))
-      go false h false k t = found_none t k k h
+      go true h b k t = found-by _ r list t h (takes-high h (λ z. fewer))
+      go false h true k t = found-by _ r list t k (takes_low k (λ z. absurd (true≢false (sym z ∙ h))))
+      go false h false k t = found_none _ r list t k k h
 
   -- The same of the stripes as they were read.
   pub found_first : {low high : ℕ} → lower L d ≡ low → higher L d ≡ high
-      → count L.disks (on_side L e d low) ≤ count L.disks (on_side L e d high) → {r : ℕ} {list : List ℕ}
+      → count L.disks (on_side L e d low) ≤ count L.disks (on_side L e d high) → (r : Option ℕ) (list : List ℕ)
       → Tried L e d (cond (serves L e d low) low high) r list → Found L e d r list
-  found_first p q few {r} {list} t = found_low (rw (q, p) few) (rw (q, p) t)
+  found_first p q few r list t = found_low (rw (q, p) few) r list (rw (q, p) t)
 
   pub found_second : {low high : ℕ} → lower L d ≡ low → higher L d ≡ high
-      → count L.disks (on_side L e d high) < count L.disks (on_side L e d low) → {r : ℕ} {list : List ℕ}
+      → count L.disks (on_side L e d high) < count L.disks (on_side L e d low) → (r : Option ℕ) (list : List ℕ)
       → Tried L e d (cond (serves L e d high) high low) r list → Found L e d r list
-  found_second p q fewer {r} {list} t = found_high (rw (q, p) fewer) (rw (q, p) t)
+  found_second p q fewer r list t = found_high (rw (q, p) fewer) r list (rw (q, p) t)

@@ -33,26 +33,20 @@ fn find_places(size: Size, block: usize, disk: usize) -> Places
     }
 }
 
-// `store` for the w * count bytes from `from` on, w at a time. Bytes that are stored already stay as they are, since there the
+// `store` for the W * count bytes from `from` on, W at a time. Bytes that are stored already stay as they are, since there the
 // difference is zero.
-fn store_parts(array: &mut [u8], at: Places, data: &[u8], from: usize, count: usize, w: usize)
-    requires w_bound { w ≤ 128 }
-    requires room { Room (from + w * count) at «data».now array.old }
-    ensures { array.new ≡ parts at «data».now from w array.old count }
+#[inline(always)]
+fn store_parts<const W: usize>(array: &mut [u8], at: Places, data: &[u8], from: usize, count: usize)
+    requires { Room (from + W * count) at «data».now array.old }
+    ensures { array.new ≡ parts at «data».now from W array.old count }
 {
-    let own = at.own;
-    let row = at.row;
-    let column = at.column;
-    let corner = at.corner;
-    let mut i = 0;
-    while i < count {
-        let k = from + w * i;
-        let change = xor::put::difference(array, own + k, data, k, w);
-        xor::put::add(array, own + k, change, w);
-        xor::put::add(array, row + k, change, w);
-        xor::put::add(array, column + k, change, w);
-        xor::put::add(array, corner + k, change, w);
-        i += 1;
+    for i in 0..count {
+        let k = from + W * i;
+        let change: [u8; W] = xor::put::difference(array, at.own + k, data, k);
+        xor::put::add(array, at.own + k, &change);
+        xor::put::add(array, at.row + k, &change);
+        xor::put::add(array, at.column + k, &change);
+        xor::put::add(array, at.corner + k, &change);
     }
 }
 
@@ -64,12 +58,12 @@ pub fn store(size: Size, block: usize, array: &mut [u8], disk: usize, data: &[u8
 {
     let at = find_places(size, block, disk);
     if block < 16 {
-        store_parts(array, at, data, 0, block, 1);
+        store_parts::<1>(array, at, data, 0, block);
         return;
     }
     let last = (block % 16 + 15) / 16;
     let narrow = block % 128;
-    store_parts(array, at, data, block - 16 * last, last, 16);
-    store_parts(array, at, data, 0, block / 128, 128);
-    store_parts(array, at, data, block - narrow, narrow / 16, 16);
+    store_parts::<16>(array, at, data, block - 16 * last, last);
+    store_parts::<128>(array, at, data, 0, block / 128);
+    store_parts::<16>(array, at, data, block - narrow, narrow / 16);
 }

@@ -1,4 +1,5 @@
 pub mod Added
 pub mod Parts
+pub mod Spots
 pub mod Strided
 pub mod Listed

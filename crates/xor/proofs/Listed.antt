@@ -1,41 +1,36 @@
--- Laws of sums of stretches that a list picks.
+-- Stretches at the first `count` numbers of a list among stretches wherever they stand.
 -- Assumes nothing.
-use mathlib.Core.Path.{◌≡◌}
+use mathlib.Core.Path.{◌≡◌, ap}
 use mathlib.Core.List.{List}
-use Prim.Native.Nat.{ℕ, ◌+◌, ◌*◌, ◌≤◌}
-use native.Mathlib.Numerals.{add-one}
-use native.Mathlib.Omega.{arith}
-use lib.ListN.{length, get_or}
-use Rattle.stripes.specs.Fold.{◌⊕◌, xsum}
+use Prim.Native.Nat.{ℕ, ◌+◌, ◌*◌, ◌≤◌, ◌<◌}
+use lib.ListN.{length, get_or, take}
+use Rattle.std.proofs.Common.{length-take-le, get_or-take}
+use Rattle.stripes.specs.Fold.{gate}
 use Rattle.stripes.proofs.Fold.{xsum_ext}
+use Rattle.xor.specs.Spots.{Inside, Clear, picked_spots, total_at}
 use Rattle.xor.specs.Picked.{Chosen, Beside, picked}
-use Rattle.xor.proofs.Parts.{Aside, other_stretch}
+use Rattle.xor.proofs.Strided.{apart}
 
--- One more stretch.
-pub picked_next : (a : List ℕ) (step : ℕ) (list : List ℕ) (k j : ℕ)
-    → picked a j step list (k + 1) ≡ picked a j step list k ⊕ get_or a (j + get_or list k 0 * step) 0
-unfolding picked xsum
-picked_next a step list k j = rw add-one
+module _ (step : ℕ) (list : List ℕ) (count : ℕ) (listed : count ≤ length list) where
+  many : length (take count list) ≡ count
+  many = length-take-le count list listed
 
--- The stretch beside those picked is read by no sum.
-pub beside_aside : {a : List ℕ} {first step : ℕ} {list : List ℕ} {count target n : ℕ} → Beside a first step list count target n
-    → Aside (λ l j. picked l j step list count) a (first + target * step) first n
-unfolding picked
-beside_aside {a} {first} {step} {list} {count} {target} s =
-    let w = s.apart in
-    record {
-      room = s.room;
-      kept = λ m f i h l. xsum_ext count (λ k b. other_stretch a first step m f i (get_or list k 0) target (omega arith) (omega arith) (s.other k b));
-    }
+  number : (k : ℕ) → k < count → get_or (take count list) k 0 ≡ get_or list k 0
+  number k b = get_or-take count list k 0 b
 
--- The w places behind n of stretches that are picked.
-pub chosen_later : {a b : List ℕ} {first step : ℕ} {list : List ℕ} {count len w at : ℕ} (n : ℕ) → Chosen a first step list count len → n + w ≤ len
-    → length b ≡ length a → at ≡ first + n → Chosen b at step list count w
-chosen_later n s h e p = record { listed = s.listed; within = λ k l. let r = s.within k l in omega arith }
+  pub picked_total : (a : List ℕ) (j : ℕ) → total_at (picked_spots step (take count list)) a j ≡ picked a j step list count
+  unfolding total_at picked gate
+  picked_total a j = rw many (xsum_ext count (λ k b. ap (λ (n : ℕ). get_or a (j + n * step) 0) (number k b)))
 
-pub beside_later : {a b : List ℕ} {first step : ℕ} {list : List ℕ} {count target len w at : ℕ} (n : ℕ) → Beside a first step list count target len
-    → n + w ≤ len → length b ≡ length a → at ≡ first + n → Beside b at step list count target w
-beside_later n s h e p =
-    let q = s.apart in
-    let r = s.room in
-    record { chosen = chosen_later n s.chosen h e p; room = omega arith; apart = omega arith; other = s.other }
+  pub picked_inside : {a : List ℕ} {first w : ℕ} → Chosen a first step list count w → Inside (picked_spots step (take count list)) a first w
+  picked_inside {a} {first} {w} s =
+      record { each = λ k b. let h = rw many at b in rw (number k h) (s.within k h) }
+
+  pub picked_clear : {a : List ℕ} {first target w : ℕ} → Beside a first step list count target w
+      → Clear (picked_spots step (take count list)) a first (target * step) w
+  picked_clear {target = target} {w} s =
+      record {
+        inside = picked_inside s.chosen;
+        room = s.room;
+        apart = λ k b t. let h = rw many at b in rw (number k h) (apart step w (get_or list k 0) target s.apart (s.other k h));
+      }

@@ -2,19 +2,18 @@
 -- Assumes nothing.
 use mathlib.Core.Path.{◌≡◌, refl, sym, ◌∙◌, ap, ap₂}
 use mathlib.Core.Bool.{Bool, true, false, ◌&&◌}
-use mathlib.Core.Logic.{⊎_elim}
 use mathlib.Core.List.{List}
-use Prim.Native.Nat.{ℕ, suc, ◌+◌, ◌*◌, ◌-◌, ◌≤◌, ◌<◌}
-use native.Mathlib.Nat.{mul-zero, mul-suc, mul-le-mul_left, mul-le-mul_right, add_assoc, zero-add, sub-zero, le_refl, suc-mul}
+use Prim.Native.Nat.{ℕ, suc, ◌+◌, ◌*◌, ◌≤◌, ◌<◌}
+use native.Mathlib.Nat.{mul-zero, mul-suc, mul-le-mul_left, add_assoc, zero-add, sub-zero, le_refl}
 use native.Mathlib.Numerals.{add-one}
 use native.Mathlib.Omega.{arith}
 use lib.Dec.{eqb}
 use lib.Bits.{bit_xor}
-use lib.ListN.{length, get_or, set, replicate, get_or-replicate}
+use lib.ListN.{length, get_or, set}
 use Rattle.stripes.specs.Fold.{◌⊕◌, every}
-use Rattle.stripes.proofs.Fold.{every_add, every_ext, every_all, every_at, every-not, every_fails, lt_or_le}
+use Rattle.stripes.proofs.Fold.{every_add, every_ext, every_all, every_at, every-not, every_fails}
 use Rattle.zeros.specs.Stored.{stored}
-use Rattle.zeros.proofs.Stored.{stored_more, stored_ext, stored-none, length-stored, get_or-stored, get_or-before, get_d_after}
+use Rattle.zeros.proofs.Stored.{stored_more, stored_ext, stored-none, get_or-stored}
 use Rattle.xor.specs.Parts.{zero_from, stored_from}
 use Rattle.xor.specs.Strided.{added}
 use Rattle.xor.proofs.Added.{added_next}
@@ -36,19 +35,11 @@ stored_at l f w n r e m h i b =
 abbrev pub differ : List ℕ → ℕ → List ℕ → ℕ → ℕ → ℕ
 differ a at b from i = get_or a (at + i) 0 ⊕ get_or b (from + i) 0
 
-abbrev pub mixed : List ℕ → List ℕ → ℕ → ℕ → ℕ
-mixed acc a at i = get_or acc i 0 ⊕ get_or a (at + i) 0
-
 pub mix_next : (acc a : List ℕ) (at i : ℕ) (r : List ℕ) → r ≡ added acc 0 i (λ j. get_or a (at + j) 0) → i < length acc
     → set r i (bit_xor (get_or r i 0) (get_or a (at + i) 0)) ≡ added acc 0 (i + 1) (λ j. get_or a (at + j) 0)
 unfolding ◌⊕◌
 mix_next acc a at i r e h =
     ap (λ (k : ℕ). set r k (get_or r k 0 ⊕ get_or a (at + i) 0)) (sym (zero-add i)) ∙ added_next acc 0 (λ j. get_or a (at + j) 0) i r e (omega arith)
-
-pub mix_at : (acc a : List ℕ) (at w n : ℕ) (r : List ℕ) → r ≡ added acc 0 n (λ j. get_or a (at + j) 0) → n ≡ w → w ≤ length acc
-    → (i : ℕ) → i < w → get_or r i 0 ≡ mixed acc a at i
-unfolding added
-mix_at acc a at w n r e m h i b = stored_at acc _ w n r e m h i b ∙ ap (λ (k : ℕ). get_or acc k 0 ⊕ get_or a (at + i) 0) (zero-add i)
 
 -- ---- w sums side by side
 -- The first w bytes of v are the values at w places.
@@ -56,14 +47,14 @@ abbrev pub Holds : ℕ → List ℕ → (u : ℕ → ℕ) → (first : ℕ) → 
 Holds w v u first = (i : ℕ) → i < w → get_or v i 0 ≡ u (first + i)
 
 module _ (w first : ℕ) where
-  pub holds_none : (n : ℕ) → w ≤ n → (u : ℕ → ℕ) → ((j : ℕ) → u j ≡ 0) → Holds w (replicate n 0) u first
-  holds_none n h u none i b = get_or-replicate n i 0 0 (omega arith) ∙ sym (none (first + i))
-
   -- After a stretch that begins m places behind `first` is added, they are the values with its bytes added.
   pub holds_next : (a : List ℕ) (m : ℕ) (u more : ℕ → ℕ) → ((j : ℕ) → more j ≡ u j ⊕ get_or a (j + m) 0)
-      → (v r : List ℕ) → Holds w v u first → ((i : ℕ) → i < w → get_or r i 0 ≡ mixed v a (first + m) i) → Holds w r more first
-  holds_next a m u more next v r e mix i b =
-      mix i b ∙ ap₂ (λ (x j : ℕ). x ⊕ get_or a j 0) (e i b) (omega arith) ∙ sym (next (first + i))
+      → (v r : List ℕ) → w ≤ length v → Holds w v u first → r ≡ added v 0 w (λ i. get_or a (first + m + i) 0) → Holds w r more first
+  unfolding added
+  holds_next a m u more next v r long e mix i b =
+      stored_at v _ w w r mix refl long i b
+      ∙ ap₂ (λ (x j : ℕ). x ⊕ get_or a j 0) (ap (λ (k : ℕ). get_or v k 0) (zero-add i) ∙ e i b) (omega arith)
+      ∙ sym (next (first + i))
 
 -- ---- the test of a stretch
 abbrev pub zero_at : List ℕ → ℕ → Bool
@@ -87,6 +78,14 @@ module _ (u : ℕ → ℕ) (first : ℕ) where
       let (i, b, z) = every_fails w _ e in
       sym (every-not len _ (n + i) (omega arith) (ap (λ (j : ℕ). eqb (u j) 0) (omega arith) ∙ z))
 
+  -- A test t of the first m places, and where it passes the test s of those w places: the answer is that of the test up to len.
+  pub zero-passes : (m k w len at : ℕ) → k ≤ m → k + w ≡ len → at ≡ first + k → {t s : Bool} → t ≡ zero_from u first m → t ≡ true
+      → s ≡ zero_from u at w → s ≡ zero_from u first len
+  zero-passes m k w len at low sum p front passes back = back ∙ sym (zero-after m k w len at low sum p (sym front ∙ passes))
+
+  pub zero_stops : (m len : ℕ) → m ≤ len → {t : Bool} → t ≡ zero_from u first m → t ≡ false → t ≡ zero_from u first len
+  zero_stops m len low front stops = stops ∙ zero_fails 0 m len first (omega arith) (omega arith) (sym front ∙ stops)
+
 -- A turn of the loop that tests w bytes, of which t says whether they are zero.
 module _ (u : ℕ → ℕ) (w first parts i : ℕ) (h : i < parts) (v : List ℕ) (t : Bool)
     (sum_is_lem : Holds w v u (first + w * i)) (test-is : t ≡ every w (zero_at v)) where
@@ -100,22 +99,6 @@ module _ (u : ℕ → ℕ) (w first parts i : ℕ) (h : i < parts) (v : List ℕ
   turn_passes before e = zero-after u first (w * i) (w * i) w _ _ (le_refl _) (sym (turn_more w i)) refl before ∙ sym test ∙ e
 
 -- ---- the loop that fills a stretch
--- Of stretches that stand `step` apart, a byte of number j is not one of those of number t that were stored.
-pub other_stretch : (a : List ℕ) (first step m : ℕ) (f : ℕ → ℕ) (i j t : ℕ) → i < step → m ≤ step → (j ≡ t → ⊥)
-    → get_or (stored a (first + t * step) m f) (first + i + j * step) 0 ≡ get_or a (first + i + j * step) 0
-other_stretch a first step m f i j t h g other =
-    ⊎_elim
-    (λ (l : j < t).
-    let q : suc j * step ≤ t * step = mul-le-mul_right step l in
-    let s : suc j * step ≡ j * step + step = suc-mul j step in
-    get_or-before a (first + t * step) m f (first + i + j * step) (omega arith))
-    (λ (l : t ≤ j).
-    let o : t < j = omega arith in
-    let q : suc t * step ≤ j * step = mul-le-mul_right step o in
-    let s : suc t * step ≡ t * step + step = suc-mul t step in
-    get_d_after a (first + t * step) m f (first + i + j * step) (omega arith))
-    (lt_or_le j t)
-
 -- The n bytes from `at` on lie within the list, and none of the values that u gives for n places from `first` on reads them.
 pub record Aside (u : List ℕ → ℕ → ℕ) (a : List ℕ) (at first n : ℕ) : Type 0 where
   pub room : at + n ≤ length a
@@ -149,25 +132,12 @@ module _ {u : List ℕ → ℕ → ℕ} {a : List ℕ} {at first len : ℕ} (s :
       ∙ fill-next m k n r p (λ i. u r (start + i)) (omega arith) low (omega arith) e to (λ i b. ap (λ (j : ℕ). u r (j + i)) from)
       ∙ ap (stored_from a at (u a) first) sum
 
--- What a turn of that loop may rely on: r is as long as a, and what is stored lies within it.
-pub record Turn (w parts : ℕ) (a : List ℕ) (at i : ℕ) (r : List ℕ) : Type 0 where
-  pub same : length r ≡ length a
-  pub part : w * i + w ≤ w * parts
-  pub room : at + w * i + w ≤ length r
-
 module _ {u : List ℕ → ℕ → ℕ} {a : List ℕ} {at first : ℕ} (w parts : ℕ) (s : Aside u a at first (w * parts)) (i : ℕ) (h : i < parts)
     (r : List ℕ) (e : r ≡ stored_from a at (u a) first (w * i)) where
-  pub turn : Turn w parts a at i r
-  turn =
-      let same : length r ≡ length a = ap length e ∙ length-stored a at (w * i) _ in
-      let part = upto w h in
-      let room = s.room in
-      record { same = same; part = part; room = omega arith }
-
-  -- After it w places more hold the sum.
-  pub turned : (v l : List ℕ) → Holds w v (u r) (first + w * i) → l ≡ stored r (at + w * i) w (λ j. get_or v j 0)
+  -- After a turn of that loop w places more hold the sum.
+  pub turned : (v l : List ℕ) (p : ℕ) → Holds w v (u r) (first + w * i) → p ≡ at + w * i → l ≡ stored r p w (λ j. get_or v j 0)
       → l ≡ stored_from a at (u a) first (w * (i + 1))
-  turned v l sum_is_lem put_is =
+  turned v l p sum_is_lem to put_is =
       let part = upto w h in
-      put_is ∙ fill-next s (w * i) (w * i) w r _ _ (omega arith) (le_refl _) (omega arith) e refl sum_is_lem
+      put_is ∙ fill-next s (w * i) (w * i) w r p _ (omega arith) (le_refl _) (omega arith) e to sum_is_lem
       ∙ ap (stored_from a at (u a) first) (sym (turn_more w i))

@@ -1,49 +1,42 @@
--- Laws of evenly spaced sums.
+-- Evenly spaced stretches among stretches wherever they stand.
 -- Assumes nothing.
-use mathlib.Core.Path.{◌≡◌, refl}
-use mathlib.Core.Bool.{Bool, not}
+use mathlib.Core.Path.{◌≡◌, refl, sym}
+use mathlib.Core.Bool.{Bool, true, false, not}
+use mathlib.Core.Logic.{◌⊎◌, ⊎_elim, inl, inr}
 use mathlib.Core.List.{List}
-use Prim.Native.Nat.{ℕ, ◌+◌, ◌*◌, ◌≤◌}
-use native.Mathlib.Numerals.{add-one}
+use Prim.Native.Nat.{ℕ, suc, ◌+◌, ◌*◌, ◌≤◌, ◌<◌}
+use native.Mathlib.Nat.{mul-le-mul_right, suc-mul}
 use native.Mathlib.Omega.{arith}
-use borrow.Author.Tests.{eq-eqb, ne_eqb, eqb-false}
-use lib.Dec.{eqb}
-use lib.ListN.{length, get_or}
-use Rattle.stripes.specs.Fold.{◌⊕◌, xsum, gate}
-use Rattle.stripes.proofs.Xor.{⊕-zero}
-use Rattle.stripes.proofs.Fold.{xsum_ext, by_cases}
-use Rattle.zeros.specs.Stored.{stored}
-use Rattle.xor.specs.Strided.{strided, Spaced}
-use Rattle.xor.proofs.Parts.{Aside, other_stretch}
+use borrow.Author.Tests.{eqb-false}
+use Rattle.stripes.proofs.Fold.{lt_or_le}
+use Rattle.xor.specs.Spots.{Clear, spaced_spots}
+use Rattle.xor.specs.Strided.{Spaced}
 
--- ---- one more stretch
-module _ (a : List ℕ) (step skip k : ℕ) where
-  pub strided-next : (k ≡ skip → ⊥) → (j : ℕ) → strided a j step (k + 1) skip ≡ strided a j step k skip ⊕ get_or a (j + k * step) 0
-  unfolding strided xsum gate
-  strided-next n j = rw add-one (simp (ne_eqb k skip n))
+not_true : (b : Bool) → not b ≡ true → b ≡ false
+not_true true e = sym e
+not_true false e = refl
 
-  pub strided_skip : k ≡ skip → (j : ℕ) → strided a j step (k + 1) skip ≡ strided a j step k skip
-  unfolding strided xsum gate
-  strided_skip e j = rw add-one (simp (eq-eqb k skip e) (⊕-zero _))
+-- Two stretches of w bytes, at numbers k and t, do not overlap where a step is at least w.
+pub apart : (step w k t : ℕ) → w ≤ step → (k ≡ t → ⊥) → (k * step + w ≤ t * step) ⊎ (t * step + w ≤ k * step)
+apart step w k t h other =
+    ⊎_elim
+    (λ (l : k < t).
+    let q : suc k * step ≤ t * step = mul-le-mul_right step l in
+    let s : suc k * step ≡ k * step + step = suc-mul k step in
+    inl (omega arith))
+    (λ (l : t ≤ k).
+    let o : t < k = omega arith in
+    let q : suc t * step ≤ k * step = mul-le-mul_right step o in
+    let s : suc t * step ≡ t * step + step = suc-mul t step in
+    inr (omega arith))
+    (lt_or_le k t)
 
--- ---- stretches that are spaced
--- The one that is left out is read by no sum.
-pub spaced_aside : {a : List ℕ} {first step count skip n : ℕ} → Spaced a first step count skip n
-    → Aside (λ l j. strided l j step count skip) a (first + skip * step) first n
-unfolding strided gate
-spaced_aside {a} {first} {step} {count} {skip} {n} s =
-    let w = s.apart in
+-- The one that is left out is clear of those that are summed.
+pub spaced_clear : {a : List ℕ} {first step count skip w : ℕ} → Spaced a first step count skip w
+    → Clear (spaced_spots step count skip) a first (skip * step) w
+spaced_clear {step = step} {count} {skip} {w} s =
     record {
+      inside = record { each = s.within };
       room = s.within skip s.one;
-      kept = λ m f i h l.
-          xsum_ext count (λ k b.
-          by_cases (λ (t : Bool). gate (not t) (get_or (stored a (first + skip * step) m f) (first + i + k * step) 0) ≡ gate (not t) (get_or a (first + i + k * step) 0))
-          (eqb k skip) (λ e. refl) (λ e. other_stretch a first step m f i k skip (omega arith) (omega arith) (eqb-false k skip e)));
+      apart = λ k b t. apart step w k skip s.apart (eqb-false k skip (not_true _ t));
     }
-
--- The w places behind n of them are spaced.
-pub spaced_later : {a b : List ℕ} {first step count skip len w at : ℕ} (n : ℕ) → Spaced a first step count skip len → n + w ≤ len
-    → length b ≡ length a → at ≡ first + n → Spaced b at step count skip w
-spaced_later n s h e p =
-    let q = s.apart in
-    record { within = λ k l. let r = s.within k l in omega arith; apart = omega arith; one = s.one }

@@ -1,3 +1,4 @@
 pub mod Parts
 pub mod Strided
 pub mod Picked
+pub mod Spots

@@ -2,61 +2,74 @@
 // compiler makes poor code of the sums where it is a constant.
 ghost use Rattle.std.specs.Prelude.{◌≡◌, not, ℕ, ◌+◌, ◌*◌, ◌≤◌, ◌<◌, eqb, length, get_or};
 ghost use Rattle.stripes.specs.Fold.{every, lowest};
+ghost use Rattle.xor.specs.Parts.{zero_from};
+ghost use Rattle.xor.specs.Spots.{Inside, total_at};
 ghost use Rattle.xor.specs.Strided.{Within, cancelled};
 
+use crate::stretches::{Stretches, Strided};
 use crate::sum::sum;
 
-// The first w bytes of v are all zero.
-pub(crate) fn is_zero(v: [u8; 128], w: usize) -> bool
-    requires { w ≤ 128 }
-    ensures { result ≡ every w (λ i. eqb (get_or v i 0) 0) }
+// The bytes of v are all zero.
+#[inline(always)]
+fn is_zero<const W: usize>(v: &[u8; W]) -> bool
+    ensures { result ≡ every W (λ i. eqb (get_or v.now i 0) 0) }
 {
     let mut any = 0u8;
-    let mut i = 0;
-    while i < w {
-        any = any | v[i];
-        i += 1;
+    for b in v {
+        any |= *b;
     }
     any == 0
 }
 
-// `cancels` for w * parts bytes, w at a time.
-fn parts_cancel(
+// `all_cancel` for W * parts bytes, W at a time.
+#[inline(always)]
+fn parts_cancel<S: Stretches, const W: usize>(
     a: &[u8],
+    stretches: S,
     first: usize,
-    step: usize,
-    count: usize,
-    skip: usize,
     parts: usize,
-    w: usize,
 ) -> bool
-    requires w_bound { w ≤ 128 }
-    requires within { Within a.now first step count (w * parts) }
-    requires parts_in_bounds { first + w * parts ≤ length a.now }
-    ensures { result ≡ cancelled (w * parts) a.now first step count skip }
+    requires inside { Inside (S.spots stretches) a.now first (W * parts) }
+    requires parts_in_bounds { first + W * parts ≤ length a.now }
+    ensures { result ≡ zero_from (total_at (S.spots stretches) a.now) first (W * parts) }
 {
-    let mut i = 0;
-    while i < parts {
-        let v = sum(a, first + w * i, step, count, skip, w);
-        if !is_zero(v, w) {
+    for i in 0..parts {
+        let mut v = [0u8; W];
+        sum(&mut v, a, stretches, first + W * i);
+        if !is_zero(&v) {
             return false;
         }
-        i += 1;
     }
     true
 }
 
-// `cancels` for few bytes: eight at a time, then one.
-fn few_cancel(a: &[u8], first: usize, step: usize, count: usize, skip: usize, len: usize) -> bool
-    requires within { Within a.now first step count len }
+// `all_cancel` for few bytes: eight at a time, then one.
+fn few_cancel<S: Stretches>(a: &[u8], stretches: S, first: usize, len: usize) -> bool
+    requires inside { Inside (S.spots stretches) a.now first len }
     requires len_in_bounds { first + len ≤ length a.now }
-    ensures { result ≡ cancelled len a.now first step count skip }
+    ensures { result ≡ zero_from (total_at (S.spots stretches) a.now) first len }
 {
     let eights = len / 8;
-    if !parts_cancel(a, first, step, count, skip, eights, 8) {
-        return false;
+    parts_cancel::<S, 8>(a, stretches, first, eights)
+        && parts_cancel::<S, 1>(a, stretches, first + 8 * eights, len % 8)
+}
+
+// The sum of `len` bytes of each stretch is zero at each place.
+pub(crate) fn all_cancel<S: Stretches>(a: &[u8], stretches: S, first: usize, len: usize) -> bool
+    requires inside { Inside (S.spots stretches) a.now first len }
+    requires len_in_bounds { first + len ≤ length a.now }
+    ensures { result ≡ zero_from (total_at (S.spots stretches) a.now) first len }
+{
+    if len < 16 {
+        return few_cancel(a, stretches, first, len);
     }
-    parts_cancel(a, first + 8 * eights, step, count, skip, len % 8, 1)
+    let wide = len / 128;
+    let middle = len % 128 / 32;
+    let narrow = len % 32 / 16;
+    parts_cancel::<S, 128>(a, stretches, first, wide)
+        && parts_cancel::<S, 32>(a, stretches, first + 128 * wide, middle)
+        && parts_cancel::<S, 16>(a, stretches, first + (len - len % 32), narrow)
+        && (len % 16 == 0 || parts_cancel::<S, 16>(a, stretches, first + (len - 16), 1))
 }
 
 // Of `count` stretches of `len` bytes that stand `step` apart from `first` on, the sum of all but number `skip` is zero at
@@ -66,29 +79,11 @@ pub fn cancels(a: &[u8], first: usize, step: usize, count: usize, skip: usize, l
     requires len_in_bounds { first + len ≤ length a.now }
     ensures { result ≡ cancelled len a.now first step count skip }
 {
-    if len < 16 {
-        return few_cancel(a, first, step, count, skip, len);
-    }
-    let wide = len / 128;
-    let middle = len % 128 / 32;
-    let narrow = len % 32 / 16;
-    if !parts_cancel(a, first, step, count, skip, wide, 128) {
-        return false;
-    }
-    if !parts_cancel(a, first + 128 * wide, step, count, skip, middle, 32) {
-        return false;
-    }
-    if !parts_cancel(a, first + (len - len % 32), step, count, skip, narrow, 16) {
-        return false;
-    }
-    if len % 16 == 0 {
-        return true;
-    }
-    parts_cancel(a, first + (len - 16), step, count, skip, 1, 16)
+    all_cancel(a, Strided { step, count, skip }, first, len)
 }
 
-// The lowest of `total` sums that is not zero somewhere, or `total` where there is none. The stretches of sum number i
-// start at first + i * pitch.
+// The lowest of `total` sums that is not zero somewhere, or `total` where there is none, as `lowest` of the definitions has it. The
+// stretches of sum number i start at first + i * pitch.
 pub fn lowest_nonzero(
     a: &[u8],
     first: usize,
@@ -103,12 +98,10 @@ pub fn lowest_nonzero(
     requires by_index_2 { (i : ℕ) → i < total → first + i * pitch + len ≤ length a.now }
     ensures { result ≡ lowest total (λ i. not (cancelled len a.now (first + i * pitch) step count skip)) }
 {
-    let mut i = 0;
-    while i < total {
+    for i in 0..total {
         if !cancels(a, first + i * pitch, step, count, skip, len) {
             return i;
         }
-        i += 1;
     }
     total
 }

@@ -1,38 +1,39 @@
-// Sums of stretches (runs of bytes, evenly spaced), kept in an array that is passed by value, so that the compiler sees that
-// nothing overlaps it.
-ghost use Rattle.std.specs.Prelude.{◌≡◌, ℕ, ◌+◌, ◌*◌, ◌≤◌, ◌<◌, length, get_or};
+// Sums of stretches, kept in an array that the caller lends: passed by value, one of eight bytes would go as a number, and the compiler
+// would sum it byte by byte.
+ghost use Rattle.std.specs.Prelude.{◌≡◌, ℕ, ◌+◌, ◌≤◌, ◌<◌, length, get_or};
 ghost use Rattle.stripes.specs.Fold.{◌⊕◌};
-ghost use Rattle.xor.specs.Strided.{Within, strided};
+ghost use Rattle.xor.specs.Strided.{added};
+ghost use Rattle.xor.specs.Spots.{Inside, total_at};
 
-// acc with the w bytes from `at` on added.
-pub fn mix(acc: [u8; 128], a: &[u8], at: usize, w: usize) -> [u8; 128]
-    requires w_bound { w ≤ 128 }
-    requires w_in_bounds { at + w ≤ length a.now }
-    ensures { (i : ℕ) → i < w → get_or result i 0 ≡ get_or acc i 0 ⊕ get_or a.now (at + i) 0 }
+use crate::stretches::Stretches;
+
+// The bytes from `at` on added to v.
+#[inline(always)]
+fn mix<const W: usize>(v: &mut [u8; W], a: &[u8], at: usize)
+    requires { at + W ≤ length a.now }
+    ensures { v.new ≡ added v.old 0 W (λ i. get_or a.now (at + i) 0) }
 {
-    let mut r = acc;
-    let mut i = 0;
-    while i < w {
-        r[i] = r[i] ^ a[at + i];
-        i += 1;
+    for i in 0..W {
+        v[i] ^= a[at + i];
     }
-    r
 }
 
-// The sum of w bytes of each stretch but number `skip`.
-pub fn sum(a: &[u8], first: usize, step: usize, count: usize, skip: usize, w: usize) -> [u8; 128]
-    requires w_bound { w ≤ 128 }
-    requires within { Within a.now first step count w }
-    ensures { (i : ℕ) → i < w → get_or result i 0 ≡ strided a.now (first + i) step count skip }
+// v becomes the sum of W bytes of each stretch that is taken.
+#[inline(always)]
+pub(crate) fn sum<S: Stretches, const W: usize>(
+    v: &mut [u8; W],
+    a: &[u8],
+    stretches: S,
+    first: usize,
+)
+    requires { Inside (S.spots stretches) a.now first W }
+    ensures len { length v.new ≡ W }
+    ensures sums { (i : ℕ) → i < W → get_or v.new i 0 ≡ total_at (S.spots stretches) a.now (first + i) }
 {
-    let mut acc = [0u8; 128];
-    let mut k = 0;
-    while k < count {
-        if k != skip {
-            let more = mix(acc, a, first + k * step, w);
-            acc = more;
+    v.fill(0);
+    for k in 0..stretches.count() {
+        if stretches.takes(k) {
+            mix(v, a, stretches.start(first, k));
         }
-        k += 1;
     }
-    acc
 }

@@ -1,6 +1,6 @@
 -- Bytes gathered by an inclusive or are all zero exactly if what was gathered is.
 -- Assumes nothing.
-use mathlib.Core.Path.{◌≡◌, refl, ◌∙◌, ap}
+use mathlib.Core.Path.{◌≡◌, refl, ◌∙◌, ap, ap₂}
 use mathlib.Core.Bool.{Bool, true, false, ◌&&◌}
 use Prim.Native.Nat.{ℕ, ◌+◌}
 use native.Mathlib.Numerals.{add-one}
@@ -20,6 +20,9 @@ or_zero a b = go (eqb a 0) refl (eqb b 0) refl
     go false e t f = ne_eqb (bit_or a b) 0 (λ z. eqb-false a 0 e (let h = or_above_left a b in omega arith))
 
 -- One byte more is gathered.
-pub zero-next : (f : ℕ → ℕ) (i any : ℕ) → eqb any 0 ≡ every i (λ j. eqb (f j) 0) → eqb (bit_or any (f i)) 0 ≡ every (i + 1) (λ j. eqb (f j) 0)
+pub zero-next_by : (f : ℕ → ℕ) (i any v : ℕ) → v ≡ f i → eqb any 0 ≡ every i (λ j. eqb (f j) 0) → eqb (bit_or any v) 0 ≡ every (i + 1) (λ j. eqb (f j) 0)
 unfolding every
-zero-next f i any e = rw add-one (or_zero any (f i) ∙ ap (λ (t : Bool). t && eqb (f i) 0) e)
+zero-next_by f i any v is e = rw add-one (or_zero any v ∙ ap₂ (λ (t w : Bool). t && w) e (ap (λ (b : ℕ). eqb b 0) is))
+
+pub zero-next : (f : ℕ → ℕ) (i any : ℕ) → eqb any 0 ≡ every i (λ j. eqb (f j) 0) → eqb (bit_or any (f i)) 0 ≡ every (i + 1) (λ j. eqb (f j) 0)
+zero-next f i any e = zero-next_by f i any (f i) refl e

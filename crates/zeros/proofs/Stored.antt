@@ -3,14 +3,16 @@
 use mathlib.Core.Path.{◌≡◌, refl, sym, ◌∙◌, ap}
 use mathlib.Core.Bool.{false, ◌&&◌, and-false}
 use mathlib.Core.Logic.{⊎_elim}
-use mathlib.Core.List.{List}
+use mathlib.Core.List.{List, ◌++◌}
 use Prim.Native.Nat.{ℕ, ◌+◌, ◌-◌, ◌≤◌, ◌<◌}
 use native.Mathlib.Nat.{add-sub_cancel_left, add-sub_of_le, le-add_right, le_refl, not-suc-le-zero}
 use native.Mathlib.Omega.{arith}
 use borrow.Author.Tests.{le-leb, lt-leb, lt-ltb, le-ltb}
 use lib.Dec.{leb, ltb}
-use lib.ListN.{length, get_or, set, length-set, get_or-eq_default}
-use lib.Seq.{ext_get_or, get_or-set_same, get_or-set_other}
+use lib.ListN.{length, get_or, set, take, drop, replicate, length-set, length-append, length-drop, length-replicate, get_or-append, get_or-eq_default}
+use borrow.Rule.Slice.PartMut.{put_mid, Post-is}
+use lib.Seq.{length-take-le, ext_get_or, get_or-set_same, get_or-set_other}
+use Rattle.std.proofs.lemmas.List.{get_or-append_right, get_or-replicate, get_or-take, get_or-drop}
 use Rattle.stripes.proofs.Fold.{length-tabulate, get_d_tabulate, lt_or_le}
 use Rattle.zeros.specs.Stored.{stored}
 
@@ -99,3 +101,26 @@ pub stored_next : (l : List ℕ) (at n : ℕ) (f : ℕ → ℕ) (v : ℕ) → v 
 stored_next l at n f v e h =
     let k : List ℕ = stored l at n f in
     stored_one k (at + n) v (rw length-stored h) ∙ stored_ext k (at + n) 1 (λ i b. e ∙ ap f (omega arith)) ∙ stored_more l at n n 1 f (le_refl n) (le-add_right n 1)
+
+-- A stretch that holds one number.
+pub stored_all : (l : List ℕ) (at n v : ℕ) → at + n ≤ length l → put_mid at (at + n - at) l (replicate n v) ≡ stored l at n (λ i. v)
+stored_all l at n v h =
+    let front : List ℕ = take at l in
+    let all : List ℕ = replicate n v in
+    let back : List ℕ = drop (at + n) l in
+    let here : length front ≡ at = length-take-le at l (omega arith) in
+    let there : length all ≡ n = length-replicate n v in
+    let rest : length back ≡ length l - (at + n) = length-drop (at + n) l in
+    ap (λ (t : List ℕ). front ++ (all ++ t)) (Post-is at (at + n) l (omega arith))
+    ∙ stored_is l at n (λ i. v) (front ++ (all ++ back))
+    (length-append front (all ++ back) ∙ omega (arith, length-append all back))
+    (λ i b c.
+    get_or-append_right front (all ++ back) at (at + i) 0 here (omega arith)
+    ∙ ap (λ (k : ℕ). get_or (all ++ back) k 0) (add-sub_cancel_left at i)
+    ∙ get_or-append all back 0 i (omega arith) ∙ get_or-replicate n i v 0 b)
+    (λ i b. get_or-append front (all ++ back) 0 i (omega arith) ∙ get_or-take at l i 0 b)
+    (λ i b.
+    let far : at + n + (i - at - n) ≡ i = omega arith in
+    get_or-append_right front (all ++ back) at i 0 here (omega arith)
+    ∙ get_or-append_right all back n (i - at) 0 there (omega arith)
+    ∙ get_or-drop (at + n) l (i - at - n) 0 ∙ ap (λ (k : ℕ). get_or l k 0) far)

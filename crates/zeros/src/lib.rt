@@ -10,11 +10,7 @@ pub fn wipe(a: &mut [u8], at: usize, len: usize)
     requires { at + len ≤ length a.old }
     ensures { a.new ≡ stored a.old at len (λ i. 0) }
 {
-    let mut i = 0;
-    while i < len {
-        a[at + i] = 0;
-        i += 1;
-    }
+    a[at..at + len].fill(0);
 }
 
 // Every one of the 16 bytes from `at` on is zero.
@@ -22,11 +18,9 @@ pub fn all_zero16(a: &[u8], at: usize) -> bool
     requires { at + 16 ≤ length a.now }
     ensures { result ≡ every 16 (λ i. eqb (get_or a.now (at + i) 0) 0) }
 {
-    let mut any = 0u8;
-    let mut i = 0;
-    while i < 16 {
-        any = any | a[at + i];
-        i += 1;
+    let mut any = 0;
+    for b in &a[at..at + 16] {
+        any |= *b;
     }
     any == 0
 }

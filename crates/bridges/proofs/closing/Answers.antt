@@ -1,40 +1,20 @@
--- `bridges::closing` meets its contract: each turn takes the lowest stripe out of what is left of the set.
+-- `bridges::closing` meets its contract: each turn takes in the links for one stripe of the set.
 -- Assumes nothing.
-use mathlib.Core.Path.{refl}
-use Prim.Native.Nat.{◌-◌}
-use native.Mathlib.Omega.{arith}
-use lib.Bits.{bit_and}
-use lib.Count.{count_trailing_zeros}
+use Rattle.std.proofs.Common.{◌≡◌, refl, arith}
 use Rattle.stripes.specs.Fold.{◌⊕◌}
-use Rattle.reach.proofs.Words.{Without, lowest_out}
 use Rattle.reach.proofs.Rest.{gathered_none, gathered_next, gathered_all}
 use Rattle.bridges.specs.Forest.{on_one}
-use Rattle.bridges.proofs.closing.Goals.{In-loop-rest}
 use Rattle.bridges.proofs.closing.Goals as goal
 
-pub loop-rest-init : goal.loop-rest-init
-loop-rest-init c = gathered_none _ _ c.ranges.set.fits
+pub loop-s-init : goal.loop-s-init
+loop-s-init c =
+    let whole : c.into_iter-s-iterator.result.left ≡ c.args.set = grind arith in
+    rw whole (gathered_none _ _ c.ranges.set.fits)
 
--- The stripe of a turn.
-out : (c : goal.In-loop-rest) → let w = c.loop-rest.rest in Without w (count_trailing_zeros 64 w) (bit_and w (w - 1))
-out c = lowest_out _ c.loop-rest-test.true c.loop-rest.invariant.fits
-
-pub overflow_cast-s : goal.overflow_cast-s
-overflow_cast-s c = omega (arith, (out (goal.at.overflow_cast-s c).In-loop-rest).small)
-
-pub offset_bounds-ways-s : goal.offset_bounds-ways-s
-offset_bounds-ways-s c = omega (arith, (out (goal.at.offset_bounds-ways-s c).In-loop-rest).small)
-
-pub bounds-ways-s : goal.bounds-ways-s
-bounds-ways-s c = omega (arith, (out (goal.at.bounds-ways-s c).In-loop-rest).small)
-
-pub loop-rest-smaller : goal.loop-rest-smaller
-loop-rest-smaller c = (out (goal.at.loop-rest-smaller c).In-loop-rest).less
-
-pub loop-rest-preserved : goal.loop-rest-preserved
+pub loop-s-preserved : goal.loop-s-preserved
 unfolding ◌⊕◌
-loop-rest-preserved c = gathered_next c.loop-rest.invariant (out (goal.at.loop-rest-preserved c).In-loop-rest) _ (λ t. refl)
+loop-s-preserved c = gathered_next c.loop-s.invariant c.in-Some.ensures.steps _ (λ t. refl)
 
 pub returns : goal.returns
 unfolding on_one
-returns c = gathered_all c.loop-rest.invariant c.loop-rest-test.false
+returns c = gathered_all c.loop-s.invariant c.in-None.ensures.steps.0

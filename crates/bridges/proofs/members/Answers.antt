@@ -1,45 +1,38 @@
--- `bridges::members` meets its contract: each turn takes the lowest stripe out of what is left of the set, and counts it.
+-- `bridges::members` meets its contract: a set has as many stripes as its word has digits that are 1.
 -- Assumes nothing.
-use mathlib.Core.Path.{◌≡◌}
-use Prim.Native.Nat.{◌+◌, ◌-◌}
-use native.Mathlib.Omega.{arith}
-use lib.Bits.{bit_and}
-use lib.Count.{count_trailing_zeros}
-use Rattle.stripes.specs.Fold.{count}
-use Rattle.stripes.proofs.Fold.{count_le, count_ext, count_none, count-without}
+use Rattle.std.proofs.Common.{◌≡◌, refl, sym, ◌∙◌, ap, ap₂, Bool, true, false, ℕ, zero, suc, ◌+◌, ◌/◌, ◌%◌, ◌^◌, ◌<◌, eqb, arith}
+use Rattle.std.proofs.lemmas.Nat.Bits.{bit_at-suc}
+use native.Mathlib.Nat.{div-one, mod-lt}
+use borrow.Author.Tests.{eqb-true, eqb-false}
+use lib.Count.{ones, ones_step}
+use lib.Pow.{shr_lt}
+use Rattle.stripes.specs.Fold.{bit, count}
+use Rattle.stripes.proofs.Fold.{count_ext, count-first}
 use Rattle.reach.specs.Reached.{has, word_stripes}
-use Rattle.reach.proofs.Words.{Without, lowest_out, has-none}
-use Rattle.bridges.proofs.members.Goals.{In-loop-rest}
 use Rattle.bridges.proofs.members.Goals as goal
 
-pub loop-rest-init : goal.loop-rest-init
-loop-rest-init c = (c.ranges.set.fits, omega arith)
+-- The lowest digit, and the others as those of the half.
+lowest : (n : ℕ) → n % 2 ≡ bit (has n 0)
+unfolding has bit
+lowest n = ap (λ (x : ℕ). x % 2) (sym (div-one n)) ∙ go (eqb (n / 2 ^ 0 % 2) 1) refl
+  where
+    go : (b : Bool) → eqb (n / 2 ^ 0 % 2) 1 ≡ b → n / 2 ^ 0 % 2 ≡ bit b
+    go true e = eqb-true _ _ e
+    go false e = let few : n / 2 ^ 0 % 2 < 2 = mod-lt (n / 2 ^ 0) (omega arith) in let other = eqb-false (n / 2 ^ 0 % 2) 1 e in omega arith
 
--- The stripe of a turn, which what is left does not count.
-out : (c : goal.In-loop-rest) → let w = c.loop-rest.rest in Without w (count_trailing_zeros 64 w) (bit_and w (w - 1))
-out c = lowest_out _ c.loop-rest-test.true c.loop-rest.invariant.0
+half : (n i : ℕ) → has (n / 2) i ≡ has n (suc i)
+unfolding has
+half n i = ap (λ (x : ℕ). eqb x 1) (sym (bit_at-suc n i))
 
-one_less : (c : goal.In-loop-rest) →
-    let w = c.loop-rest.rest in
-    count word_stripes (has (bit_and w (w - 1))) + 1 ≡ count word_stripes (has w)
-one_less c =
-    let w = c.loop-rest.rest in
-    let same = count_ext word_stripes {t = has (bit_and w (w - 1))} (λ i l. (out c).others i) in
-    let one = count-without word_stripes (has w) (count_trailing_zeros 64 w) (out c).small (out c).member in
-    omega arith
-
-pub overflow_add-number : goal.overflow_add-number
-overflow_add-number c =
-    let most = count_le word_stripes (has c.args.set) in
-    omega (arith, c.loop-rest.invariant.1)
-
-pub loop-rest-smaller : goal.loop-rest-smaller
-loop-rest-smaller c = (out (goal.at.loop-rest-smaller c).In-loop-rest).less
-
-pub loop-rest-preserved : goal.loop-rest-preserved
-loop-rest-preserved c = (let less = (out (goal.at.loop-rest-preserved c).In-loop-rest).less in omega (arith, c.loop-rest.invariant.0), let one = one_less (goal.at.loop-rest-preserved c).In-loop-rest in omega (arith, c.loop-rest.invariant.1))
+-- So they are counted alike.
+ones_are : (k n : ℕ) → n < 2 ^ k → ones n ≡ count k (has n)
+unfolding count ones
+ones_are zero n l = let none : n ≡ 0 = omega arith in ap ones none
+ones_are (suc k) n l =
+    let next : suc k ≡ k + 1 = omega arith in
+    let less : n / 2 < 2 ^ k = shr_lt k 1 (rw next at l) in
+    ones_step n ∙ ap₂ (λ (x y : ℕ). x + y) (lowest n) (ones_are k (n / 2) less ∙ count_ext k (λ i w. half n i))
+    ∙ sym (count-first k (has n))
 
 pub returns : goal.returns
-returns c =
-    let none = count_none word_stripes {t = has c.loop-rest.rest} (λ i l. rw c.loop-rest-test.false (has-none i)) in
-    omega (arith, c.loop-rest.invariant.1)
+returns c = ones_are word_stripes c.args.set c.ranges.set.fits

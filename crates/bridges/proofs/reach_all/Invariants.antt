@@ -2,7 +2,7 @@
 -- Assumes nothing.
 use mathlib.Core.Path.{◌≡◌}
 use mathlib.Core.Bool.{true}
-use Prim.Native.Nat.{ℕ, ◌-◌, ◌≤◌, ◌<◌}
+use Prim.Native.Nat.{ℕ, ◌<◌}
 use Rattle.stripes.specs.Erased.{erasures}
 use Rattle.model.specs.Grid.{layout_of}
 use Rattle.reach.specs.Reached.{has}
@@ -10,9 +10,5 @@ use Rattle.bridges.specs.Forest.{Grown}
 use Rattle.bridges.proofs.reach_all.Given as goal
 
 abbrev pub invariant-loop-s : goal.invariant-loop-s
-invariant-loop-s l = Grown (layout_of l.size l.base) (erasures l.work) l.done.seen l.done.links l.done.closed l.ways
+invariant-loop-s l = Grown (layout_of l.grid.size l.grid.base) (erasures l.work) l.done.seen l.done.links l.done.closed l.ways
     × ((i : ℕ) → i < l.s → has l.done.seen i ≡ true)
-    × (l.s ≤ (layout_of l.size l.base).stripe_bound)
-
-abbrev pub decreases-loop-s : goal.decreases-loop-s
-decreases-loop-s l = (layout_of l.size l.base).stripe_bound - l.s

@@ -21,14 +21,8 @@ out s fits =
     let p = s.requires in
     let less = and_le_r (get_or s.args.near.now s.args.stripe 0) s.args.before.seen in
     lowest_out _
-    (back_some _ (numbered_two p.numbered) (grid-apart p.numbered) p.near fits p.growing_2 p.stripe_lt_word_stripes p.beside)
+    (back_some _ (numbered_two s.args.grid.numbered) (grid-apart s.args.grid.numbered) p.near fits p.growing_2 p.stripe_lt_word_stripes p.beside)
     (omega arith)
-
-pub overflow_cast-from : goal.overflow_cast-from
-overflow_cast-from c = omega (arith, (out (goal.at.overflow_cast-from c).Start (omega arith)).small)
-
-pub offset_bounds-ways-from : goal.offset_bounds-ways-from
-offset_bounds-ways-from c = omega (arith, (out (goal.at.offset_bounds-ways-from c).Start (omega arith)).small)
 
 pub bounds-ways-from : goal.bounds-ways-from
 bounds-ways-from c = omega (arith, (out (goal.at.bounds-ways-from c).Start (omega arith)).small, c.requires.growing_2.room)
@@ -44,7 +38,7 @@ returns c =
     rw c.one-own.ensures
     record {
       growing =
-          reached-one _ (numbered_two p.numbered) (grid-apart p.numbered) p.near fits p.growing_2 p.stripe_lt_word_stripes p.beside
+          reached-one _ (numbered_two c.args.grid.numbered) (grid-apart c.args.grid.numbered) p.near fits p.growing_2 p.stripe_lt_word_stripes p.beside
           (out (goal.at.returns c).Start fits) shut.result (rw c.one-own.ensures at shut.ensures);
       seen = (with_one c.args.before.seen c.args.stripe).is;
     }

@@ -20,18 +20,18 @@ use Rattle.bridges.proofs.undetermined_count.Goals as goal
 
 -- The disks that are found determined and all that are not are the erased ones.
 all : (c : goal.After-members) →
-    lost (layout_of c.args.size c.args.base) (erasures c.args.work.now) + c.members.result ≡ c.args.erased
+    lost (layout_of c.args.grid.size c.args.grid.base) (erasures c.args.work.now) + c.members.result ≡ c.args.erased
 all c =
-    let two = numbered_two c.requires.numbered in
+    let two = numbered_two c.args.grid.numbered in
     let reached = c.reach_all-all in
     let f = reached.ensures.grown.forest in
     let found =
-    bridges_lost (layout_of c.args.size c.args.base) two (erasures c.args.work.now) f
+    bridges_lost (layout_of c.args.grid.size c.args.grid.base) two (erasures c.args.work.now) f
     (λ d l h. reached.ensures.all _ (lower-bound _ two d l)) (λ d l h. reached.ensures.all _ (higher-bound _ two d l))
-    (λ t l. let few = stripes_few c.requires.numbered in let less = on-bound _ two (f.disk t) (f.inside t l) t (f.here t l) in omega arith) in
+    (λ t l. let few = stripes_few c.args.grid.numbered in let less = on-bound _ two (f.disk t) (f.inside t l) t (f.here t l) in omega arith) in
     let words = count_ext word_stripes (λ t l. has-without reached.result.links reached.result.closed t) in
-    ap (λ (n : ℕ). lost (layout_of c.args.size c.args.base) (erasures c.args.work.now) + n) (c.members.ensures ∙ words) ∙ found
-    ∙ ap (λ (n : ℕ). count n (erasures c.args.work.now)) (layout-disks c.args.size c.args.base) ∙ sym c.requires.erased_value
+    ap (λ (n : ℕ). lost (layout_of c.args.grid.size c.args.grid.base) (erasures c.args.work.now) + n) (c.members.ensures ∙ words) ∙ found
+    ∙ ap (λ (n : ℕ). count n (erasures c.args.work.now)) (layout-disks c.args.grid.size c.args.grid.base) ∙ sym c.requires.erased_value
 
 pub overflow_sub-result : goal.overflow_sub-result
 overflow_sub-result c = let sum = all (goal.at.overflow_sub-result c).After-members in omega arith

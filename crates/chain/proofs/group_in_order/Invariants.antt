@@ -2,13 +2,10 @@
 -- Assumes nothing.
 use mathlib.Core.Path.{◌≡◌}
 use mathlib.Core.Bool.{true}
-use Prim.Native.Nat.{◌+◌, ◌-◌, ◌≤◌}
+use Prim.Native.Nat.{◌+◌}
 use Rattle.stripes.specs.Fold.{every}
 use Rattle.chain.specs.Read.{in_order}
 use Rattle.chain.proofs.group_in_order.Given as goal
 
 abbrev pub invariant-loop-j : goal.invariant-loop-j
-invariant-loop-j l = (l.j ≤ 16) × (every l.j (λ i. in_order l.marks l.sheet (l.at + i)) ≡ true)
-
-abbrev pub decreases-loop-j : goal.decreases-loop-j
-decreases-loop-j l = 16 - l.j
+invariant-loop-j l = (every l.j (λ i. in_order l.marks l.sheet (l.at + i)) ≡ true)

@@ -1,26 +1,26 @@
 -- `chain::list` meets its contract: a chain of repairs is not refused, and so the records are read.
 -- Assumes nothing.
-use mathlib.Core.Path.{◌∙◌, ap}
-use native.Mathlib.Omega.{arith}
+use Rattle.std.proofs.Common.{◌≡◌, ◌∙◌, ap, Ok, length}
+use Rattle.model.specs.Sheet.{narrow}
+use Rattle.model.specs.Chain.{chain_entries}
 use Rattle.entries.specs.Listed.{listed}
-use Rattle.chain.proofs.Clean.{none-marked, by_number, by_records}
+use Rattle.chain.proofs.Clean.{none-marked, answered_ok}
+use Rattle.chain.proofs.list.Goals.{After-read}
 use Rattle.chain.proofs.list.Goals as goal
 
-pub read-chain-requires-clause-records_in_bounds_2 : goal.read-chain-requires-clause-records_in_bounds_2
-read-chain-requires-clause-records_in_bounds_2 c = omega arith
+pub read-requires-clause-by_index : goal.read-requires-clause-by_index
+read-requires-clause-by_index c = none-marked 33
 
-pub read-chain-requires-clause-by_index : goal.read-chain-requires-clause-by_index
-read-chain-requires-clause-by_index c = none-marked 33
+taken : (c : goal.After-read) → c.read.result ≡ Ok (length (chain_entries narrow c.args.sheet.now))
+taken c = answered_ok _ _ c.read.ensures.chain c.requires.sheet_value
 
-pub returns-in_default : goal.returns-in_default
-returns-in_default c =
-    let refusal = by_number _ _ _ c.read-chain.ensures.chain _ c.in_default.is in
-    record { number = absurd (refusal.1 c.requires.sheet_value); list = absurd (refusal.1 c.requires.sheet_value) }
+pub unwrap-requires : goal.unwrap-requires
+unwrap-requires c = rw (taken (goal.at.unwrap-requires c).After-read)
 
 pub returns : goal.returns
 returns c =
-    let (fits, count) = by_records _ _ _ c.read-chain.ensures.chain _ c.in-Records.is in
+    let count : c.unwrap.result ≡ length (chain_entries narrow c.args.sheet.now) = cc (taken (goal.at.returns c).After-read) in
     record {
       number = count;
-      list = ap (listed c.read-chain.new.list) count ∙ c.read-chain.ensures.list fits;
+      list = ap (listed c.read.new.list) count ∙ c.read.ensures.list c.requires.sheet_value;
     }

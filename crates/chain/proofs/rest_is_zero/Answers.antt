@@ -1,16 +1,13 @@
 -- `chain::rest_is_zero` meets its contract: the groups so far are in order.
 -- Assumes nothing.
 use mathlib.Core.Path.{sym, ◌∙◌, ap, refl}
-use mathlib.Core.Bool.{true}
-use mathlib.Core.Logic.{⊎_elim}
-use Prim.Native.Nat.{ℕ, ◌-◌}
+use Prim.Native.Nat.{ℕ}
 use native.Mathlib.Omega.{arith}
 use borrow.Author.Rules.{rules}
-use borrow.Author.Tests.{not-false}
 use Rattle.stripes.specs.Fold.{every}
 use Rattle.chain.specs.Read.{in_order}
 use Rattle.chain.proofs.Groups.{group_zero, group_next, group_fails}
-use Rattle.chain.proofs.rest_is_zero.Goals.{then-not-all_zero16+else-not-group_in_order, else-not-all_zero16}
+use Rattle.chain.proofs.rest_is_zero.Goals.{else-not-all_zero16-via-then-not-all_zero16+else-not-group_in_order, else-not-all_zero16-via-else-not-all_zero16}
 use Rattle.chain.proofs.rest_is_zero.Goals as goal
 
 pub loop-at-init : goal.loop-at-init
@@ -31,9 +28,9 @@ loop-at-preserved c =
       search rules,
       search rules,
       group_next a.marks.now a.sheet.now l.at l.invariant.3
-          (elim c.if-not-all_zero16.branch [
-            | then-not-all_zero16+else-not-group_in_order w ↦ sym w.group_in_order.ensures ∙ w.if-not-group_in_order.false
-            | else-not-all_zero16 w ↦ group_zero a.marks.now a.sheet.now l.at (sym c.all_zero16.ensures ∙ w.if-not-all_zero16.false)
+          (elim c.else-not-all_zero16.branch [
+            | else-not-all_zero16-via-then-not-all_zero16+else-not-group_in_order w ↦ sym w.group_in_order.ensures ∙ w.if-not-group_in_order.false
+            | else-not-all_zero16-via-else-not-all_zero16 w ↦ group_zero a.marks.now a.sheet.now l.at (sym c.all_zero16.ensures ∙ w.if-not-all_zero16.false)
           ]),
     )
 

@@ -2,7 +2,7 @@
 -- Assumes nothing.
 use mathlib.Core.Path.{◌≡◌, refl, sym, ◌∙◌, ap}
 use mathlib.Core.Bool.{true}
-use Prim.Native.Nat.{◌-◌, ◌≤◌, ◌<◌}
+use Prim.Native.Nat.{◌≤◌, ◌<◌}
 use native.Mathlib.Omega.{arith}
 use lib.ListN.{length}
 use Rattle.stripes.specs.Erased.{erasures}
@@ -12,35 +12,28 @@ use Rattle.cycle.proofs.Turn.{Traced, traced, pair_rises, turn_first, turn_ends,
 use Rattle.cycle.proofs.trace.Goals.{After-partner-disk, In-loop-k, Start}
 use Rattle.cycle.proofs.trace.Goals as goal
 
-given : (c : goal.Start) → Traced (layout_of c.args.size c.args.base) c.args.set.now c.args.stripes.now
-given c = let record { numbered = n; table = table; paired = paired; set_bound = some; capacity_in_bounds = room } = c.requires in traced _ _ _ _ n table paired some
+given : (c : goal.Start) → Traced (layout_of c.args.grid.size c.args.grid.base) c.args.set.now c.args.stripes.now
+given c = let p = c.requires in traced _ _ _ _ c.args.grid.numbered p.table p.paired p.set_bound
 
 -- A turn that is taken is within the bound, and has room in the list.
 begun : (c : goal.In-loop-k) →
-    (c.loop-k.k < (layout_of c.args.size c.args.base).stripe_bound) × (32 ≤ length c.loop-k.list)
+    (c.loop-k.k < (layout_of c.args.grid.size c.args.grid.base).stripe_bound) × (32 ≤ length c.loop-k.list)
 begun c =
-    let e = c.bound.ensures in
-    let h = c.loop-k-test.true in
+    let e = c.bound-bound.ensures in
     let long = c.requires.capacity_in_bounds in
     let same = c.loop-k.invariant.0 in
     (omega arith, omega arith)
 
 -- The disk that follows is one of the set.
-erased : (c : goal.After-partner-disk) → Traced (layout_of c.args.size c.args.base) c.args.set.now c.args.stripes.now
+erased : (c : goal.After-partner-disk) → Traced (layout_of c.args.grid.size c.args.grid.base) c.args.set.now c.args.stripes.now
     → erasures c.args.set.now c.partner-disk.result ≡ true
 erased c g = turn_erased g c.loop-k.invariant.1 c.partner-disk.ensures
-
-pub stripes_of-stripe-requires-clause-table : goal.stripes_of-stripe-requires-clause-table
-stripes_of-stripe-requires-clause-table c = c.requires.table
 
 pub stripes_of-stripe-requires-clause-disk_value : goal.stripes_of-stripe-requires-clause-disk_value
 stripes_of-stripe-requires-clause-disk_value c = ap (erasures c.args.set.now) c.next_erased-start.ensures ∙ (given (goal.at.stripes_of-stripe-requires-clause-disk_value c).Start).erased
 
 pub loop-k-init : goal.loop-k-init
 loop-k-init c = (refl, turn_first (given (goal.at.loop-k-init c).Start) _ c.next_erased-start.ensures c.stripes_of-stripe.ensures)
-
-pub bound-requires : goal.bound-requires
-bound-requires c = c.requires.numbered
 
 pub put-requires : goal.put-requires
 put-requires c =
@@ -52,20 +45,8 @@ put-requires c =
       stripe_bound = h2;
     }
 
-pub overflow_add-k : goal.overflow_add-k
-overflow_add-k c =
-    let (low, room) = begun (goal.at.overflow_add-k c).In-loop-k in
-    let few = (given (goal.at.overflow_add-k c).Start).stripes_fit in
-    omega arith
-
-pub partner-disk-requires-clause-table : goal.partner-disk-requires-clause-table
-partner-disk-requires-clause-table c = c.requires.table
-
 pub partner-disk-requires-clause-stripe_bound : goal.partner-disk-requires-clause-stripe_bound
 partner-disk-requires-clause-stripe_bound c = turn_some (given (goal.at.partner-disk-requires-clause-stripe_bound c).Start) c.loop-k.invariant.1
-
-pub stripes_of-requires-clause-table : goal.stripes_of-requires-clause-table
-stripes_of-requires-clause-table c = c.requires.table
 
 pub stripes_of-requires-clause-disk_value : goal.stripes_of-requires-clause-disk_value
 stripes_of-requires-clause-disk_value c =
@@ -76,9 +57,6 @@ other_of-stripe-requires c =
     let g = given (goal.at.other_of-stripe-requires c).Start in
     pair_rises g.two (erased-inside g.table _ (erased (goal.at.other_of-stripe-requires c).After-partner-disk g)) c.stripes_of.ensures
 
-pub loop-k-smaller : goal.loop-k-smaller
-loop-k-smaller c = let h = begun (goal.at.loop-k-smaller c).In-loop-k in omega arith
-
 pub loop-k-preserved : goal.loop-k-preserved
 loop-k-preserved c =
     let (low, room) = begun (goal.at.loop-k-preserved c).In-loop-k in (
@@ -87,14 +65,14 @@ loop-k-preserved c =
           (λ e. c.if-disk-start.false (e ∙ sym c.next_erased-start.ensures)) _ c.stripes_of.ensures c.other_of-stripe.ensures,
     )
 
-pub returns-after-loop-k : goal.returns-after-loop-k
-returns-after-loop-k c =
-    let e = c.bound.ensures in
-    let h = c.loop-k-test.false in
-    let (h0, h1) = answers _ _ (turn_ends (given (goal.at.returns-after-loop-k c).Start) c.loop-k.invariant.1 (omega arith)) in
+pub returns : goal.returns
+returns c =
+    let e = c.bound-bound.ensures in
+    let end : c.bound-bound.result ≡ c.loop-k.k = omega arith in
+    let (h0, h1) = answers _ _ (turn_ends (given (goal.at.returns c).Start) c.loop-k.invariant.1 (omega arith)) in
     record {
-      number = h0;
-      list = h1;
+      number = end ∙ h0;
+      list = rw end h1;
     }
 
 pub returns-then-disk-start : goal.returns-then-disk-start

@@ -1,7 +1,6 @@
 -- `cycle::trace` meets its contract: the steps so far are listed.
 -- Assumes nothing.
 use mathlib.Core.Path.{◌≡◌}
-use Prim.Native.Nat.{◌-◌}
 use lib.ListN.{length}
 use Rattle.model.specs.Grid.{layout_of}
 use Rattle.cycle.proofs.Turn.{Turn}
@@ -10,7 +9,4 @@ use Rattle.cycle.proofs.trace.Given as goal
 abbrev pub invariant-loop-k : goal.invariant-loop-k
 invariant-loop-k l =
     (length l.list ≡ length l.initial.list)
-    × Turn (layout_of l.size l.base) l.set l.list (record { disk = l.disk; stripe = l.stripe }) l.k
-
-abbrev pub decreases-loop-k : goal.decreases-loop-k
-decreases-loop-k l = (layout_of l.size l.base).stripe_bound - l.k
+    × Turn (layout_of l.grid.size l.grid.base) l.set l.list (record { disk = l.disk; stripe = l.stripe }) l.k

@@ -3,7 +3,7 @@
 use mathlib.Core.Path.{sym, subst}
 use Rattle.model.specs.Array.{check_status}
 use Rattle.model.specs.Demand2.{CheckDemand}
-use Rattle.model.specs.declared.Checked.{Checked}
+use Rattle.model.specs.Checked.{Checked}
 use Rattle.model.proofs.Demand2.{check_demand}
 use Rattle.demands.proofs.check_array.Goals as goal
 

@@ -10,7 +10,7 @@ use Rattle.model.specs.Plan.{outcome_status}
 use Rattle.model.specs.Sheet.{narrow, sheet_at}
 use Rattle.model.specs.Chain.{Leftover, chain_refusal}
 use Rattle.model.specs.Follow.{Usable}
-use Rattle.model.specs.declared.Outcome.{Outcome}
+use Rattle.model.specs.Outcome.{Outcome}
 use Rattle.model.proofs.Follow.{sectors, follow_any, follow_contradicted, follow_fourteen, follow_fatal}
 use Rattle.model.proofs.Single.{follow_single}
 use Rattle.model.proofs.ByPosition.{follow_alone}

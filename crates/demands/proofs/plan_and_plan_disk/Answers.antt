@@ -15,7 +15,7 @@ use Rattle.model.specs.Plan.{outcome_status}
 use Rattle.model.specs.PlanDisk.{plan_disk_tests, plan_disk_outcome, DiskDemand}
 use Rattle.model.specs.Edition.{superparity}
 use Rattle.model.specs.declared.Size.{Size}
-use Rattle.model.specs.declared.Outcome.{Outcome}
+use Rattle.model.specs.Outcome.{Outcome}
 use Rattle.model.proofs.Accept.{plan-fits, one-fits}
 use Rattle.model.proofs.PlanDisk.{disk_takes, disk_refused, disk_demand, disk-tidy, disk_look}
 use Rattle.demands.proofs.plan_and_plan_disk.Goals as goal

@@ -1,6 +1,7 @@
 -- `demands::plan_and_rebuild` meets its contract: what plan and the turns promise is what demand 3 is proved of.
 -- Assumes nothing.
-use mathlib.Core.Path.{sym, subst}
+use mathlib.Core.Path.{sym, subst, ap}
+use Rattle.series.specs.Total.{Total}
 use mathlib.Core.List.{List}
 use Prim.Native.Nat.{ℕ}
 use native.Mathlib.Omega.{arith}
@@ -9,7 +10,7 @@ use Rattle.stripes.specs.Erased.{erasures}
 use Rattle.model.specs.Sheet.{narrow}
 use Rattle.model.specs.Edition.{superparity}
 use Rattle.model.specs.Demand3.{Planned}
-use Rattle.model.specs.declared.Outcome.{Outcome}
+use Rattle.model.specs.Outcome.{Outcome}
 use Rattle.model.proofs.Demand3.{plan-planned}
 use Rattle.demands.proofs.Promised.{promised}
 use Rattle.model.proofs.Single.{plan_single, plan-alone}
@@ -26,7 +27,12 @@ returns c =
     record {
       planned = planned;
       draft = draft;
-      rebuilt = rebuilt;
+      rebuilt = (
+        ap (λ (t : Total). t.last) rebuilt,
+        ap (λ (t : Total). t.turns) rebuilt,
+        ap (λ (t : Total). t.made) rebuilt,
+        ap (λ (t : Total). t.left) rebuilt,
+      );
       array = array;
       map = map;
       sheets = sheets;

@@ -2,7 +2,7 @@
 -- Assumes nothing.
 use mathlib.Core.Path.{ap}
 use mathlib.Core.List.{List, ◌++◌}
-use Prim.Native.Nat.{ℕ, ◌+◌, ◌*◌, ◌-◌}
+use Prim.Native.Nat.{ℕ, ◌+◌, ◌*◌}
 use native.Mathlib.Omega.{arith}
 use borrow.Rule.Slice.PartMut.{Post-is}
 use lib.ListN.{take}
@@ -12,7 +12,7 @@ use Rattle.demands.proofs.Each.{tidying_none, tidying_next, tidying_all}
 use Rattle.demands.proofs.tidy_each.Goals as goal
 
 pub loop-p-init : goal.loop-p-init
-loop-p-init c = (omega arith, tidying_none _)
+loop-p-init c = tidying_none _
 
 pub overflow_mul-at : goal.overflow_mul-at
 overflow_mul-at c = omega arith
@@ -29,22 +29,14 @@ slice_bounds-tidy-start c = omega arith
 pub slice_bounds-tidy-end : goal.slice_bounds-tidy-end
 slice_bounds-tidy-end c = omega arith
 
-pub overflow_add-p : goal.overflow_add-p
-overflow_add-p c = omega arith
-
-pub loop-p-smaller : goal.loop-p-smaller
-loop-p-smaller c = omega arith
-
 pub loop-p-preserved : goal.loop-p-preserved
 loop-p-preserved c =
     let l = c.loop-p in
     let at : ℕ = 98 * l.p in
     let more = c.loop-p-test.true in
-    let record { status = status; sheet = sheet } = c.tidy.ensures in (
-      omega arith,
-      tidying_next l.invariant.1 (omega arith) (part_sheet narrow l.p l.sheets) sheet
-          (ap (λ (r : List ℕ). take at l.sheets ++ (c.tidy.new.sheet ++ r)) (Post-is at (at + 98) l.sheets (omega arith))),
-    )
+    let record { status = status; sheet = sheet } = c.tidy.ensures in
+    tidying_next l.invariant (omega arith) (part_sheet narrow l.p l.sheets) sheet
+    (ap (λ (r : List ℕ). take at l.sheets ++ (c.tidy.new.sheet ++ r)) (Post-is at (at + 98) l.sheets (omega arith)))
 
 pub returns : goal.returns
-returns c = let few = c.loop-p.invariant.0 in let none = c.loop-p-test.false in tidying_all c.loop-p.invariant.1 (omega arith)
+returns c = tidying_all c.loop-p.invariant (omega arith)

@@ -1,6 +1,7 @@
 -- `fields::record_at` meets its contract: what the reader finds under the number, by cases.
 -- Assumes nothing.
 use mathlib.Core.Path.{◌≡◌, ◌∙◌, sym, ap}
+use mathlib.Core.Logic.{⊎_elim}
 use Prim.Native.Nat.{ℕ, ◌≤◌, ◌<◌}
 use native.Mathlib.Omega.{arith}
 use borrow.Author.Tests.{le-leb, lt-leb}
@@ -39,19 +40,12 @@ returns-in-Record c =
 pub returns-in-End : goal.returns-in-End
 returns-in-End c =
     let a = c.args in
-    let is = found_says a.sheet.now a.number End c.told-sheet (sym c.in-End.is ∙ c.record_at-found.ensures) in
+    let zero : (v : ℕ) → 0 ≡ if_record narrow a.number v = λ v.
+    ⊎_elim (λ e. none a.number v (found_says a.sheet.now a.number End c.told-sheet (sym e ∙ c.record_at-found.ensures)))
+    (λ e. beyond a.number v (found_says a.sheet.now a.number Outside c.told-sheet (sym e ∙ c.record_at-found.ensures)))
+    c.in-End.is in
     record {
-      disk = none _ _ is;
-      stripe = none _ _ is;
-      next = none _ _ is;
-    }
-
-pub returns-in-Outside : goal.returns-in-Outside
-returns-in-Outside c =
-    let a = c.args in
-    let is = found_says a.sheet.now a.number Outside c.told-sheet (sym c.in-Outside.is ∙ c.record_at-found.ensures) in
-    record {
-      disk = beyond _ _ is;
-      stripe = beyond _ _ is;
-      next = beyond _ _ is;
+      disk = zero _;
+      stripe = zero _;
+      next = zero _;
     }

@@ -11,13 +11,14 @@ use Rattle.model.proofs.Grid.{sector-some, sectors-some, map-length, block_withi
 use Rattle.stripes.proofs.Bytes.{block-before}
 use Rattle.look.proofs.Part.{Passed, look_nothing, look_block}
 use Rattle.look.proofs.look.Goals.{Else-not-all_present}
+use Rattle.refusal.proofs.Numbers.{refused_by, taken_by}
 use Rattle.look.proofs.look.Goals as goal
 
 -- The tests are passed where the last one is.
 passed : (c : goal.Else-not-all_present) → let a = c.args in
     Passed a.size a.block a.sector a.array.now a.map.now a.disk
 passed c = (
-  sym c.sector_refusal.ensures ∙ c.if-sector_refusal-ne0.false,
+  taken_by _ c.test_sectors.ensures (sym c.is_err.ensures.value ∙ c.if-is_err.false),
   sym c.map_fits.ensures ∙ c.if-not-map_fits.false,
   (let e = c.disks.ensures in let h = c.if-disks-disk.false in omega arith),
   sym c.all_present.ensures ∙ c.if-not-all_present.false,
@@ -27,19 +28,19 @@ passed c = (
 clauses : {A B : Type 0} → A × B → record { bytes : A; place : B }
 clauses (bytes, place) = record { bytes = bytes; place = place }
 
-pub returns-then-sector_refusal-ne0 : goal.returns-then-sector_refusal-ne0
-returns-then-sector_refusal-ne0 c =
-    clauses (look_nothing _ _ _ _ _ _ (λ (ok, mapped, inside, present). c.if-sector_refusal-ne0.true (c.sector_refusal.ensures ∙ ok)) _)
+pub returns-then-is_err : goal.returns-then-is_err
+returns-then-is_err c =
+    clauses (look_nothing _ _ _ _ _ _ (λ (ok, mapped, inside, present). refused_by _ c.test_sectors.ensures (sym c.is_err.ensures.value ∙ c.if-is_err.true) ok) _)
 
 pub nonzero_div-sectors : goal.nonzero_div-sectors
 nonzero_div-sectors c =
-    let (array, sector) = sector_fits_lem _ _ _ _ (sym c.sector_refusal.ensures ∙ c.if-sector_refusal-ne0.false) in
+    let (array, sector) = sector_fits_lem _ _ _ _ (taken_by _ c.test_sectors.ensures (sym c.is_err.ensures.value ∙ c.if-is_err.false)) in
     let some = sector-some _ _ sector in
     search rules
 
 pub map_fits-requires : goal.map_fits-requires
 map_fits-requires c =
-    let (array, sector) = sector_fits_lem _ _ _ _ (sym c.sector_refusal.ensures ∙ c.if-sector_refusal-ne0.false) in
+    let (array, sector) = sector_fits_lem _ _ _ _ (taken_by _ c.test_sectors.ensures (sym c.is_err.ensures.value ∙ c.if-is_err.false)) in
     record {
       size_value = array.size;
       sectors_value = sectors-some _ _ array.block sector;
@@ -51,7 +52,7 @@ returns-then-not-map_fits c =
 
 pub disks-requires : goal.disks-requires
 disks-requires c =
-    let (array, sector) = sector_fits_lem _ _ _ _ (sym c.sector_refusal.ensures ∙ c.if-sector_refusal-ne0.false) in
+    let (array, sector) = sector_fits_lem _ _ _ _ (taken_by _ c.test_sectors.ensures (sym c.is_err.ensures.value ∙ c.if-is_err.false)) in
     array.size
 
 pub returns-then-disks-disk : goal.returns-then-disks-disk

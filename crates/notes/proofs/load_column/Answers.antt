@@ -1,23 +1,14 @@
--- `plan::notes::load_column` meets its contract: the notes are those of the position, and else its bytes are gathered.
+-- `notes::load_column` meets its contract: the notes are those of the position, and else its bytes are gathered.
 -- Assumes nothing.
-use mathlib.Core.Path.{sym, ◌∙◌, ap, subst}
+use mathlib.Core.Path.{◌∙◌, ap, subst}
 use mathlib.Core.Bool.{Bool}
 use Prim.Native.Nat.{ℕ}
 use Rattle.stripes.specs.Erased.{erasures}
 use Rattle.stripes.specs.Sectors.{at_position}
 use Rattle.stripes.proofs.Erased.{below_all}
 use Rattle.tally.proofs.Column.{position_fits, position_erased, position_inside}
-use Rattle.notes.specs.Notes.{Notes, Loads}
+use Rattle.notes.specs.Notes.{Loads}
 use Rattle.notes.proofs.load_column.Goals as goal
-
-pub load-requires : goal.load-requires
-load-requires c =
-    let a = c.args in
-    let e : ℕ → Bool = at_position a.sectors a.position (erasures a.map.now) in
-    record {
-      sheet_len = c.requires.sheet_len;
-      by_index = (e, subst (λ (N : ℕ). Notes N e a.sheet.now) (sym c.requires.located.room) c.requires.notes);
-    }
 
 pub returns-then-load : goal.returns-then-load
 returns-then-load c =

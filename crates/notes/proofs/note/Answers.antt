@@ -1,12 +1,8 @@
--- `plan::notes::note` meets its contract.
+-- `notes::note` meets its contract.
 -- Assumes nothing.
-use native.Mathlib.Omega.{arith}
 use borrow.Author.Tests.{lt-ltb, le-ltb}
 use Rattle.notes.specs.Notes.{noted}
 use Rattle.notes.proofs.note.Goals as goal
-
-pub overflow_cast-count : goal.overflow_cast-count
-overflow_cast-count c = omega (arith, c.slice_known-1.given 0)
 
 pub returns-then-count-lt-ROOM : goal.returns-then-count-lt-ROOM
 unfolding noted

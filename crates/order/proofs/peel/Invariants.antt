@@ -1,7 +1,6 @@
 -- `order::peel` meets its contract: each turn makes the next repair.
 -- Assumes nothing.
 use mathlib.Core.Path.{◌≡◌}
-use Prim.Native.Nat.{◌-◌}
 use lib.ListN.{length}
 use Rattle.stripes.specs.Erased.{erasures, without}
 use Rattle.stripes.specs.Repair.{any_disk}
@@ -10,8 +9,5 @@ use Rattle.order.proofs.Turns.{Turn}
 use Rattle.order.proofs.peel.Given as goal
 
 abbrev pub invariant-loop-k : goal.invariant-loop-k
-invariant-loop-k l = Turn (layout_of l.size l.base) (without any_disk l.held) (erasures l.initial.work) l.work l.stripes l.counts l.list l.k
+invariant-loop-k l = Turn (layout_of l.grid.size l.grid.base) (without any_disk l.held) (erasures l.initial.work) l.work l.stripes l.counts l.list l.k
     × (length l.work ≡ length l.initial.work) × (length l.counts ≡ length l.initial.counts) × (length l.list ≡ length l.initial.list)
-
-abbrev pub decreases-loop-k : goal.decreases-loop-k
-decreases-loop-k l = l.erased - l.k

@@ -3,54 +3,41 @@
 use mathlib.Core.Path.{◌≡◌, ◌∙◌, ap}
 use mathlib.Core.Bool.{true}
 use native.Mathlib.Omega.{arith}
-use borrow.Author.Rules.{rules}
 use Rattle.stripes.specs.Erased.{erasures, without}
 use Rattle.stripes.specs.Repair.{any_disk}
 use Rattle.stripes.proofs.Peel.{without_at, without_other}
 use Rattle.model.specs.Grid.{layout_of}
-use Rattle.tally.specs.Tally.{Passed}
-use Rattle.tally.proofs.Scanned.{next_passed, next_erased_lem}
+use Rattle.tally.proofs.Scanned.{Turned, turned, ended}
 use Rattle.tally.proofs.Counted.{Crossed, erased_crossed, low_held, high_held}
-use Rattle.order.proofs.Picked.{Crowded, crowded_none, crowded_over, crowded_held, crowded_next, picked_none, picked_low, picked_high}
+use Rattle.order.proofs.Picked.{Crowded, crowded_over, crowded_held, crowded_next, picked_none, picked_low, picked_high}
 use Rattle.layout.proofs.Runs.{numbered_two}
-use Rattle.order.proofs.pick.Goals.{After-next_erased-d, After-stripes_of-pair, Else-work-d, Then-d-held, then-d-held+else-counts-low-eq1+else-counts-high-eq1, else-d-held}
+use Rattle.order.proofs.pick.Goals.{In-Some, After-stripes_of-pair, Then-d-held}
 use Rattle.order.proofs.pick.Goals as goal
 
-pub loop-size-init : goal.loop-size-init
-loop-size-init c = (crowded_none _ _ _, omega arith)
+-- The turn of the loop, and the disks that it passes over.
+turn : (c : goal.In-Some) → Turned c.args.work.now c.loop-d.d-iterator.from c.in-Some.d c.next.new.self.from
+turn c = turned c.loop-d.invariant.2 c.in-Some.ensures.steps.1
 
--- The disks that a turn passes over.
-passed : (c : goal.After-next_erased-d) → Passed c.args.work.now c.loop-size.from c.next_erased-d.result
-passed c = next_passed _ _ c.next_erased-d.ensures c.loop-size.invariant.1
-
-crowded : (c : goal.After-next_erased-d) →
+crowded : (c : goal.In-Some) →
     let a = c.args in
-    Crowded (layout_of a.size a.base) (without any_disk a.held) (erasures a.work.now) c.next_erased-d.result
-crowded c = crowded_over c.loop-size.invariant.0 (passed c)
+    Crowded (layout_of a.grid.size a.grid.base) (without any_disk a.held) (erasures a.work.now) c.in-Some.d
+crowded c = crowded_over c.loop-d.invariant.3 (turn c).passed
 
-pub returns-then-work-d : goal.returns-then-work-d
-returns-then-work-d c = picked_none (crowded (goal.at.returns-then-work-d c).After-next_erased-d) (omega (arith, c.if-work-d.true, c.requires.tallied.table.disks_fit))
-
--- The disk of a turn is erased.
-erased : (c : goal.Else-work-d) → erasures c.args.work.now c.next_erased-d.result ≡ true
-erased c = next_erased_lem _ _ c.next_erased-d.ensures (search rules)
-
-pub stripes_of-pair-requires-clause-table : goal.stripes_of-pair-requires-clause-table
-stripes_of-pair-requires-clause-table c = c.requires.tallied.table
-
-pub stripes_of-pair-requires-clause-disk_value : goal.stripes_of-pair-requires-clause-disk_value
-stripes_of-pair-requires-clause-disk_value c = erased (goal.at.stripes_of-pair-requires-clause-disk_value c).Else-work-d
+pub returns : goal.returns
+returns c =
+    let past = ended c.loop-d.invariant.2 c.in-None.ensures.steps.1 in
+    picked_none (crowded_over c.loop-d.invariant.3 past) (omega (arith, c.requires.tallied.table.disks_fit))
 
 -- Its stripes.
 pair : (c : goal.After-stripes_of-pair) →
     let a = c.args in
-    Crossed (layout_of a.size a.base) c.next_erased-d.result c.stripes_of-pair.result.low c.stripes_of-pair.result.high
+    Crossed (layout_of a.grid.size a.grid.base) c.in-Some.d c.stripes_of-pair.result.low c.stripes_of-pair.result.high
 pair c =
-    erased_crossed c.requires.tallied.table _ (next_erased_lem _ _ c.next_erased-d.ensures (search rules)) (numbered_two c.requires.numbered) c.stripes_of-pair.ensures
+    erased_crossed c.requires.tallied.table _ (turned c.loop-d.invariant.2 c.in-Some.ensures.steps.1).erased (numbered_two c.args.grid.numbered) c.stripes_of-pair.ensures
 
 -- It is not held back.
 chosen : (c : goal.Then-d-held) →
-    without any_disk c.args.held c.next_erased-d.result ≡ true
+    without any_disk c.args.held c.in-Some.d ≡ true
 chosen c = without_other any_disk _ _ c.if-d-held.true
 
 pub bounds-counts-low : goal.bounds-counts-low
@@ -58,7 +45,7 @@ bounds-counts-low c = (low_held (pair (goal.at.bounds-counts-low c).After-stripe
 
 pub returns-then-counts-low-eq1 : goal.returns-then-counts-low-eq1
 returns-then-counts-low-eq1 c =
-    picked_low (crowded (goal.at.returns-then-counts-low-eq1 c).After-next_erased-d) (erased (goal.at.returns-then-counts-low-eq1 c).Else-work-d) c.requires.tallied.counted (pair (goal.at.returns-then-counts-low-eq1 c).After-stripes_of-pair) (chosen (goal.at.returns-then-counts-low-eq1 c).Then-d-held) c.if-counts-low-eq1.true
+    picked_low (crowded (goal.at.returns-then-counts-low-eq1 c).In-Some) (turn (goal.at.returns-then-counts-low-eq1 c).In-Some).erased c.requires.tallied.counted (pair (goal.at.returns-then-counts-low-eq1 c).After-stripes_of-pair) (chosen (goal.at.returns-then-counts-low-eq1 c).Then-d-held) c.if-counts-low-eq1.true
 
 pub bounds-counts-high : goal.bounds-counts-high
 bounds-counts-high c =
@@ -66,23 +53,23 @@ bounds-counts-high c =
 
 pub returns-then-counts-high-eq1 : goal.returns-then-counts-high-eq1
 returns-then-counts-high-eq1 c =
-    picked_high (crowded (goal.at.returns-then-counts-high-eq1 c).After-next_erased-d) (erased (goal.at.returns-then-counts-high-eq1 c).Else-work-d) c.requires.tallied.counted (pair (goal.at.returns-then-counts-high-eq1 c).After-stripes_of-pair) (chosen (goal.at.returns-then-counts-high-eq1 c).Then-d-held) c.if-counts-low-eq1.false c.if-counts-high-eq1.true
+    picked_high (crowded (goal.at.returns-then-counts-high-eq1 c).In-Some) (turn (goal.at.returns-then-counts-high-eq1 c).In-Some).erased c.requires.tallied.counted (pair (goal.at.returns-then-counts-high-eq1 c).After-stripes_of-pair) (chosen (goal.at.returns-then-counts-high-eq1 c).Then-d-held) c.if-counts-low-eq1.false c.if-counts-high-eq1.true
 
-pub overflow_add-from : goal.overflow_add-from
-overflow_add-from c = omega (arith, c.if-work-d.false)
+pub loop-d-preserved-else-counts-high-eq1 : goal.loop-d-preserved-else-counts-high-eq1
+loop-d-preserved-else-counts-high-eq1 c =
+    let at = goal.at.loop-d-preserved-else-counts-high-eq1 c in
+    let t = turn at.In-Some in (
+      tt,
+      tt,
+      cc (c.next.ensures.steps.0, c.loop-d.invariant.2),
+      rw t.goes (crowded_next (crowded at.In-Some) t.erased c.requires.tallied.counted (pair at.After-stripes_of-pair) c.if-counts-low-eq1.false c.if-counts-high-eq1.false),
+    )
 
-pub loop-size-smaller : goal.loop-size-smaller
-loop-size-smaller c = omega (arith, c.if-work-d.false, (passed (goal.at.loop-size-smaller c).After-next_erased-d).after)
-
-pub loop-size-preserved : goal.loop-size-preserved
-loop-size-preserved c =
-    let erased' = erased (goal.at.loop-size-preserved c).Else-work-d in
-    let crowded' = crowded (goal.at.loop-size-preserved c).After-next_erased-d in (
-      elim c.if-d-held.branch [
-        | then-d-held+else-counts-low-eq1+else-counts-high-eq1 w ↦
-            let pair' = erased_crossed c.requires.tallied.table _ erased' (numbered_two c.requires.numbered) w.stripes_of-pair.ensures in
-            crowded_next crowded' erased' c.requires.tallied.counted pair' w.if-counts-low-eq1.false w.if-counts-high-eq1.false
-        | else-d-held w ↦ crowded_held crowded' (ap (without any_disk _) w.if-d-held.false ∙ without_at any_disk _)
-      ],
-      omega (arith, c.if-work-d.false),
+pub loop-d-preserved : goal.loop-d-preserved
+loop-d-preserved c =
+    let t = turn (goal.at.loop-d-preserved c).In-Some in (
+      tt,
+      tt,
+      cc (c.next.ensures.steps.0, c.loop-d.invariant.2),
+      rw t.goes (crowded_held (crowded (goal.at.loop-d-preserved c).In-Some) (ap (without any_disk _) c.if-d-held.false ∙ without_at any_disk _)),
     )

@@ -11,16 +11,10 @@ use Rattle.plan.specs.Drafted.{draft_sheets}
 use Rattle.plan.proofs.Answers.{one_outcome, one_draft}
 use Rattle.plan.proofs.draft.Goals as goal
 
-pub draft_column-requires : goal.draft_column-requires
-draft_column-requires c =
+pub draft_column-requires-clause-column_value : goal.draft_column-requires-clause-column_value
+draft_column-requires-clause-column_value c =
     let p = c.requires in
-    let one = c.if-sectors-eq1.true in
-    let long = p.sheets_len in
-    record {
-      size_value = p.size_value;
-      column_value = one-fits {p = 0} (record { size = p.size_value; sectors = p.sectors_value; place = omega arith; map = p.map_value }) one;
-      sheet_len = omega arith;
-    }
+    one-fits {p = 0} (record { size = p.size_value; sectors = p.sectors_value; place = omega arith; map = p.map_value }) c.if-sectors-eq1.true
 
 pub returns-then-sectors-eq1 : goal.returns-then-sectors-eq1
 returns-then-sectors-eq1 c =
@@ -31,15 +25,4 @@ returns-then-sectors-eq1 c =
           ∙ ap (λ (n : ℕ). loss_outcome n (sheet_layout a.size) (erasures a.map.now)) (sym one);
       sheets = c.draft_column.ensures.sheet ∙ one_draft (sheet_layout a.size) (erasures a.map.now) a.limit
           ∙ ap (λ (n : ℕ). draft_sheets n (sheet_layout a.size) narrow (erasures a.map.now) a.limit) (sym one);
-    }
-
-pub draft_all-requires : goal.draft_all-requires
-draft_all-requires c =
-    let p = c.requires in
-    record {
-      size_value = p.size_value;
-      sectors_value = p.sectors_value;
-      map_value = p.map_value;
-      sheets_len = c.note_all.auto.sheets ∙ p.sheets_len;
-      each_notes = c.note_all.ensures;
     }

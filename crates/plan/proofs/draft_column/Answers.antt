@@ -1,10 +1,8 @@
 -- `plan::draft_column` meets its contract: the repairs, or the cycle of what is left.
 -- Assumes nothing.
 use mathlib.Core.Path.{subst}
-use mathlib.Core.List.{List}
-use Prim.Native.Nat.{ℕ, ◌≤◌}
+use Prim.Native.Nat.{◌≤◌}
 use native.Mathlib.Omega.{arith}
-use borrow.Author.Rules.{rules}
 use lib.ListN.{length}
 use Rattle.stripes.specs.Erased.{erasures}
 use Rattle.model.specs.Plan.{sheet_layout}
@@ -14,6 +12,7 @@ use Rattle.solve.specs.declared.Solved.{Solved}
 use Rattle.solve.specs.declared.Solved.TheVariants.{Repairs, Cycle}
 use Rattle.solve.proofs.Fitting.{repairs_fit, cycle-fits}
 use Rattle.sheet.proofs.Fitting.{listed-fits}
+use Rattle.model.specs.Answers.{verdict_of}
 use Rattle.plan.proofs.Answers.{drafts_repairs, drafts_fatal}
 use Rattle.plan.proofs.draft_column.Goals.{After-solve-answer, In-Cycle, In-Repairs}
 use Rattle.plan.proofs.draft_column.Goals as goal
@@ -35,14 +34,8 @@ lossy c =
     subst (λ (r : Solved). Solves (sheet_layout c.args.size) (erasures c.args.column.now) r c.solve-answer.new.list)
     c.in-Cycle.is c.solve-answer.ensures
 
-pub solve-answer-requires : goal.solve-answer-requires
-solve-answer-requires c =
-    let p = c.requires in
-    record {
-      numbered = numbered _ p.size_value;
-      map_value = p.column_value;
-      capacity_in_bounds = search rules;
-    }
+pub invariant_of-grid : goal.invariant_of-grid
+invariant_of-grid c = record { numbered = numbered _ c.requires.size_value }
 
 pub write-requires : goal.write-requires
 write-requires c =
@@ -69,6 +62,7 @@ write-requires-in-Cycle c =
     }
 
 pub returns-in-Repairs : goal.returns-in-Repairs
+unfolding verdict_of
 returns-in-Repairs c =
     let (h0, h1) = drafts_repairs _ _ _ _ _ _ (fine (goal.at.returns-in-Repairs c).In-Repairs) c.at_most.ensures c.write.ensures in
     record {
@@ -77,6 +71,7 @@ returns-in-Repairs c =
     }
 
 pub returns-in-Cycle : goal.returns-in-Cycle
+unfolding verdict_of
 returns-in-Cycle c =
     let (h0, h1) = drafts_fatal _ _ _ _ _ _ (lossy (goal.at.returns-in-Cycle c).In-Cycle) c.write-in-Cycle.ensures in
     record {

@@ -25,7 +25,3 @@ load_column-requires c =
       sheet_len = p.sheet_len;
       notes = p.notes;
     }
-
-pub returns : goal.returns
-returns c =
-    rw (← c.load_column.ensures.erased) c.draft_column.ensures

@@ -3,7 +3,7 @@
 use mathlib.Core.Path.{◌∙◌, ap}
 use Rattle.model.specs.Grid.{rectangle}
 use Rattle.model.specs.Plan.{outcome_status, outcome_count}
-use Rattle.model.specs.declared.Outcome.{Outcome}
+use Rattle.model.specs.Outcome.{Outcome}
 use Rattle.raid2d.proofs.raid2d_plan_disk.Goals as goal
 
 pub returns : goal.returns

@@ -3,14 +3,14 @@
 use mathlib.Core.Path.{◌∙◌, ap}
 use Rattle.model.specs.Grid.{rectangle}
 use Rattle.model.specs.Save.{saving_status, saving_count}
-use Rattle.model.specs.declared.Saving.{Saving}
+use Rattle.model.specs.Saving.{Saving}
 use Rattle.raid2d.proofs.raid2d_save.Goals as goal
 
 pub returns : goal.returns
 unfolding rectangle
 returns c =
     let record { answer = answer; array = array } = c.save-answer.ensures in
-    let record { status = status; count = count } = c.report_saving.ensures in
+    let record { repairs = _; repairs_count = _; saved = status; saved_count = count } = c.report_count.ensures in
     let before = c.args.count.now in
     record {
       status = status ∙ ap saving_status answer;

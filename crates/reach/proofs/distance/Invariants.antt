@@ -2,13 +2,9 @@
 -- Assumes nothing.
 use mathlib.Core.Path.{◌≡◌}
 use mathlib.Core.Bool.{false}
-use Prim.Native.Nat.{◌-◌, ◌≤◌}
 use Rattle.reach.specs.Reached.{reached, next_in, word_stripes}
 use Rattle.reach.proofs.Search.{Searched}
 use Rattle.reach.proofs.distance.Given as goal
 
 abbrev pub invariant-loop-k : goal.invariant-loop-k
-invariant-loop-k l = (l.k ≤ l.limit) × Searched (next_in l.near) l.from l.k l.seen l.front × (reached (next_in l.near) word_stripes l.from l.k l.to ≡ false)
-
-abbrev pub decreases-loop-k : goal.decreases-loop-k
-decreases-loop-k l = l.limit - l.k
+invariant-loop-k l = Searched (next_in l.near) l.from l.k l.seen l.front × (reached (next_in l.near) word_stripes l.from l.k l.to ≡ false)

@@ -2,9 +2,8 @@
 -- Assumes nothing.
 use mathlib.Core.Path.{◌∙◌, sym, ap, refl}
 use mathlib.Core.Bool.{Bool, ◌&&◌}
-use Prim.Native.Nat.{ℕ, ◌-◌}
+use Prim.Native.Nat.{ℕ}
 use native.Mathlib.Omega.{arith}
-use borrow.Author.Rules.{rules}
 use borrow.Author.Tests.{eq-eqb, ne_eqb}
 use lib.ListN.{length, get_or}
 use Rattle.stripes.specs.Fold.{every}
@@ -19,20 +18,20 @@ returns-then-map-len c =
     let a = c.args in
     sym (ap (λ (t : Bool). t && every (length a.map.now) (small a.map.now)) (ne_eqb _ _ c.if-map-len.true))
 
-pub loop-d-init : goal.loop-d-init
+pub loop-byte-init : goal.loop-byte-init
 unfolding every
-loop-d-init c = (search rules, refl)
+loop-byte-init c = refl
 
-pub loop-d-preserved : goal.loop-d-preserved
-loop-d-preserved c =
+pub loop-byte-preserved : goal.loop-byte-preserved
+loop-byte-preserved c =
     let m = c.args.map.now in
-    let l = c.loop-d in
-    (search rules, small-next (λ d. get_or m d 0) l.d l.any l.invariant.1)
+    let l = c.loop-byte in
+    small-next (λ d. get_or m d 0) l.byte-index l.any l.invariant
 
 pub returns : goal.returns
 unfolding map_fits
 returns c =
     let m = c.args.map.now in
-    let l = c.loop-d in
-    l.invariant.1 ∙ ap (λ (n : ℕ). every n (small m)) (omega arith)
+    let l = c.loop-byte in
+    l.invariant ∙ ap (λ (n : ℕ). every n (small m)) (omega arith)
     ∙ sym (ap (λ (t : Bool). t && every (length m) (small m)) (eq-eqb _ _ c.if-map-len.false))

@@ -3,9 +3,9 @@
 use mathlib.Core.Path.{◌≡◌}
 use mathlib.Core.Bool.{Bool}
 use mathlib.Core.List.{List}
-use Prim.Native.Nat.{ℕ, ◌≤◌, ◌-◌}
+use Prim.Native.Nat.{ℕ}
 use lib.Dec.{leb}
-use lib.ListN.{length, get_or}
+use lib.ListN.{get_or}
 use Rattle.stripes.specs.Fold.{every}
 use Rattle.refusal.proofs.bytes_fit.Given as goal
 
@@ -13,8 +13,5 @@ use Rattle.refusal.proofs.bytes_fit.Given as goal
 abbrev pub small : List ℕ → ℕ → Bool
 small m d = leb (get_or m d 0) 1
 
-abbrev pub invariant-loop-d : goal.invariant-loop-d
-invariant-loop-d l = (l.d ≤ length l.map) × (leb l.any 1 ≡ every l.d (small l.map))
-
-abbrev pub decreases-loop-d : goal.decreases-loop-d
-decreases-loop-d l = length l.map - l.d
+abbrev pub invariant-loop-byte : goal.invariant-loop-byte
+invariant-loop-byte l = leb l.any 1 ≡ every l.byte-index (small l.map)

@@ -1,7 +1,6 @@
 -- `replay::all_allowed` meets its contract: each turn judges one entry.
 -- Assumes nothing.
 use mathlib.Core.Path.{◌≡◌}
-use Prim.Native.Nat.{◌-◌, ◌≤◌}
 use lib.ListN.{length}
 use Rattle.stripes.specs.Erased.{erasures}
 use Rattle.model.specs.Grid.{layout_of}
@@ -9,8 +8,5 @@ use Rattle.replay.proofs.Replayed.{Replayed}
 use Rattle.replay.proofs.all_allowed.Given as goal
 
 abbrev pub invariant-loop-k : goal.invariant-loop-k
-invariant-loop-k l = (l.k ≤ l.count) × (length l.work ≡ length l.initial.work) × (length l.counts ≡ length l.initial.counts)
-    × Replayed (layout_of l.size l.base) (erasures l.initial.work) l.list l.work l.stripes l.counts l.k
-
-abbrev pub decreases-loop-k : goal.decreases-loop-k
-decreases-loop-k l = l.count - l.k
+invariant-loop-k l = (length l.work ≡ length l.initial.work) × (length l.counts ≡ length l.initial.counts)
+    × Replayed (layout_of l.grid.size l.grid.base) (erasures l.initial.work) l.list l.work l.stripes l.counts l.k

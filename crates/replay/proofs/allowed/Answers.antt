@@ -23,17 +23,14 @@ returns-then-work-disk-ne1 c = let h = c.if-work-disk-ne1.true in sym (allowed-p
 erased : (c : goal.Else-work-disk-ne1) → let a = c.args in erasures a.work.now a.disk ≡ true
 erased c = let h = c.if-work-disk-ne1.false in is_erased _ _ (omega arith)
 
-pub stripes_of-pair-requires-clause-table : goal.stripes_of-pair-requires-clause-table
-stripes_of-pair-requires-clause-table c = c.requires.tallied.table
-
 pub stripes_of-pair-requires-clause-disk_value : goal.stripes_of-pair-requires-clause-disk_value
 stripes_of-pair-requires-clause-disk_value c = erased (goal.at.stripes_of-pair-requires-clause-disk_value c).Else-work-disk-ne1
 
 pair : (c : goal.After-stripes_of-pair) →
     let a = c.args in
-    Crossed (layout_of a.size a.base) a.disk c.stripes_of-pair.result.low c.stripes_of-pair.result.high
+    Crossed (layout_of a.grid.size a.grid.base) a.disk c.stripes_of-pair.result.low c.stripes_of-pair.result.high
 pair c =
-    erased_crossed c.requires.tallied.table _ (is_erased _ _ (let h = c.if-work-disk-ne1.false in omega arith)) (numbered_two c.requires.numbered) c.stripes_of-pair.ensures
+    erased_crossed c.requires.tallied.table _ (is_erased _ _ (let h = c.if-work-disk-ne1.false in omega arith)) (numbered_two c.args.grid.numbered) c.stripes_of-pair.ensures
 
 pub bounds-counts-low : goal.bounds-counts-low
 bounds-counts-low c = (low_held (pair (goal.at.bounds-counts-low c).After-stripes_of-pair) c.requires.tallied.counted).0

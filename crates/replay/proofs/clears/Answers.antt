@@ -22,7 +22,6 @@ clears_in-requires c =
     let few = slice_bounds-work-end (goal.at.clears_in-requires c).After-disks-disks in
     let long = length-take-le _ _ few in
     record {
-      numbered = p.numbered;
       located = record { positioned = p.positioned; room = long ∙ c.disks-disks.ensures };
       count_in_bounds = p.count_in_bounds;
       work_in_bounds = omega arith;

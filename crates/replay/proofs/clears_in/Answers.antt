@@ -23,7 +23,6 @@ tally-erased-requires c =
     let same = c.load_position.auto.work in
     let past = position_inside p.located.positioned in
     record {
-      numbered = p.numbered;
       size_in_bounds = omega arith;
       by_index = λ d l. ap (λ (e : ℕ → Bool). e d) c.load_position.ensures ∙ past d l;
       work_in_bounds = omega arith;
@@ -33,11 +32,11 @@ tally-erased-requires c =
 judged : (c : goal.After-all_allowed) →
     let a = c.args in
     let e = at_position a.sectors a.position (erasures a.map.now) in
-    c.all_allowed.result ≡ all_allowed (layout_of a.size a.base) e (listed a.list.now a.count)
+    c.all_allowed.result ≡ all_allowed (layout_of a.grid.size a.grid.base) e (listed a.list.now a.count)
 judged c =
     let a = c.args in
     c.all_allowed.ensures
-    ∙ ap (λ (e : ℕ → Bool). all_allowed (layout_of a.size a.base) e (listed a.list.now a.count)) c.load_position.ensures
+    ∙ ap (λ (e : ℕ → Bool). all_allowed (layout_of a.grid.size a.grid.base) e (listed a.list.now a.count)) c.load_position.ensures
 
 pub returns-then-not-all_allowed : goal.returns-then-not-all_allowed
 returns-then-not-all_allowed c =
@@ -47,4 +46,4 @@ pub returns : goal.returns
 returns c =
     let a = c.args in
     clears_all _ _ _ _ (sym (judged (goal.at.returns c).After-all_allowed) ∙ c.if-not-all_allowed.false) _
-    (c.tally-erased.ensures.number ∙ ap₂ count (sym (layout-disks a.size a.base)) c.load_position.ensures)
+    (c.tally-erased.ensures.number ∙ ap₂ count (sym (layout-disks a.grid.size a.grid.base)) c.load_position.ensures)

@@ -11,9 +11,5 @@ use Rattle.report.proofs.lines.Given as goal
 abbrev pub invariant-loop-k : goal.invariant-loop-k
 invariant-loop-k l =
     Printable l.list l.count
-    × (l.k ≤ l.count)
     × (l.next + 8 * (l.count - l.k) ≤ length l.out)
     × Written l.initial.out l.at (entry_lines (listed l.list l.k)) l.out l.next
-
-abbrev pub decreases-loop-k : goal.decreases-loop-k
-decreases-loop-k l = l.count - l.k

@@ -5,14 +5,6 @@ use Rattle.text.proofs.Joined.{word-length}
 use Rattle.report.proofs.Entries.{listed-written}
 use Rattle.report.proofs.listed.Goals as goal
 
-pub heading-first-requires : goal.heading-first-requires
-heading-first-requires c =
-    let few = c.requires.printable.few in
-    record {
-      letters_in_bounds = omega arith;
-      value_bound = omega arith;
-    }
-
 pub lines-requires : goal.lines-requires
 lines-requires c =
     let few = c.requires.printable.few in

@@ -7,6 +7,7 @@ use native.Mathlib.Omega.{arith}
 use Rattle.model.specs.Grid.{size_fits, sectors_fit, map_bytes, map_fits}
 use Rattle.model.proofs.Grid.{one_byte}
 use Rattle.model.specs.Listing.{repair_word, fatal_word}
+use Rattle.model.specs.Answers.{number}
 use Rattle.layout.proofs.Numbers.{numbered}
 use Rattle.text.proofs.Joined.{written_as}
 use Rattle.report.proofs.Answers.{size_refused, map_refused, repairs_printable, cycle_printable, repairs-reported, cycle-reported}
@@ -21,33 +22,27 @@ mapped : (c : goal.Else-not-map_fits) → let a = c.args in map_fits (map_bytes 
 mapped c = sym c.map_fits.ensures ∙ c.if-not-map_fits.false
 
 pub returns-then-not-size_fits : goal.returns-then-not-size_fits
+unfolding number
 returns-then-not-size_fits c =
     written_as (size_refused _ _ (sym c.size_fits.ensures ∙ c.if-not-size_fits.true))
     c.refused.ensures
-
-pub map_fits-requires-clause-size_value : goal.map_fits-requires-clause-size_value
-unfolding sectors_fit
-map_fits-requires-clause-size_value c = sized (goal.at.map_fits-requires-clause-size_value c).Else-not-size_fits
 
 pub map_fits-requires-clause-sectors_value : goal.map_fits-requires-clause-sectors_value
 unfolding sectors_fit
 map_fits-requires-clause-sectors_value c = refl
 
 pub returns-then-not-map_fits : goal.returns-then-not-map_fits
+unfolding number
 returns-then-not-map_fits c =
     written_as (map_refused _ _ (sized (goal.at.returns-then-not-map_fits c).Else-not-size_fits) (sym c.map_fits.ensures ∙ c.if-not-map_fits.true)) c.refused-then-not-map_fits.ensures
 
-pub solve-answer-requires : goal.solve-answer-requires
-solve-answer-requires c =
-    let a = c.args in
-    record {
-      numbered = numbered _ (sized (goal.at.solve-answer-requires c).Else-not-size_fits);
-      map_value = ap (λ (k : ℕ). map_fits k a.map.now) (sym (one_byte a.size)) ∙ mapped (goal.at.solve-answer-requires c).Else-not-map_fits;
-      capacity_in_bounds = omega arith;
-    }
+pub invariant_of-grid : goal.invariant_of-grid
+invariant_of-grid c = record { numbered = numbered _ (sized (goal.at.invariant_of-grid c).Else-not-size_fits) }
 
-pub listed-requires-clause-word_len_bound : goal.listed-requires-clause-word_len_bound
-listed-requires-clause-word_len_bound c = omega arith
+pub solve-answer-requires-clause-map_value : goal.solve-answer-requires-clause-map_value
+solve-answer-requires-clause-map_value c =
+    let a = c.args in
+    ap (λ (k : ℕ). map_fits k a.map.now) (sym (one_byte a.size)) ∙ mapped (goal.at.solve-answer-requires-clause-map_value c).Else-not-map_fits
 
 pub listed-requires-clause-printable : goal.listed-requires-clause-printable
 listed-requires-clause-printable c =
@@ -55,20 +50,11 @@ listed-requires-clause-printable c =
     let size = sized (goal.at.listed-requires-clause-printable c).Else-not-size_fits in
     repairs_printable _ _ size c.in-Repairs.ensures (omega arith)
 
-pub listed-requires-clause-out_len : goal.listed-requires-clause-out_len
-listed-requires-clause-out_len c = c.requires
-
-pub listed-requires-in-Cycle-clause-word_len_bound : goal.listed-requires-in-Cycle-clause-word_len_bound
-listed-requires-in-Cycle-clause-word_len_bound c = omega arith
-
 pub listed-requires-in-Cycle-clause-printable : goal.listed-requires-in-Cycle-clause-printable
 listed-requires-in-Cycle-clause-printable c =
     let same = c.solve-answer.auto.list in
     let size = sized (goal.at.listed-requires-in-Cycle-clause-printable c).Else-not-size_fits in
     cycle_printable _ _ size c.in-Cycle.ensures (omega arith)
-
-pub listed-requires-in-Cycle-clause-out_len : goal.listed-requires-in-Cycle-clause-out_len
-listed-requires-in-Cycle-clause-out_len c = c.requires
 
 pub returns-in-Repairs : goal.returns-in-Repairs
 unfolding repair_word

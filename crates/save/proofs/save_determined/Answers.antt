@@ -14,7 +14,6 @@ pub peel-made-requires : goal.peel-made-requires
 peel-made-requires c =
     let p = c.requires in
     record {
-      numbered = p.numbered;
       erased_value = p.erased_value;
       tallied_2 = p.tallied;
       capacity_in_bounds = p.capacity_in_bounds;
@@ -27,16 +26,15 @@ repair_all-requires c =
     let e = erasures a.work.now in
     let list = p.new.list in
     let (number, (left, (entries, tallied))) = none-held c.requires.tallied.table.disks_fit _ _ (p.ensures.number, (p.ensures.left, (p.ensures.list, p.ensures.tallied))) in
-    let allowed = peels a.size a.base c.requires.numbered e list p.result number entries in
-    let few = made-few a.size a.base c.requires.numbered e list p.result number entries in
+    let allowed = peels a.grid.size a.grid.base c.args.grid.numbered e list p.result number entries in
+    let few = made-few a.grid.size a.grid.base c.args.grid.numbered e list p.result number entries in
     let room = c.requires.capacity_in_bounds in
     let kept = p.auto.list in
     record {
-      numbered = c.requires.numbered;
       held = c.requires.held;
       count_in_bounds = omega arith;
-      by_index = on-disks a.size a.base e list p.result allowed;
-      by_index_2 = on_stripes a.size a.base e list p.result allowed;
+      by_index = on-disks a.grid.size a.grid.base e list p.result allowed;
+      by_index_2 = on_stripes a.grid.size a.grid.base e list p.result allowed;
     }
 
 pub sum_rest-requires : goal.sum_rest-requires
@@ -46,10 +44,9 @@ sum_rest-requires c =
     let e = erasures a.work.now in
     let list = p.new.list in
     let (number, (left, (entries, tallied))) = none-held c.requires.tallied.table.disks_fit _ _ (p.ensures.number, (p.ensures.left, (p.ensures.list, p.ensures.tallied))) in
-    let allowed = peels a.size a.base c.requires.numbered e list p.result number entries in
+    let allowed = peels a.grid.size a.grid.base c.args.grid.numbered e list p.result number entries in
     record {
-      numbered = c.requires.numbered;
-      held = still_held a.size a.base e list p.result allowed a.stretch a.array.now c.requires.held _ c.repair_all.ensures;
+      held = still_held a.grid.size a.grid.base e list p.result allowed a.stretch a.array.now c.requires.held _ c.repair_all.ensures;
       table = tallied.table;
     }
 
@@ -59,7 +56,7 @@ overflow_add-result c =
     let p = c.peel-made in
     let (number, (left, (entries, tallied))) = none-held c.requires.tallied.table.disks_fit _ _ (p.ensures.number, (p.ensures.left, (p.ensures.list, p.ensures.tallied))) in
     let few =
-    number-few a.size a.base c.requires.numbered (erasures a.work.now) p.new.list p.result number entries _ c.sum_rest.ensures.number in
+    number-few a.grid.size a.grid.base c.args.grid.numbered (erasures a.work.now) p.new.list p.result number entries _ c.sum_rest.ensures.number in
     omega arith
 
 -- The array that is passed holds bytes.
@@ -73,7 +70,7 @@ returns c =
     let (number, (left, (entries, tallied))) = none-held c.requires.tallied.table.disks_fit _ _ (p.ensures.number, (p.ensures.left, (p.ensures.list, p.ensures.tallied))) in
     let small = small (goal.at.returns c).After-peel-made in
     let summed = c.sum_rest.ensures in
-    let (h0, h1) = all_saved a.size a.base c.requires.numbered (erasures a.work.now) p.new.list p.result number entries a.stretch a.array.now
+    let (h0, h1) = all_saved a.grid.size a.grid.base c.args.grid.numbered (erasures a.work.now) p.new.list p.result number entries a.stretch a.array.now
     c.requires.held small c.requires.array_value c.repair_all.ensures left summed.number summed.array in
     record {
       number = h0;

@@ -13,7 +13,6 @@ tally-erased-requires c =
     let table = room.table_fits in
     let kept = c.load_position.auto.work in
     record {
-      numbered = p.numbered;
       size_in_bounds = omega arith;
       by_index = loaded_inside located.positioned _ c.load_position.ensures;
       work_in_bounds = omega arith;
@@ -26,7 +25,6 @@ save_determined-requires c =
     let record { number = number; tallied = tallied } = c.tally-erased.ensures in
     let fit = rw (← c.load_position.ensures) at p.array_value in
     record {
-      numbered = p.numbered;
       held = p.held;
       erased_value = number;
       tallied = tallied;

@@ -22,13 +22,12 @@ slice_bounds-save_in-end c =
 
 pub save_in-requires : goal.save_in-requires
 save_in-requires c =
-    let record { numbered = numbered; held = held; positioned = positioned; array_value = fit } = c.requires in
+    let record { held = held; positioned = positioned; array_value = fit } = c.requires in
     let few = disks-few positioned in
     let all = c.disks-disks.ensures in
     record {
-      numbered = numbered;
       held = held;
       located = record { positioned = positioned; room = length-take-le _ _ (omega arith) ∙ all };
-      room = position_room positioned c.args.base (length-take-le _ _ (omega arith) ∙ all) refl refl (search rules);
+      room = position_room positioned c.args.grid.base (length-take-le _ _ (omega arith) ∙ all) refl refl (search rules);
       array_value = fit;
     }

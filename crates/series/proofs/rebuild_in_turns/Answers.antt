@@ -9,6 +9,8 @@ use lib.ListN.{length, take, drop}
 use Rattle.stripes.specs.Sectors.{sectored}
 use Rattle.model.specs.Plan.{sheet_layout}
 use Rattle.model.specs.Rebuild.{rebuild_turn}
+use Rattle.model.specs.Answers.{number, outcome_of}
+use Rattle.series.specs.Total.{total_of_turns}
 use Rattle.series.proofs.Ends.{positions-bound}
 use Rattle.series.proofs.Progress.{begins, ends, inside, ready, fewer, goes}
 use Rattle.series.proofs.rebuild_in_turns.Goals.{In-loop-done}
@@ -29,6 +31,7 @@ nonzero_div-done c =
     omega arith
 
 pub loop-done-init : goal.loop-done-init
+unfolding outcome_of number
 loop-done-init c =
     let a = c.args in
     let is = ap (λ (n : ℕ). 98 * n) c.positions-bytes.ensures in
@@ -68,7 +71,7 @@ loop-done-smaller c =
     let a = c.args in
     let bytes : ℕ = 98 * c.positions-bytes.result in
     let at : ℕ = bytes * c.loop-done.done.turns in
-    fewer (sectored (a.block / a.sector) (sheet_layout a.size)) c.loop-done.done _
+    fewer (sectored (a.block / a.sector) (sheet_layout a.size)) (total_of_turns c.loop-done.done) _
     (rebuild_turn a.size a.block a.sector c.loop-done.array c.loop-done.map (take (at + bytes - at) (drop at c.loop-done.sheets)) a.limit)
     c.turn-done.ensures.turns c.loop-done-test.true
 

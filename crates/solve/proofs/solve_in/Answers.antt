@@ -12,13 +12,12 @@ returns-then-found-eq0 c = solves_repairs c.peel-found.ensures c.if-found-eq0.tr
 
 pub show-requires : goal.show-requires
 show-requires c =
-    let few = map-few _ _ c.requires.numbered _ c.requires.map_value in
-    let long = map-disks _ c.args.base _ c.requires.map_value in
+    let few = map-few _ _ c.args.grid.numbered _ c.requires.map_value in
+    let long = map-disks _ c.args.grid.base _ c.requires.map_value in
     let room = c.requires.room.disks_fit in
     let kept = c.peel-found.auto in
     let fits = c.requires.room.list_fits in
     record {
-      numbered = c.requires.numbered;
       table = c.peel-found.ensures.table;
       work_value = left-lossy c.peel-found.ensures c.if-found-eq0.false;
       work_len_bound = omega arith;
@@ -27,5 +26,5 @@ show-requires c =
 
 pub returns : goal.returns
 returns c =
-    solves_cycle c.peel-found.ensures c.if-found-eq0.false (layout-two c.args.size c.args.base c.requires.numbered.above)
+    solves_cycle c.peel-found.ensures c.if-found-eq0.false (layout-two c.args.grid.size c.args.grid.base c.args.grid.numbered.above)
     c.undetermined_count-lost.ensures _ c.show.ensures.number c.show.ensures.list

@@ -1,4 +1,4 @@
--- `save::judge::position_fits` meets its contract: the position is loaded, and its survivors are judged.
+-- `survivors::position_fits` meets its contract: the position is loaded, and its survivors are judged.
 -- Assumes nothing.
 use mathlib.Core.Path.{◌≡◌, sym, ◌∙◌}
 use native.Mathlib.Omega.{arith}
@@ -36,7 +36,6 @@ tally-requires c =
     let all = c.disks-disks.ensures in
     let long : length c.load_position.new.work ≡ c.disks-disks.result = c.load_position.auto.work ∙ length-take-le _ _ (omega arith) in
     record {
-      numbered = p.numbered;
       size_in_bounds = omega arith;
       by_index = loaded_inside p.positioned _ c.load_position.ensures;
       work_in_bounds = omega arith;

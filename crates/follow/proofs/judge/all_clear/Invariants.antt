@@ -2,7 +2,6 @@
 -- Assumes nothing.
 use mathlib.Core.Path.{◌≡◌}
 use mathlib.Core.Bool.{true}
-use Prim.Native.Nat.{◌-◌, ◌≤◌}
 use lib.ListN.{length}
 use Rattle.stripes.specs.Fold.{every}
 use Rattle.stripes.specs.Erased.{erasures}
@@ -11,7 +10,4 @@ use Rattle.follow.proofs.Judged.{clearsAt}
 use Rattle.follow.proofs.judge.all_clear.Given as goal
 
 abbrev pub invariant-loop-p : goal.invariant-loop-p
-invariant-loop-p l = (l.p ≤ l.sectors) × (length l.list ≡ 32) × (every l.p (clearsAt l.sectors (layout_of l.size l.base) (erasures l.map) l.sheets) ≡ true)
-
-abbrev pub decreases-loop-p : goal.decreases-loop-p
-decreases-loop-p l = l.sectors - l.p
+invariant-loop-p l = (length l.list ≡ 32) × (every l.p (clearsAt l.sectors (layout_of l.grid.size l.grid.base) (erasures l.map) l.sheets) ≡ true)

@@ -1,83 +1,76 @@
 -- `parts::join::join_all` meets its contract: each turn of the loop joins the stripes of one erased disk.
 -- Assumes nothing.
-use mathlib.Core.Path.{◌≡◌, refl}
-use mathlib.Core.Bool.{true}
+use mathlib.Core.Path.{◌≡◌, ◌∙◌}
+use native.Mathlib.Nat.{le_refl}
 use native.Mathlib.Omega.{arith}
 use borrow.Author.Rules.{rules}
 use Rattle.stripes.specs.Erased.{erasures}
 use Rattle.model.specs.Grid.{layout_of}
 use Rattle.layout.proofs.Runs.{numbered_two, stripes_few}
-use Rattle.tally.specs.Tally.{Passed}
-use Rattle.tally.proofs.Scanned.{next_passed, next_erased_lem}
+use Rattle.tally.proofs.Scanned.{Turned, turned, ended}
 use Rattle.tally.proofs.Counted.{Crossed, erased_crossed}
 use Rattle.parts.specs.Parted.{Parted}
 use Rattle.parts.proofs.Parted.{parted-none, parted_over, parted-next, parted_all}
-use Rattle.parts.proofs.join.join_all.Goals.{After-next_erased-d, After-stripes_of-pair, Else-work-d}
+use Rattle.parts.proofs.join.join_all.Goals.{In-Some, After-stripes_of-pair}
 use Rattle.parts.proofs.join.join_all.Goals as goal
 
-pub start-requires : goal.start-requires
-start-requires c =
+pub start-requires-clause-bound_bound : goal.start-requires-clause-bound_bound
+start-requires-clause-bound_bound c =
     let is = c.bound-bound.ensures in
-    let few = stripes_few c.requires.numbered in
-    record {
-      bound_in_bounds = omega (arith, c.requires.base_in_bounds);
-      bound_bound = omega arith;
-    }
+    let few = stripes_few c.args.grid.numbered in
+    omega arith
 
-pub loop-size-init : goal.loop-size-init
-loop-size-init c =
+pub loop-d-init : goal.loop-d-init
+loop-d-init c =
     let same = c.start.auto.parts in
-    (parted-none _ (omega (arith, c.requires.base_in_bounds)) c.bound-bound.ensures c.start.ensures, omega arith, refl)
+    let begun : c.into_iter-d-iterator.result ≡ c.erased-d-items.result = c.into_iter-d-iterator.ensures.into_iter_gives in
+    let first : c.into_iter-d-iterator.result.from ≡ 0 = cc (begun, c.erased-d-items.ensures.start) in (
+      tt,
+      tt,
+      cc (begun, c.erased-d-items.ensures.map),
+      rw first (parted-none _ (omega (arith, c.requires.base_in_bounds)) c.bound-bound.ensures c.start.ensures),
+      search rules,
+    )
 
--- The disks that a turn passes over.
-passed : (c : goal.After-next_erased-d) → Passed c.args.work.now c.loop-size.from c.next_erased-d.result
-passed c = next_passed _ _ c.next_erased-d.ensures c.loop-size.invariant.1
+-- The turn of the loop.
+turn : (c : goal.In-Some) → Turned c.args.work.now c.loop-d.d-iterator.from c.in-Some.d c.next.new.self.from
+turn c = turned c.loop-d.invariant.2 c.in-Some.ensures.steps.1
 
-over : (c : goal.After-next_erased-d) →
+over : (c : goal.In-Some) →
     let a = c.args in
-    Parted (layout_of a.size a.base) (erasures a.work.now) c.next_erased-d.result c.loop-size.parts
-over c = parted_over _ _ (passed c).after (passed c).none c.loop-size.invariant.0
-
-pub returns-then-work-d : goal.returns-then-work-d
-returns-then-work-d c = parted_all c.requires.table c.if-work-d.true (over (goal.at.returns-then-work-d c).After-next_erased-d)
-
--- The disk of a turn is erased.
-erased : (c : goal.Else-work-d) → erasures c.args.work.now c.next_erased-d.result ≡ true
-erased c = next_erased_lem _ _ c.next_erased-d.ensures (search rules)
-
-pub stripes_of-pair-requires-clause-table : goal.stripes_of-pair-requires-clause-table
-stripes_of-pair-requires-clause-table c = c.requires.table
-
-pub stripes_of-pair-requires-clause-disk_value : goal.stripes_of-pair-requires-clause-disk_value
-stripes_of-pair-requires-clause-disk_value c = erased (goal.at.stripes_of-pair-requires-clause-disk_value c).Else-work-d
+    Parted (layout_of a.grid.size a.grid.base) (erasures a.work.now) c.in-Some.d c.loop-d.parts
+over c = let p = (turn c).passed in parted_over _ _ p.after p.none c.loop-d.invariant.3
 
 -- The disk with its stripes.
 pair : (c : goal.After-stripes_of-pair) →
     let a = c.args in
-    Crossed (layout_of a.size a.base) c.next_erased-d.result c.stripes_of-pair.result.low c.stripes_of-pair.result.high
+    Crossed (layout_of a.grid.size a.grid.base) c.in-Some.d c.stripes_of-pair.result.low c.stripes_of-pair.result.high
 pair c =
-    erased_crossed c.requires.table _ (next_erased_lem _ _ c.next_erased-d.ensures (search rules)) (numbered_two c.requires.numbered) c.stripes_of-pair.ensures
+    erased_crossed c.requires.table _ (turned c.loop-d.invariant.2 c.in-Some.ensures.steps.1).erased (numbered_two c.args.grid.numbered) c.stripes_of-pair.ensures
 
 pub unite-requires : goal.unite-requires
 unite-requires c =
     let is = c.bound-bound.ensures in
-    let fits = c.loop-size.invariant.0.stripes_fit in
+    let fits = c.loop-d.invariant.3.stripes_fit in
     record {
       bound_in_bounds = omega arith;
       low_lt_bound = omega (arith, (pair (goal.at.unite-requires c).After-stripes_of-pair).low_bound);
       high_lt_bound = omega (arith, (pair (goal.at.unite-requires c).After-stripes_of-pair).high_bound);
     }
 
-pub overflow_add-from : goal.overflow_add-from
-overflow_add-from c = omega (arith, c.if-work-d.false)
-
-pub loop-size-smaller : goal.loop-size-smaller
-loop-size-smaller c = omega (arith, c.if-work-d.false, (passed (goal.at.loop-size-smaller c).After-next_erased-d).after)
-
-pub loop-size-preserved : goal.loop-size-preserved
-loop-size-preserved c =
+pub loop-d-preserved : goal.loop-d-preserved
+loop-d-preserved c =
+    let at = goal.at.loop-d-preserved c in
+    let t = turn at.In-Some in
     let unite = c.unite in (
-      parted-next (erased (goal.at.loop-size-preserved c).Else-work-d) (pair (goal.at.loop-size-preserved c).After-stripes_of-pair) (over (goal.at.loop-size-preserved c).After-next_erased-d) unite.auto.parts c.bound-bound.ensures unite.ensures,
-      omega (arith, c.if-work-d.false),
-      search rules,
+      tt,
+      tt,
+      cc (c.next.ensures.steps.0, c.loop-d.invariant.2),
+      rw t.goes (parted-next t.erased (pair at.After-stripes_of-pair) (over at.In-Some) unite.auto.parts c.bound-bound.ensures unite.ensures),
+      unite.auto.parts ∙ c.loop-d.invariant.4,
     )
+
+pub returns : goal.returns
+returns c =
+    let p = ended c.loop-d.invariant.2 c.in-None.ensures.steps.1 in
+    parted_all c.requires.table (le_refl _) (parted_over _ _ p.after p.none c.loop-d.invariant.3)

@@ -15,18 +15,12 @@ use Rattle.parts.proofs.link.link.Goals as goal
 -- The disk with its stripes.
 pair : (c : goal.After-stripes_of-pair) →
     let a = c.args in
-    Crossed (layout_of a.size a.base) a.disk c.stripes_of-pair.result.low c.stripes_of-pair.result.high
+    Crossed (layout_of a.grid.size a.grid.base) a.disk c.stripes_of-pair.result.low c.stripes_of-pair.result.high
 pair c =
-    erased_crossed c.requires.table _ c.requires.disk_value (numbered_two c.requires.numbered) c.stripes_of-pair.ensures
-
-pub offset_bounds-ways-low : goal.offset_bounds-ways-low
-offset_bounds-ways-low c = omega (arith, stripes_few c.requires.numbered, (pair (goal.at.offset_bounds-ways-low c).After-stripes_of-pair).low_bound)
+    erased_crossed c.requires.table _ c.requires.disk_value (numbered_two c.args.grid.numbered) c.stripes_of-pair.ensures
 
 pub bounds-ways-low : goal.bounds-ways-low
 bounds-ways-low c = (crossed_places (pair (goal.at.bounds-ways-low c).After-stripes_of-pair) c.requires.walked.stripes_fit).0
-
-pub offset_bounds-ways-high : goal.offset_bounds-ways-high
-offset_bounds-ways-high c = omega (arith, stripes_few c.requires.numbered, (pair (goal.at.offset_bounds-ways-high c).After-stripes_of-pair).high_bound)
 
 pub bounds-ways-high : goal.bounds-ways-high
 bounds-ways-high c = (crossed_places (pair (goal.at.bounds-ways-high c).After-stripes_of-pair) c.requires.walked.stripes_fit).1
@@ -53,26 +47,12 @@ returns-then-parts-low c =
 old-small : (c : goal.After-stripes_of-pair) → get_or c.args.parts.now c.stripes_of-pair.result.high 0 < 64
 old-small c =
     let e = c.requires in
-    let few = stripes_few e.numbered in
-    let small = name_small e.parted (numbered_two e.numbered) (omega (arith, (pair c).disk)) _ (pair c).high_bound in
+    let few = stripes_few c.args.grid.numbered in
+    let small = name_small e.parted (numbered_two c.args.grid.numbered) (omega (arith, (pair c).disk)) _ (pair c).high_bound in
     omega arith
 
 pub alone-own-requires : goal.alone-own-requires
 alone-own-requires c = old-small (goal.at.alone-own-requires c).After-stripes_of-pair
-
-pub bound-bound-requires : goal.bound-bound-requires
-bound-bound-requires c = c.requires.numbered
-
-pub extend-requires : goal.extend-requires
-extend-requires c =
-    let e = c.requires in
-    let is = c.bound-bound.ensures in
-    let parts = e.parted.stripes_fit in
-    let ways = e.walked.stripes_fit in
-    record {
-      bound_in_bounds = omega arith;
-      bound_in_bounds_2 = omega arith;
-    }
 
 pub unite-requires : goal.unite-requires
 unite-requires c =

@@ -1,88 +1,79 @@
 -- `parts::link::link_all` meets its contract: each turn of the loop links one erased disk.
 -- Assumes nothing.
-use mathlib.Core.Path.{◌≡◌, refl}
-use mathlib.Core.Bool.{true}
+use mathlib.Core.Path.{◌≡◌, ◌∙◌, refl}
+use native.Mathlib.Nat.{le_refl}
 use native.Mathlib.Omega.{arith}
 use borrow.Author.Rules.{rules}
 use Rattle.stripes.specs.Erased.{erasures}
 use Rattle.model.specs.Grid.{layout_of}
 use Rattle.layout.proofs.Runs.{stripes_few}
-use Rattle.tally.specs.Tally.{Passed}
-use Rattle.tally.proofs.Scanned.{next_passed, next_erased_lem}
+use Rattle.tally.proofs.Scanned.{Turned, turned, ended}
 use Rattle.parts.proofs.Parted.{Linking, parted-none, walked_none, linking_none, linking_over, linking_next, linking_all}
-use Rattle.parts.proofs.link.link_all.Goals.{After-next_erased-d, Else-work-d}
+use Rattle.parts.proofs.link.link_all.Goals.{In-Some}
 use Rattle.parts.proofs.link.link_all.Goals as goal
 
-pub start-requires : goal.start-requires
-start-requires c =
+pub start-requires-clause-bound_bound : goal.start-requires-clause-bound_bound
+start-requires-clause-bound_bound c =
     let is = c.bound-bound.ensures in
-    let few = stripes_few c.requires.numbered in
-    record {
-      bound_in_bounds = omega (arith, c.requires.base_in_bounds);
-      bound_bound = omega arith;
-    }
+    let few = stripes_few c.args.grid.numbered in
+    omega arith
 
-pub clear-requires : goal.clear-requires
-clear-requires c =
-    let is = c.bound-bound.ensures in
-    omega (arith, c.requires.base_in_bounds_2)
-
-pub loop-size-init : goal.loop-size-init
-loop-size-init c =
+pub loop-d-init : goal.loop-d-init
+loop-d-init c =
     let parts = c.start.auto.parts in
     let ways = c.clear.auto.ways in
-    let is = c.bound-bound.ensures in (
-      linking_none (parted-none _ (omega (arith, c.requires.base_in_bounds)) is c.start.ensures)
-          (walked_none _ (omega (arith, c.requires.base_in_bounds_2)) is c.clear.ensures) refl,
-      omega arith,
-      refl,
-      refl,
+    let is = c.bound-bound.ensures in
+    let begun : c.into_iter-d-iterator.result ≡ c.erased-d-items.result = c.into_iter-d-iterator.ensures.into_iter_gives in
+    let first : c.into_iter-d-iterator.result.from ≡ 0 = cc (begun, c.erased-d-items.ensures.start) in (
+      tt,
+      tt,
+      cc (begun, c.erased-d-items.ensures.map),
+      rw first
+          (linking_none (parted-none _ (omega (arith, c.requires.base_in_bounds)) is c.start.ensures)
+          (walked_none _ (omega (arith, c.requires.base_in_bounds_2)) is c.clear.ensures) refl),
+      search rules,
+      search rules,
     )
 
--- The disks that a turn passes over.
-passed : (c : goal.After-next_erased-d) → Passed c.args.work.now c.loop-size.from c.next_erased-d.result
-passed c = next_passed _ _ c.next_erased-d.ensures c.loop-size.invariant.1
+-- The turn of the loop.
+turn : (c : goal.In-Some) → Turned c.args.work.now c.loop-d.d-iterator.from c.in-Some.d c.next.new.self.from
+turn c = turned c.loop-d.invariant.2 c.in-Some.ensures.steps.1
 
-over : (c : goal.After-next_erased-d) →
+over : (c : goal.In-Some) →
     let a = c.args in
-    Linking (layout_of a.size a.base) (erasures a.work.now) c.next_erased-d.result c.loop-size.parts c.loop-size.ways c.loop-size.closed
-over c = linking_over _ _ (passed c).after (passed c).none c.loop-size.invariant.0
+    Linking (layout_of a.grid.size a.grid.base) (erasures a.work.now) c.in-Some.d c.loop-d.parts c.loop-d.ways c.loop-d.closed
+over c = let p = (turn c).passed in linking_over _ _ p.after p.none c.loop-d.invariant.3
 
-pub returns-then-work-d : goal.returns-then-work-d
-returns-then-work-d c =
-    let l = linking_all c.requires.table c.if-work-d.true (over (goal.at.returns-then-work-d c).After-next_erased-d) in
+pub link-closed-requires : goal.link-closed-requires
+link-closed-requires c =
+    let at = goal.at.link-closed-requires c in
+    let now = over at.In-Some in
+    record {
+      table = c.requires.table;
+      disk_value = (turn at.In-Some).erased;
+      parted = now.parted;
+      walked = now.walked;
+    }
+
+pub loop-d-preserved : goal.loop-d-preserved
+loop-d-preserved c =
+    let at = goal.at.loop-d-preserved c in
+    let t = turn at.In-Some in
+    let link = c.link-closed in (
+      tt,
+      tt,
+      cc (c.next.ensures.steps.0, c.loop-d.invariant.2),
+      rw t.goes (linking_next (over at.In-Some) t.erased link.ensures.parts link.ensures.ways link.ensures.answer),
+      link.auto.parts ∙ c.loop-d.invariant.4,
+      link.auto.ways ∙ c.loop-d.invariant.5,
+    )
+
+pub returns : goal.returns
+returns c =
+    let p = ended c.loop-d.invariant.2 c.in-None.ensures.steps.1 in
+    let l = linking_all c.requires.table (le_refl _) (linking_over _ _ p.after p.none c.loop-d.invariant.3) in
     record {
       parts = l.parted;
       ways = l.walked;
       answer = l.closed;
     }
-
--- The disk of a turn is erased.
-erased : (c : goal.Else-work-d) → erasures c.args.work.now c.next_erased-d.result ≡ true
-erased c = next_erased_lem _ _ c.next_erased-d.ensures (search rules)
-
-pub link-closed-requires : goal.link-closed-requires
-link-closed-requires c =
-    let now = over (goal.at.link-closed-requires c).After-next_erased-d in
-    record {
-      numbered = c.requires.numbered;
-      table = c.requires.table;
-      disk_value = erased (goal.at.link-closed-requires c).Else-work-d;
-      parted = now.parted;
-      walked = now.walked;
-    }
-
-pub overflow_add-from : goal.overflow_add-from
-overflow_add-from c = omega (arith, c.if-work-d.false)
-
-pub loop-size-smaller : goal.loop-size-smaller
-loop-size-smaller c = omega (arith, c.if-work-d.false, (passed (goal.at.loop-size-smaller c).After-next_erased-d).after)
-
-pub loop-size-preserved : goal.loop-size-preserved
-loop-size-preserved c =
-    let link = c.link-closed in (
-      linking_next (over (goal.at.loop-size-preserved c).After-next_erased-d) (erased (goal.at.loop-size-preserved c).Else-work-d) link.ensures.parts link.ensures.ways link.ensures.answer,
-      omega (arith, c.if-work-d.false),
-      search rules,
-      search rules,
-    )

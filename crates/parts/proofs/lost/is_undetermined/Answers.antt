@@ -1,10 +1,9 @@
 -- `parts::lost::is_undetermined` meets its contract: the two stripes of the disk have their places in the table.
 -- Assumes nothing.
 use mathlib.Core.Path.{◌∙◌}
-use native.Mathlib.Omega.{arith}
 use Rattle.stripes.specs.Fold.{◌⊕◌}
 use Rattle.model.specs.Grid.{layout_of}
-use Rattle.layout.proofs.Runs.{numbered_two, stripes_few}
+use Rattle.layout.proofs.Runs.{numbered_two}
 use Rattle.tally.proofs.Counted.{Crossed, erased_crossed}
 use Rattle.parts.proofs.Parted.{crossed_places}
 use Rattle.parts.proofs.Read.{read_undetermined}
@@ -14,18 +13,12 @@ use Rattle.parts.proofs.lost.is_undetermined.Goals as goal
 -- The disk with its stripes.
 pair : (c : goal.After-stripes_of-pair) →
     let a = c.args in
-    Crossed (layout_of a.size a.base) a.disk c.stripes_of-pair.result.low c.stripes_of-pair.result.high
+    Crossed (layout_of a.grid.size a.grid.base) a.disk c.stripes_of-pair.result.low c.stripes_of-pair.result.high
 pair c =
-    erased_crossed c.requires.table _ c.requires.disk_value (numbered_two c.requires.numbered) c.stripes_of-pair.ensures
-
-pub offset_bounds-ways-low : goal.offset_bounds-ways-low
-offset_bounds-ways-low c = omega (arith, stripes_few c.requires.numbered, (pair (goal.at.offset_bounds-ways-low c).After-stripes_of-pair).low_bound)
+    erased_crossed c.requires.table _ c.requires.disk_value (numbered_two c.args.grid.numbered) c.stripes_of-pair.ensures
 
 pub bounds-ways-low : goal.bounds-ways-low
 bounds-ways-low c = (crossed_places (pair (goal.at.bounds-ways-low c).After-stripes_of-pair) c.requires.walked.stripes_fit).0
-
-pub offset_bounds-ways-high : goal.offset_bounds-ways-high
-offset_bounds-ways-high c = omega (arith, stripes_few c.requires.numbered, (pair (goal.at.offset_bounds-ways-high c).After-stripes_of-pair).high_bound)
 
 pub bounds-ways-high : goal.bounds-ways-high
 bounds-ways-high c = (crossed_places (pair (goal.at.bounds-ways-high c).After-stripes_of-pair) c.requires.walked.stripes_fit).1

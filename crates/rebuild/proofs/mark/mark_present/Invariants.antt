@@ -1,7 +1,6 @@
 -- `rebuild::mark::mark_present` meets its contract: after p turns the sectors of the repairs of the first p positions are present.
 -- Assumes nothing.
 use mathlib.Core.Path.{◌≡◌}
-use Prim.Native.Nat.{◌≤◌, ◌-◌}
 use lib.ListN.{length}
 use Rattle.stripes.specs.Repair.{map_after}
 use Rattle.stripes.specs.Sectors.{rising}
@@ -10,8 +9,5 @@ use Rattle.model.specs.Chain.{chain_entries}
 use Rattle.rebuild.proofs.mark.mark_present.Given as goal
 
 abbrev pub invariant-loop-p : goal.invariant-loop-p
-invariant-loop-p l = (l.p ≤ l.sectors) × (length l.list ≡ 32)
+invariant-loop-p l = (length l.list ≡ 32)
     × (l.map ≡ map_after l.initial.map (rising l.sectors (λ q. chain_entries narrow (sheet_at narrow q l.sheets)) l.p))
-
-abbrev pub decreases-loop-p : goal.decreases-loop-p
-decreases-loop-p l = l.sectors - l.p

@@ -8,17 +8,6 @@ use Rattle.stripes.specs.Erased.{erasures}
 use Rattle.rebuild.proofs.Made.{nothing_tested, all_tested, made_array}
 use Rattle.rebuild.proofs.turn.make.Goals as goal
 
-pub repair_positions-requires : goal.repair_positions-requires
-repair_positions-requires c =
-    let p = c.requires in
-    record {
-      numbered = p.numbered;
-      sectored = p.sectored;
-      sheets_len = p.sheets_len;
-      by_index = p.by_index;
-      peels = p.peels;
-    }
-
 pub returns-then-made-count : goal.returns-then-made-count
 returns-then-made-count c =
     let a = c.args in
@@ -29,18 +18,6 @@ returns-then-made-count c =
     record {
       answer = sym (ap not (nothing_tested _ a.map.now _ c.requires.peels (whole a.sector) a.array.now (omega arith)));
       array = c.repair_positions.ensures;
-    }
-
-pub restore-requires : goal.restore-requires
-restore-requires c =
-    let p = c.requires in
-    record {
-      numbered = p.numbered;
-      sectored = p.sectored;
-      map_value = p.map_value;
-      sheets_len = p.sheets_len;
-      by_index = p.by_index;
-      peels = p.peels;
     }
 
 pub returns : goal.returns

@@ -31,12 +31,12 @@ cut : (s : goal.Start) → s.args.block ≡ s.args.block / s.args.sector * s.arg
 cut s = sector-cut s.args.block s.args.sector s.requires.sectored.sector
 
 sized : (s : goal.Start)
-    → length s.args.array.now ≡ (layout_of s.args.size s.args.base).disks * s.args.block
-sized s = s.requires.sectored.sized ∙ ap (λ (n : ℕ). n * s.args.block) (sym (layout-disks s.args.size s.args.base))
+    → length s.args.array.now ≡ (layout_of s.args.grid.size s.args.grid.base).disks * s.args.block
+sized s = s.requires.sectored.sized ∙ ap (λ (n : ℕ). n * s.args.block) (sym (layout-disks s.args.grid.size s.args.grid.base))
 
 -- The array keeps its length.
 kept : (c : goal.In-loop-p) → length c.loop-p.array ≡ length c.args.array.now
-kept c = ap length c.loop-p.invariant.2 ∙ length-rebuilt _ _ _ _
+kept c = ap length c.loop-p.invariant.1 ∙ length-rebuilt _ _ _ _
 
 -- The stretch of the position lies within the block.
 inside : (c : goal.In-loop-p) → let a = c.args in
@@ -52,8 +52,7 @@ pub loop-p-init : goal.loop-p-init
 loop-p-init c =
     let a = c.args in (
       search rules,
-      search rules,
-      positions-none (a.block / a.sector) a.sector a.block (cut (goal.at.loop-p-init c).Start) (layout_of a.size a.base) a.array.now (sized (goal.at.loop-p-init c).Start) _,
+      positions-none (a.block / a.sector) a.sector a.block (cut (goal.at.loop-p-init c).Start) (layout_of a.grid.size a.grid.base) a.array.now (sized (goal.at.loop-p-init c).Start) _,
     )
 
 pub list-count-requires : goal.list-count-requires
@@ -65,9 +64,6 @@ list-count-requires c =
       records_in_bounds = search rules;
       sheet_value = ap (chain_refusal narrow) is ∙ c.requires.by_index c.loop-p.p place;
     }
-
-pub overflow_mul-stretch : goal.overflow_mul-stretch
-overflow_mul-stretch c = let h = inside (goal.at.overflow_mul-stretch c).In-loop-p in omega arith
 
 -- The list has the entries of the sheet, and they are allowed at the position.
 lists : (c : goal.After-list-count) →
@@ -81,13 +77,13 @@ lists c =
 allowed-there : (c : goal.After-list-count) →
     let a = c.args in
     let r = c.list-count in
-    Peels (layout_of a.size a.base) (at_position (a.block / a.sector) c.loop-p.p (erasures a.map.now))
+    Peels (layout_of a.grid.size a.grid.base) (at_position (a.block / a.sector) c.loop-p.p (erasures a.map.now))
     (listed r.new.list r.result)
 unfolding sheets_entries
 allowed-there c =
     let a = c.args in
     rw (lists c)
-    (peels_at (a.block / a.sector) (layout_of a.size a.base) (erasures a.map.now) _ c.requires.peels c.loop-p.p
+    (peels_at (a.block / a.sector) (layout_of a.grid.size a.grid.base) (erasures a.map.now) _ c.requires.peels c.loop-p.p
     c.loop-p-test.true)
 
 few : (c : goal.After-list-count) → c.list-count.result ≤ 32
@@ -104,26 +100,24 @@ repair_all-requires c =
     let e = at_position (a.block / a.sector) c.loop-p.p (erasures a.map.now) in
     let most = few (goal.at.repair_all-requires c).After-list-count in
     record {
-      numbered = c.requires.numbered;
       held = record {
         inside = inside (goal.at.repair_all-requires c).In-loop-p;
         block = c.requires.sectored.block;
         sized = kept (goal.at.repair_all-requires c).In-loop-p ∙ c.requires.sectored.sized;
       };
       count_in_bounds = search rules;
-      by_index = on-disks a.size a.base e r.new.list r.result (allowed-there (goal.at.repair_all-requires c).After-list-count);
-      by_index_2 = on_stripes a.size a.base e r.new.list r.result (allowed-there (goal.at.repair_all-requires c).After-list-count);
+      by_index = on-disks a.grid.size a.grid.base e r.new.list r.result (allowed-there (goal.at.repair_all-requires c).After-list-count);
+      by_index_2 = on_stripes a.grid.size a.grid.base e r.new.list r.result (allowed-there (goal.at.repair_all-requires c).After-list-count);
     }
 
 pub loop-p-preserved : goal.loop-p-preserved
 loop-p-preserved c =
     let a = c.args in
-    let L = layout_of a.size a.base in (
-      search rules,
+    let L = layout_of a.grid.size a.grid.base in (
       search rules,
       c.repair_all.ensures ∙ ap (rebuilt L (stretch_at a.block a.sector c.loop-p.p) c.loop-p.array) (lists (goal.at.loop-p-preserved c).After-list-count)
           ∙ positions-next (a.block / a.sector) a.sector a.block (cut (goal.at.loop-p-preserved c).Start) L a.array.now (sized (goal.at.loop-p-preserved c).Start) _ c.loop-p.p
-          c.loop-p-test.true c.loop-p.array c.loop-p.invariant.2,
+          c.loop-p-test.true c.loop-p.array c.loop-p.invariant.1,
     )
 
 pub returns : goal.returns
@@ -132,7 +126,7 @@ returns c =
     let a = c.args in
     let n = a.block / a.sector in
     let all : c.loop-p.p ≡ n = omega arith in
-    c.loop-p.invariant.2
+    c.loop-p.invariant.1
     ∙ ap (λ (k : ℕ).
-    rebuilt (sectored n (layout_of a.size a.base)) (whole a.sector) a.array.now
+    rebuilt (sectored n (layout_of a.grid.size a.grid.base)) (whole a.sector) a.array.now
     (rising n (λ q. chain_entries narrow (sheet_at narrow q a.sheets.now)) k)) all

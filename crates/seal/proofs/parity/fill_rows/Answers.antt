@@ -3,9 +3,7 @@
 use mathlib.Core.Path.{◌≡◌, refl, ◌∙◌, ap}
 use Prim.Native.Nat.{◌*◌}
 use native.Mathlib.Omega.{arith}
-use borrow.Author.Rules.{rules}
 use lib.ListN.{length}
-use Rattle.model.proofs.Grid.{size_fits_lem}
 use Rattle.model.proofs.Refusal.{ArrayFits}
 use Rattle.model.proofs.Seal.{seal_fits}
 use Rattle.xor.specs.Strided.{Spaced}
@@ -20,7 +18,7 @@ sized s = seal_fits _ _ _ s.requires
 
 -- The array keeps its length.
 kept : (c : goal.In-loop-row) → length c.loop-row.array ≡ length c.args.array.now
-kept c = ap length c.loop-row.invariant.1 ∙ rows-length _ _ _ c.loop-row.row
+kept c = ap length c.loop-row.invariant ∙ rows-length _ _ _ c.loop-row.row
 
 pub across-across-requires : goal.across-across-requires
 across-across-requires c = (sized (goal.at.across-across-requires c).Start).size
@@ -33,12 +31,12 @@ overflow_mul-row_bytes c =
 
 pub loop-row-init : goal.loop-row-init
 unfolding rows_filled
-loop-row-init c = (search rules, refl)
+loop-row-init c = refl
 
 -- The blocks of the row lie within the array.
 spaced : (c : goal.In-loop-row) → Spaced c.loop-row.array (c.loop-row.row * (c.across-across.result * c.args.block)) c.args.block c.across-across.result c.columns-last.result c.args.block
 spaced c =
-    let e = c.rows.ensures in
+    let e = c.rows-row-end.ensures in
     rw (c.columns-last.ensures, c.across-across.ensures)
     (row_spaced _ _ _ (rw (kept c) (seal_fits _ _ _ c.requires)) c.loop-row.row (omega arith))
 
@@ -48,25 +46,14 @@ overflow_mul-row c = let s = spaced (goal.at.overflow_mul-row c).In-loop-row in 
 pub fill-requires : goal.fill-requires
 fill-requires c = spaced (goal.at.fill-requires c).In-loop-row
 
-pub overflow_add-row : goal.overflow_add-row
-overflow_add-row c =
-    let e = c.rows.ensures in
-    let few = (size_fits_lem _ (sized (goal.at.overflow_add-row c).Start).size).rows_high in
-    omega arith
-
-pub loop-row-smaller : goal.loop-row-smaller
-loop-row-smaller c = let e = c.rows.ensures in omega arith
-
 pub loop-row-preserved : goal.loop-row-preserved
 unfolding row_filled
 loop-row-preserved c =
-    let e = c.rows.ensures in (
-      omega arith,
-      c.fill.ensures
-          ∙ rw (c.columns-last.ensures, c.across-across.ensures, c.loop-row.invariant.1) (rows_next _ _ _ c.loop-row.row),
-    )
+    let e = c.rows-row-end.ensures in
+    c.fill.ensures
+    ∙ rw (c.columns-last.ensures, c.across-across.ensures, c.loop-row.invariant) (rows_next _ _ _ c.loop-row.row)
 
 pub returns : goal.returns
 returns c =
-    let e = c.rows.ensures in
-    c.loop-row.invariant.1 ∙ ap (rows_filled _ _ _) (omega arith)
+    let e = c.rows-row-end.ensures in
+    c.loop-row.invariant ∙ ap (rows_filled _ _ _) (omega arith)

@@ -8,7 +8,7 @@ use Rattle.model.specs.Grid.{layout_of}
 use Rattle.layout.proofs.Runs.{numbered_two, stripes_few}
 use Rattle.tally.specs.Tally.{Table}
 use Rattle.tally.proofs.Counted.{crossed}
-use Rattle.smallest.specs.Leads.{Near}
+use Rattle.neighbours.specs.Near.{Near}
 use Rattle.smallest.proofs.Choosing.{wiped_table, wiped_near}
 use Rattle.smallest.proofs.choose.begin.Goals.{After-wipe, Joined-found, then-found, else-found}
 use Rattle.smallest.proofs.choose.begin.Goals as goal
@@ -17,22 +17,16 @@ use Rattle.smallest.proofs.choose.begin.Goals as goal
 left : (w : goal.After-wipe) →
     let a = w.args in
     (erasures w.wipe.new.a ≡ above a.found.disk (erasures a.work.now))
-    × Table (layout_of a.size a.base) w.wipe.new.a a.stripes.now
+    × Table (layout_of a.grid.size a.grid.base) w.wipe.new.a a.stripes.now
 left w = wiped_table w.requires.table w.args.found.disk w.wipe.ensures
-
-pub load-requires-clause-numbered : goal.load-requires-clause-numbered
-load-requires-clause-numbered c = c.requires.numbered
 
 pub load-requires-clause-table : goal.load-requires-clause-table
 load-requires-clause-table c = (left (goal.at.load-requires-clause-table c).After-wipe).1
 
-pub load-requires-clause-near_len : goal.load-requires-clause-near_len
-load-requires-clause-near_len c = c.requires.near.room
-
 -- The table of neighbours is that of these disks, either way.
 neighbours : (j : goal.Joined-found) →
     let a = j.args in
-    Near (layout_of a.size a.base) (erasures j.wipe.new.a) j.if-found.near
+    Near (layout_of a.grid.size a.grid.base) (erasures j.wipe.new.a) j.if-found.near
 neighbours j =
     let d = j.args.found.disk in
     elim j.if-found.branch [
@@ -42,8 +36,8 @@ neighbours j =
 
 pub measure-requires : goal.measure-requires
 measure-requires c =
-    let x = crossed (numbered_two c.requires.numbered) c.requires.nearest.disk c.stripes_of-ends.ensures in
-    let few = stripes_few c.requires.numbered in
+    let x = crossed (numbered_two c.args.grid.numbered) c.requires.nearest.disk c.stripes_of-ends.ensures in
+    let few = stripes_few c.args.grid.numbered in
     record {
       near_len = (neighbours (goal.at.measure-requires c).Joined-found).room;
       low_lt_word_stripes = omega (arith, x.low_bound);
@@ -51,9 +45,6 @@ measure-requires c =
       others_lt_word_stripes = c.requires.nearest.few;
       levels_len = c.requires.levels_len;
     }
-
-pub returns-clause-stripes : goal.returns-clause-stripes
-returns-clause-stripes c = c.stripes_of-ends.ensures
 
 pub returns-clause-left : goal.returns-clause-left
 returns-clause-left c = (left (goal.at.returns-clause-left c).After-wipe).0

@@ -2,7 +2,6 @@
 -- Assumes nothing.
 use mathlib.Core.Path.{◌≡◌, sym, ◌∙◌}
 use mathlib.Core.Bool.{true}
-use Prim.Native.Nat.{◌+◌}
 use native.Mathlib.Omega.{arith}
 use Rattle.reach.specs.Reached.{next_in}
 use Rattle.smallest.proofs.Levels.{level_absent, level_first, level_second, level_none}
@@ -21,36 +20,17 @@ held : (c : goal.Else-not-has) → let a = c.args in next_in a.near.now a.pair.l
 unfolding next_in
 held c = sym c.has.ensures ∙ c.if-not-has.false
 
--- What is read is a byte.
-pub overflow_add-here : goal.overflow_add-here
-overflow_add-here c =
-    omega (arith, c.type_inv.levels c.args.pair.low)
-
-pub overflow_add-here-2 : goal.overflow_add-here-2
-overflow_add-here-2 c =
-    let fits = c.type_inv.levels in
-    omega (arith, fits c.args.pair.low, fits (64 + c.args.pair.high))
-
-pub returns-then-here-wide : goal.returns-then-here-wide
-returns-then-here-wide c =
+pub returns-then-here-from : goal.returns-then-here-from
+returns-then-here-from c =
     let a = c.args in
-    c.wide-here.ensures
-    ∙ level_first a.near.now a.levels.now a.pair.low a.pair.high a.others (held (goal.at.returns-then-here-wide c).Else-not-has) (omega arith)
+    c.from-here.ensures
+    ∙ level_first a.near.now a.levels.now a.pair.low a.pair.high a.others (held (goal.at.returns-then-here-from c).Else-not-has) (omega arith)
 
-pub overflow_add-there : goal.overflow_add-there
-overflow_add-there c =
-    omega (arith, c.type_inv.levels c.args.pair.high)
-
-pub overflow_add-there-2 : goal.overflow_add-there-2
-overflow_add-there-2 c =
-    let fits = c.type_inv.levels in
-    omega (arith, fits c.args.pair.high, fits (64 + c.args.pair.low))
-
-pub returns-then-there-wide : goal.returns-then-there-wide
-returns-then-there-wide c =
+pub returns-then-there-from : goal.returns-then-there-from
+returns-then-there-from c =
     let a = c.args in
-    c.wide-there.ensures
-    ∙ level_second a.near.now a.levels.now a.pair.low a.pair.high a.others (held (goal.at.returns-then-there-wide c).Else-not-has) (omega arith) (omega arith)
+    c.from-there.ensures
+    ∙ level_second a.near.now a.levels.now a.pair.low a.pair.high a.others (held (goal.at.returns-then-there-from c).Else-not-has) (omega arith) (omega arith)
 
 pub returns : goal.returns
 returns c =

@@ -12,15 +12,14 @@ pub trace-requires : goal.trace-requires
 trace-requires c =
     let w = c.args.work.now in
     let set = c.find.new.set in
-    let two = numbered_two c.requires.numbered in
+    let two = numbered_two c.args.grid.numbered in
     let lossy = c.requires.work_value in
     let is = c.find.ensures in
-    let few = layout-disks c.args.size c.args.base in
+    let few = layout-disks c.args.grid.size c.args.grid.base in
     let low = shown_lowest _ two w set lossy is in
     let same = c.requires.set_len in
     let kept = c.find.auto.set in
     record {
-      numbered = c.requires.numbered;
       table = shown_table _ two w set lossy is c.requires.table (omega arith);
       paired = shown_paired _ two w set lossy is;
       set_bound = omega arith;
@@ -30,7 +29,7 @@ trace-requires c =
 pub returns : goal.returns
 returns c =
     let cycle =
-    shown_cycle_lem _ (numbered_two c.requires.numbered) c.args.work.now c.find.new.set c.requires.work_value c.find.ensures in
+    shown_cycle_lem _ (numbered_two c.args.grid.numbered) c.args.work.now c.find.new.set c.requires.work_value c.find.ensures in
     record {
       number = c.trace.ensures.number ∙ ap length cycle;
       list = c.trace.ensures.list ∙ cycle;

@@ -16,7 +16,7 @@ use Rattle.solve.proofs.peeled.peel.Goals as goal
 
 pub copy-requires : goal.copy-requires
 copy-requires c =
-    let long = map-disks _ c.args.base _ c.requires.map_value in
+    let long = map-disks _ c.args.grid.base _ c.requires.map_value in
     let room = c.requires.room.disks_fit in
     omega arith
 
@@ -24,39 +24,27 @@ pub tally-erased-requires : goal.tally-erased-requires
 tally-erased-requires c =
     let room = c.requires.room in
     let same = c.copy.auto.work in
-    let few = layout-disks c.args.size c.args.base in
+    let few = layout-disks c.args.grid.size c.args.grid.base in
     let a = room.disks_fit in
     let b = room.table_fits in
     record {
-      numbered = c.requires.numbered;
       size_in_bounds = omega arith;
-      by_index = loaded_inside _ c.args.base _ c.requires.map_value _ c.copy.ensures;
+      by_index = loaded_inside _ c.args.grid.base _ c.requires.map_value _ c.copy.ensures;
       work_in_bounds = omega arith;
       stripe_limit_in_bounds = room.stripes_fit;
-    }
-
-pub peel-made-requires : goal.peel-made-requires
-peel-made-requires c =
-    let p = c.requires in
-    let record { number = number; tallied = tallied } = c.tally-erased.ensures in
-    record {
-      numbered = p.numbered;
-      erased_value = number;
-      tallied_2 = tallied;
-      capacity_in_bounds = p.room.list_fits;
     }
 
 -- No disk's number is the map's length, so none is held back.
 unheld : (c : goal.After-peel-made) →
     let a = c.args in
-    let L = layout_of a.size a.base in
+    let L = layout_of a.grid.size a.grid.base in
     let e = erasures c.copy.new.work in
     (c.peel-made.result ≡ length (repairs L e))
     × ((erasures c.peel-made.new.work ≡ residual L e)
     × ((listed c.peel-made.new.list c.peel-made.result ≡ repairs L e)
     × Tallied L c.peel-made.new.work c.tally-erased.new.stripes c.peel-made.new.counts))
 unheld c =
-    let long = map-disks _ c.args.base _ c.requires.map_value in
+    let long = map-disks _ c.args.grid.base _ c.requires.map_value in
     let h = c.peel-made.ensures in
     none-held (omega arith) _ _ (h.number, (h.left, (h.list, h.tallied)))
 

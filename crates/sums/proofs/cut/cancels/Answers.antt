@@ -11,9 +11,9 @@ cancels-requires c =
     let a = c.args in
     let l = c.list_cut-count in
     record {
-      chosen = cut-chosen a.size a.base a.stretch a.array.now c.requires.held (erasures a.map.now) (in_part a.parts.now a.name)
+      chosen = cut-chosen a.grid.size a.grid.base a.stretch a.array.now c.requires.held (erasures a.map.now) (in_part a.parts.now a.name)
           l.new.list l.result l.ensures;
-      len_in_bounds = cut-start a.size a.stretch a.array.now c.requires.held;
+      len_in_bounds = cut-start a.grid.size a.stretch a.array.now c.requires.held;
     }
 
 pub returns : goal.returns
@@ -21,5 +21,5 @@ returns c =
     let a = c.args in
     let l = c.list_cut-count in
     c.cancels.ensures
-    ∙ cut-cancelled a.size a.base a.stretch a.array.now c.requires.held (erasures a.map.now) (in_part a.parts.now a.name)
+    ∙ cut-cancelled a.grid.size a.grid.base a.stretch a.array.now c.requires.held (erasures a.map.now) (in_part a.parts.now a.name)
     l.new.list l.result l.ensures

@@ -10,7 +10,7 @@ pub fill-requires : goal.fill-requires
 fill-requires c =
     let a = c.args in
     let l = c.list_cut-count in
-    cut_beside a.size a.base a.stretch a.array.now c.requires.held (erasures a.map.now) (in_part a.parts.now a.name)
+    cut_beside a.grid.size a.grid.base a.stretch a.array.now c.requires.held (erasures a.map.now) (in_part a.parts.now a.name)
     l.new.list l.result l.ensures a.disk c.requires.disk_bound c.requires.disk_value
 
 pub returns : goal.returns
@@ -18,5 +18,5 @@ returns c =
     let a = c.args in
     let l = c.list_cut-count in
     c.fill.ensures
-    ∙ cut-filled a.size a.base a.stretch a.array.now c.requires.held (erasures a.map.now) (in_part a.parts.now a.name)
+    ∙ cut-filled a.grid.size a.grid.base a.stretch a.array.now c.requires.held (erasures a.map.now) (in_part a.parts.now a.name)
     l.new.list l.result l.ensures a.disk c.requires.disk_bound c.requires.disk_value

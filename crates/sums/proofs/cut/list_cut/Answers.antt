@@ -13,30 +13,26 @@ use Rattle.sums.specs.Cut.{in_part}
 use Rattle.sums.proofs.Cuts.{cut-none, cut-next, cut-room, cut_all}
 use Rattle.sums.proofs.cut.list_cut.Goals as goal
 
-pub bound-bound-requires : goal.bound-bound-requires
-bound-bound-requires c = c.requires.numbered
-
 pub loop-s-init : goal.loop-s-init
 loop-s-init c =
     let a = c.args in
-    (search rules, refl, cut-none (layout_of a.size a.base) (erasures a.map.now) (in_part a.parts.now a.name) a.list.now)
+    (refl, cut-none (layout_of a.grid.size a.grid.base) (erasures a.map.now) (in_part a.parts.now a.name) a.list.now)
 
-pub list_stripe-more-requires : goal.list_stripe-more-requires
-list_stripe-more-requires c =
+pub list_stripe-n-requires : goal.list_stripe-n-requires
+list_stripe-n-requires c =
     let a = c.args in
     let l = c.loop-s in
-    let L = layout_of a.size a.base in
-    let end = c.bound-bound.ensures in
+    let L = layout_of a.grid.size a.grid.base in
+    let end = c.bound-s-end.ensures in
     let below : l.s < L.stripe_bound = omega arith in
     let part = in_part a.parts.now a.name in
-    let room = cut-room L (erasures a.map.now) part (numbered_two c.requires.numbered) l.s l.n below l.invariant.2.few in
-    let same = layout-disks a.size a.base in
+    let room = cut-room L (erasures a.map.now) part (numbered_two c.args.grid.numbered) l.s l.n below l.invariant.1.few in
+    let same = layout-disks a.grid.size a.grid.base in
     record {
-      numbered = c.requires.numbered;
       size_in_bounds = c.requires.size_in_bounds;
       base_in_bounds = c.requires.base_in_bounds;
       stripe_bound = below;
-      survivors = l.invariant.2.survivors;
+      survivors = l.invariant.1.survivors;
       stripe_in_bounds = omega arith;
     }
 
@@ -44,19 +40,18 @@ pub loop-s-preserved : goal.loop-s-preserved
 loop-s-preserved c =
     let a = c.args in
     let l = c.loop-s in
-    let more = c.list_stripe-more in (
+    let more = c.list_stripe-n in (
       search rules,
-      search rules,
-      cut-next (layout_of a.size a.base) (erasures a.map.now) (in_part a.parts.now a.name) l.s l.list
-          more.new.list l.n more.result l.invariant.2 more.ensures,
+      cut-next (layout_of a.grid.size a.grid.base) (erasures a.map.now) (in_part a.parts.now a.name) l.s l.list
+          more.new.list l.n more.result l.invariant.1 more.ensures,
     )
 
 pub returns : goal.returns
 returns c =
     let a = c.args in
     let l = c.loop-s in
-    let L = layout_of a.size a.base in
-    let end : l.s ≡ L.stripe_bound = let b = c.bound-bound.ensures in omega arith in
-    let same = layout-disks a.size a.base in
-    cut_all L (erasures a.map.now) (in_part a.parts.now a.name) (numbered_two c.requires.numbered) l.list l.n (length l.list)
-    (rw end at l.invariant.2) (omega arith)
+    let L = layout_of a.grid.size a.grid.base in
+    let end : l.s ≡ L.stripe_bound = let b = c.bound-s-end.ensures in omega arith in
+    let same = layout-disks a.grid.size a.grid.base in
+    cut_all L (erasures a.map.now) (in_part a.parts.now a.name) (numbered_two c.args.grid.numbered) l.list l.n (length l.list)
+    (rw end at l.invariant.1) (omega arith)

@@ -1,7 +1,6 @@
 -- `sums::cut::list_cut` meets its contract: the survivors that the stripes so far bring are listed.
 -- Assumes nothing.
 use mathlib.Core.Path.{◌≡◌}
-use Prim.Native.Nat.{◌≤◌, ◌-◌}
 use lib.ListN.{length}
 use Rattle.stripes.specs.Fold.{xsum, total}
 use Rattle.stripes.specs.Erased.{erasures}
@@ -10,9 +9,6 @@ use Rattle.sums.specs.Cut.{in_part, cut_on, cut_over_on, Listed}
 use Rattle.sums.proofs.cut.list_cut.Given as goal
 
 abbrev pub invariant-loop-s : goal.invariant-loop-s
-invariant-loop-s l = (l.s ≤ l.bound) × (length l.list ≡ length l.initial.list)
-    × Listed (layout_of l.size l.base) (erasures l.map) l.list l.n (total l.s (cut_on (layout_of l.size l.base) (erasures l.map) (in_part l.parts l.name)))
-    (λ f. xsum l.s (cut_over_on (layout_of l.size l.base) (erasures l.map) (in_part l.parts l.name) f))
-
-abbrev pub decreases-loop-s : goal.decreases-loop-s
-decreases-loop-s l = l.bound - l.s
+invariant-loop-s l = (length l.list ≡ length l.initial.list)
+    × Listed (layout_of l.grid.size l.grid.base) (erasures l.map) l.list l.n (total l.s (cut_on (layout_of l.grid.size l.grid.base) (erasures l.map) (in_part l.parts l.name)))
+    (λ f. xsum l.s (cut_over_on (layout_of l.grid.size l.grid.base) (erasures l.map) (in_part l.parts l.name) f))

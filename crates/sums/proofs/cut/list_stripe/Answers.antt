@@ -1,10 +1,9 @@
 -- `sums::cut::list_stripe` meets its contract: those of the disks so far that are to be listed stand behind what was there.
 -- Assumes nothing.
-use mathlib.Core.Path.{◌≡◌, ◌∙◌, sym, refl, ap, subst}
+use mathlib.Core.Path.{◌≡◌, ◌∙◌, sym, refl, ap}
 use mathlib.Core.Bool.{true, not, ◌&&◌}
 use Prim.Native.Nat.{ℕ, ◌<◌}
 use native.Mathlib.Omega.{arith}
-use borrow.Author.Rules.{rules}
 use borrow.Author.Tests.{eq-eqb, ne_eqb, not-true}
 use lib.ListN.{length, length-set}
 use Rattle.stripes.specs.System.{other_than}
@@ -13,7 +12,6 @@ use Rattle.stripes.proofs.Fold.{and_left}
 use Rattle.model.specs.Grid.{layout_of}
 use Rattle.model.proofs.Grid.{layout-disks, disks-bound, size_fits_lem}
 use Rattle.layout.specs.Stripe.{run_disk}
-use Rattle.layout.specs.declared.stripe.Run.{Run}
 use Rattle.sums.specs.Cut.{in_part, in_cut}
 use Rattle.sums.proofs.Cuts.{behind-none, behind_skip, behind-next, Along, run_along}
 use Rattle.sums.proofs.Cuts.{stripe-none, stripe-room, stripe_all, outside_none, empty_none}
@@ -23,35 +21,35 @@ use Rattle.sums.proofs.cut.list_stripe.Goals as goal
 -- The run of a stripe in the part.
 known : (c : goal.After-disks_on-run)
     → let a = c.args in
-    Along a.size a.base (erasures a.map.now) (in_part a.parts.now a.name) a.stripe c.disks_on-run.result
+    Along a.grid.size a.grid.base (erasures a.map.now) (in_part a.parts.now a.name) a.stripe c.disks_on-run.result
 known c =
     let a = c.args in
-    run_along a.size a.base _ _ a.stripe c.requires.numbered (eq-eqb _ _ c.if-parts-stripe.false)
+    run_along a.grid.size a.grid.base _ _ a.stripe c.args.grid.numbered (eq-eqb _ _ c.if-parts-stripe.false)
     (sym c.has_disks.ensures ∙ c.if-not-has_disks.false) c.disks_on-run.result c.disks_on-run.ensures
 
 -- A disk of it has a small number.
 small : (c : goal.In-loop-k)
     → let a = c.args in
-    Along a.size a.base (erasures a.map.now) (in_part a.parts.now a.name) a.stripe c.disks_on-run.result
+    Along a.grid.size a.grid.base (erasures a.map.now) (in_part a.parts.now a.name) a.stripe c.disks_on-run.result
     → run_disk c.disks_on-run.result c.loop-k.k < 256
 small c r =
     let inside = r.disk c.loop-k.k c.loop-k-test.true in
-    let few = disks-bound c.args.size (size_fits_lem c.args.size c.requires.numbered.fits) in
-    let same = layout-disks c.args.size c.args.base in
+    let few = disks-bound c.args.grid.size (size_fits_lem c.args.grid.size c.args.grid.numbered.fits) in
+    let same = layout-disks c.args.grid.size c.args.grid.base in
     omega arith
 
 -- The other stripe of the disk, and whether the disk is listed.
 other-is : (c : goal.After-other_at-other)
     → let a = c.args in
     c.other_at-other.result
-    ≡ other_than a.stripe ((layout_of a.size a.base).through (run_disk c.disks_on-run.result c.loop-k.k))
+    ≡ other_than a.stripe ((layout_of a.grid.size a.grid.base).through (run_disk c.disks_on-run.result c.loop-k.k))
 other-is c = rw c.disks_on-run.ensures c.other_at-other.ensures
 
 test-is : (c : goal.After-leaves)
     → let a = c.args in
-    Along a.size a.base (erasures a.map.now) (in_part a.parts.now a.name) a.stripe c.disks_on-run.result
+    Along a.grid.size a.grid.base (erasures a.map.now) (in_part a.parts.now a.name) a.stripe c.disks_on-run.result
     → c.leaves.result
-    ≡ in_cut (layout_of a.size a.base) (erasures a.map.now) (in_part a.parts.now a.name)
+    ≡ in_cut (layout_of a.grid.size a.grid.base) (erasures a.map.now) (in_part a.parts.now a.name)
     (run_disk c.disks_on-run.result c.loop-k.k)
 test-is c r =
     let a = c.args in
@@ -64,42 +62,36 @@ test-is c r =
 -- Where it is, there is room for it.
 room : (c : goal.After-leaves)
     → let a = c.args in
-    Along a.size a.base (erasures a.map.now) (in_part a.parts.now a.name) a.stripe c.disks_on-run.result
+    Along a.grid.size a.grid.base (erasures a.map.now) (in_part a.parts.now a.name) a.stripe c.disks_on-run.result
     → c.leaves.result ≡ true → c.loop-k.n < length c.loop-k.list
 room c r listed =
     let a = c.args in
     let l = c.loop-k in
-    stripe-room a.size a.base (erasures a.map.now) (in_part a.parts.now a.name) a.stripe a.list.now a.have
-    c.disks_on-run.result r l.k l.list l.n l.invariant.2
-    (length l.list) (rw l.invariant.1 c.requires.stripe_in_bounds) c.loop-k-test.true (sym (test-is c r) ∙ listed)
+    stripe-room a.grid.size a.grid.base (erasures a.map.now) (in_part a.parts.now a.name) a.stripe a.list.now a.have
+    c.disks_on-run.result r l.k l.list l.n l.invariant.1
+    (length l.list) (rw l.invariant.0 c.requires.stripe_in_bounds) c.loop-k-test.true (sym (test-is c r) ∙ listed)
 
 pub returns-then-parts-stripe : goal.returns-then-parts-stripe
 returns-then-parts-stripe c =
     let a = c.args in
     let part = in_part a.parts.now a.name in
-    stripe-none a.size a.base (erasures a.map.now) part a.stripe a.list.now a.have c.requires.survivors
-    (outside_none a.size a.base (erasures a.map.now) part a.stripe (ne_eqb _ _ c.if-parts-stripe.true))
-
-pub has_disks-requires : goal.has_disks-requires
-has_disks-requires c = c.requires.numbered
+    stripe-none a.grid.size a.grid.base (erasures a.map.now) part a.stripe a.list.now a.have c.requires.survivors
+    (outside_none a.grid.size a.grid.base (erasures a.map.now) part a.stripe (ne_eqb _ _ c.if-parts-stripe.true))
 
 pub returns-then-not-has_disks : goal.returns-then-not-has_disks
 returns-then-not-has_disks c =
     let a = c.args in
     let part = in_part a.parts.now a.name in
-    stripe-none a.size a.base (erasures a.map.now) part a.stripe a.list.now a.have c.requires.survivors
-    (empty_none a.size a.base (erasures a.map.now) part a.stripe (sym c.has_disks.ensures ∙ c.if-not-has_disks.true))
-
-pub disks_on-run-requires : goal.disks_on-run-requires
-disks_on-run-requires c = c.requires.numbered
+    stripe-none a.grid.size a.grid.base (erasures a.map.now) part a.stripe a.list.now a.have c.requires.survivors
+    (empty_none a.grid.size a.grid.base (erasures a.map.now) part a.stripe (sym c.has_disks.ensures ∙ c.if-not-has_disks.true))
 
 pub loop-k-init : goal.loop-k-init
 loop-k-init c =
     let a = c.args in
-    let L = layout_of a.size a.base in
+    let L = layout_of a.grid.size a.grid.base in
     let e = erasures a.map.now in
     let t = in_cut L e (in_part a.parts.now a.name) in
-    (search rules, refl, behind-none L e a.list.now a.have t (run_disk c.disks_on-run.result) c.requires.survivors)
+    (refl, behind-none L e a.list.now a.have t (run_disk c.disks_on-run.result) c.requires.survivors)
 
 pub overflow_mul-disk : goal.overflow_mul-disk
 overflow_mul-disk c =
@@ -111,15 +103,6 @@ overflow_add-disk c =
     let h = small (goal.at.overflow_add-disk c).In-loop-k (known (goal.at.overflow_add-disk c).After-disks_on-run) in
     omega arith
 
-pub other_at-other-requires-clause-numbered : goal.other_at-other-requires-clause-numbered
-other_at-other-requires-clause-numbered c = c.requires.numbered
-
-pub other_at-other-requires-clause-stripe_value : goal.other_at-other-requires-clause-stripe_value
-other_at-other-requires-clause-stripe_value c = sym c.has_disks.ensures ∙ c.if-not-has_disks.false
-
-pub other_at-other-requires-clause-k_bound : goal.other_at-other-requires-clause-k_bound
-other_at-other-requires-clause-k_bound c = subst (λ (run : Run). c.loop-k.k < run.count) c.disks_on-run.ensures c.loop-k-test.true
-
 pub leaves-requires : goal.leaves-requires
 leaves-requires c =
     let r = known (goal.at.leaves-requires c).After-disks_on-run in
@@ -127,7 +110,7 @@ leaves-requires c =
     let other = r.other c.loop-k.k c.loop-k-test.true in
     let is = other-is (goal.at.leaves-requires c).After-other_at-other in
     let long = c.requires.size_in_bounds in
-    let same = layout-disks c.args.size c.args.base in
+    let same = layout-disks c.args.grid.size c.args.grid.base in
     record {
       disk_in_bounds = omega arith;
       other_in_bounds = omega arith;
@@ -157,24 +140,23 @@ loop-k-preserved c =
     let a = c.args in
     let l = c.loop-k in
     let at = run_disk c.disks_on-run.result in
-    let L = layout_of a.size a.base in
+    let L = layout_of a.grid.size a.grid.base in
     let e = erasures a.map.now in
     let t = in_cut L e (in_part a.parts.now a.name) in
     let r = known (goal.at.loop-k-preserved c).After-disks_on-run in
     let test : c.leaves.result ≡ t (at l.k) = test-is (goal.at.loop-k-preserved c).After-leaves r in (
-      search rules,
       elim c.if-leaves.branch [
-        | then-leaves w ↦ ap length w.list-is ∙ simp length-set l.invariant.1
-        | else-leaves w ↦ ap length w.list-is ∙ l.invariant.1
+        | then-leaves w ↦ ap length w.list-is ∙ simp length-set l.invariant.0
+        | else-leaves w ↦ ap length w.list-is ∙ l.invariant.0
       ],
       elim c.if-leaves.branch [
         | then-leaves w ↦
             rw (w.list-is, w.n-is)
-            (behind-next L e a.list.now a.have t at l.k l.list l.n l.invariant.2 (sym test ∙ w.if-leaves.true)
+            (behind-next L e a.list.now a.have t at l.k l.list l.n l.invariant.1 (sym test ∙ w.if-leaves.true)
             (room (goal.at.loop-k-preserved c).After-leaves r w.if-leaves.true) (r.disk l.k c.loop-k-test.true)
             (not-true _ (and_left (not (e (at l.k))) _ (sym test ∙ w.if-leaves.true))))
         | else-leaves w ↦
-            rw (w.list-is, w.n-is) (behind_skip L e a.list.now a.have t at l.k l.list l.n l.invariant.2 (sym test ∙ w.if-leaves.false))
+            rw (w.list-is, w.n-is) (behind_skip L e a.list.now a.have t at l.k l.list l.n l.invariant.1 (sym test ∙ w.if-leaves.false))
       ],
     )
 
@@ -182,5 +164,5 @@ pub returns : goal.returns
 returns c =
     let a = c.args in
     let l = c.loop-k in
-    stripe_all a.size a.base (erasures a.map.now) (in_part a.parts.now a.name) a.stripe a.list.now a.have
-    c.disks_on-run.result (known (goal.at.returns c).After-disks_on-run) l.k l.list l.n l.invariant.2 (omega arith)
+    stripe_all a.grid.size a.grid.base (erasures a.map.now) (in_part a.parts.now a.name) a.stripe a.list.now a.have
+    c.disks_on-run.result (known (goal.at.returns c).After-disks_on-run) l.k l.list l.n l.invariant.1 (omega arith)

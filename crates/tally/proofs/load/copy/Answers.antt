@@ -1,27 +1,20 @@
--- `tally::load::copy` meets its contract: the loop copies one byte after the other, and the rest is wiped.
+-- `tally::load::copy` meets its contract: the map is copied, and the rest is wiped.
 -- Assumes nothing.
-use mathlib.Core.Path.{◌≡◌, ap, ◌∙◌}
-use Prim.Native.Nat.{◌-◌, ◌<◌}
-use native.Mathlib.Nat.{not-suc-le-zero}
+use Rattle.std.proofs.Common.{◌≡◌, ◌∙◌, ap, List, ℕ, ◌++◌}
 use native.Mathlib.Omega.{arith}
 use borrow.Author.Rules.{rules}
-use lib.ListN.{length}
-use Rattle.tally.proofs.Scanned.{copied_next, copied_all}
+use lib.ListN.{length, drop, get_or}
+use Rattle.std.proofs.lemmas.List.{get_or_append_left}
 use Rattle.stripes.specs.Erased.{erasures}
+use Rattle.tally.proofs.Scanned.{copied_all}
 use Rattle.tally.proofs.load.copy.Goals as goal
-
-pub loop-i-init : goal.loop-i-init
-loop-i-init c = (search rules, search rules, λ j h. absurd (not-suc-le-zero h))
-
-pub loop-i-preserved : goal.loop-i-preserved
-loop-i-preserved c =
-    let l = c.loop-i in
-    let fits : l.i < length l.work = search rules in
-    (search rules, search rules, copied_next _ l.work l.i fits l.invariant.2)
 
 pub returns : goal.returns
 returns c =
-    let end = c.loop-i-test.false in
     let m = c.args.map.now in
-    let all : c.loop-i.i ≡ length m = omega arith in
-    ap erasures c.wipe.ensures ∙ rw all (copied_all m c.loop-i.work (search rules) (rw all at c.loop-i.invariant.2))
+    let new = c.copy_from_slice.new.self in
+    let rest = drop (length m) c.args.work.now in
+    let same : new ≡ m = c.copy_from_slice.ensures.after in
+    let long : length new ≡ length m = ap length same in
+    let copied = copied_all m (new ++ rest) (search rules) (λ j h. get_or_append_left new rest 0 j (omega arith) ∙ ap (λ (x : List ℕ). get_or x j 0) same) in
+    ap erasures c.wipe.ensures ∙ copied

@@ -1,6 +1,5 @@
 -- `tally::scan::next_erased` meets its contract: past the zeros, the loop looks for the next byte that is 1.
 -- Assumes nothing.
-use Prim.Native.Nat.{◌-◌}
 use native.Mathlib.Nat.{le_refl}
 use native.Mathlib.Omega.{arith}
 use Rattle.stripes.proofs.Erased.{is_erased}
@@ -25,4 +24,4 @@ pub loop-d-preserved : goal.loop-d-preserved
 loop-d-preserved c = passed_next c.loop-d.invariant c.loop-d-test.true c.if-map-d-eq1.false
 
 pub returns : goal.returns
-returns c = let p = c.loop-d.invariant in next_is _ _ _ p.within p.none (λ l. absurd (omega arith))
+returns c = let p = c.loop-d.invariant in next_is _ _ _ (omega arith) (λ i a b. p.none i a (omega arith)) (λ l. absurd (omega arith))

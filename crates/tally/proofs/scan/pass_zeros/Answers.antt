@@ -1,7 +1,6 @@
 -- `tally::scan::pass_zeros` meets its contract: the loop passes over one chunk of zeros after the other.
 -- Assumes nothing.
 use mathlib.Core.Path.{◌∙◌, sym, refl}
-use Prim.Native.Nat.{◌-◌}
 use borrow.Author.Rules.{rules}
 use Rattle.tally.proofs.Scanned.{passed_none, passed_zeros}
 use Rattle.tally.proofs.scan.pass_zeros.Goals as goal

@@ -19,9 +19,9 @@ stripes_of-pair-requires c =
 -- The disk with its stripes.
 pair : (c : goal.After-stripes_of-pair) →
     let a = c.args in
-    Crossed (layout_of a.size a.base) a.disk c.stripes_of-pair.result.low c.stripes_of-pair.result.high
+    Crossed (layout_of a.grid.size a.grid.base) a.disk c.stripes_of-pair.result.low c.stripes_of-pair.result.high
 pair c =
-    erased_crossed c.requires.tallied_2.table _ c.requires.disk_value (numbered_two c.requires.numbered) c.stripes_of-pair.ensures
+    erased_crossed c.requires.tallied_2.table _ c.requires.disk_value (numbered_two c.args.grid.numbered) c.stripes_of-pair.ensures
 
 pub bounds-work-disk : goal.bounds-work-disk
 bounds-work-disk c = omega (arith, (pair (goal.at.bounds-work-disk c).After-stripes_of-pair).disk, c.requires.tallied_2.table.disks_fit)

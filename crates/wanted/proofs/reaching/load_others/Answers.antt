@@ -14,20 +14,10 @@ tally-requires c =
     let table = c.requires.others_in_bounds in
     let same = c.copy.auto.work in
     record {
-      numbered = c.requires.numbered;
       size_in_bounds = rw (length-set _ _ _) (omega arith);
       by_index = λ d h. others_outside c.args.map.now _ c.args.disk loaded d (omega arith);
       work_in_bounds = rw (length-set _ _ _) (omega arith);
       stripe_limit_in_bounds = c.requires.stripe_limit_in_bounds;
-    }
-
-pub join_all-requires : goal.join_all-requires
-join_all-requires c =
-    let p = c.requires in
-    record {
-      numbered = p.numbered;
-      table = c.tally.ensures.tallied.table;
-      base_in_bounds = p.base_in_bounds;
     }
 
 pub returns : goal.returns

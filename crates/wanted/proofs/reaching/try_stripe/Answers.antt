@@ -38,7 +38,7 @@ bound {z} {base} n map d fits erased here = on-bound _ (numbered_two n) d (insid
 pub bounds-parts-stripe : goal.bounds-parts-stripe
 bounds-parts-stripe c =
     let p = c.requires in
-    let low = bound p.numbered c.args.map.now c.args.disk p.map_value p.disk_value p.stripe_value in
+    let low = bound c.args.grid.numbered c.args.map.now c.args.disk p.map_value p.disk_value p.stripe_value in
     let fit = p.others.parted.stripes_fit in
     omega arith
 
@@ -47,9 +47,8 @@ load-requires c =
     let o = c.requires.others in
     let room = c.requires.room.disks_fit in
     let same = c.requires.others_len in
-    let long = map-disks _ c.args.base _ c.requires.map_value in
+    let long = map-disks _ c.args.grid.base _ c.requires.map_value in
     record {
-      numbered = c.requires.numbered;
       table = o.table;
       base_in_bounds = o.parted.stripes_fit;
       map_in_bounds = omega arith;
@@ -63,26 +62,14 @@ tally-erased-requires c =
     let room = c.requires.room in
     let a = room.disks_fit in
     let b = room.table_fits in
-    let few = layout-disks c.args.size c.args.base in
+    let few = layout-disks c.args.grid.size c.args.grid.base in
     let long = map-length _ _ c.requires.map_value in
     let same = c.load.auto.work in
     record {
-      numbered = c.requires.numbered;
       size_in_bounds = omega arith;
-      by_index = λ d h. side_outside (layout_of c.args.size c.args.base) c.args.map.now c.args.others.now c.args.parts.now _ c.args.disk o.erased _ c.load.ensures d (omega arith);
+      by_index = λ d h. side_outside (layout_of c.args.grid.size c.args.grid.base) c.args.map.now c.args.others.now c.args.parts.now _ c.args.disk o.erased _ c.load.ensures d (omega arith);
       work_in_bounds = omega arith;
       stripe_limit_in_bounds = room.stripes_fit;
-    }
-
-pub peel-made-requires : goal.peel-made-requires
-peel-made-requires c =
-    let p = c.requires in
-    let record { number = number; tallied = tallied } = c.tally-erased.ensures in
-    record {
-      numbered = p.numbered;
-      erased_value = number;
-      tallied_2 = tallied;
-      capacity_in_bounds = p.room.list_fits;
     }
 
 -- The stripe has a place in the counts.
@@ -92,24 +79,24 @@ counted c =
     let peeled = c.peel-made.auto.counts in
     let before = c.tally-erased.auto.counts in
     let room = p.room.stripes_fit in
-    let most = stripes_few p.numbered in
-    let low = bound p.numbered c.args.map.now c.args.disk p.map_value p.disk_value p.stripe_value in
+    let most = stripes_few c.args.grid.numbered in
+    let low = bound c.args.grid.numbered c.args.map.now c.args.disk p.map_value p.disk_value p.stripe_value in
     omega arith
 
 -- There are few enough repairs for one more.
 few : (c : goal.After-peel-made) → c.peel-made.result < capacity
-few c = held-few _ _ c.requires.numbered c.args.disk _ c.peel-made.ensures.number
+few c = held-few _ _ c.args.grid.numbered c.args.disk _ c.peel-made.ensures.number
 
 -- The side with the disk was loaded.
 side : (c : goal.After-load) →
     let a = c.args in
-    erasures c.load.new.work ≡ sideWith (layout_of a.size a.base) (numbered_two c.requires.numbered) (erasures a.map.now) a.disk a.stripe c.requires.disk_value
+    erasures c.load.new.work ≡ sideWith (layout_of a.grid.size a.grid.base) (numbered_two c.args.grid.numbered) (erasures a.map.now) a.disk a.stripe c.requires.disk_value
 side c =
     let a = c.args in
     let p = c.requires in
-    let long = map-disks _ a.base _ p.map_value in
-    loaded_side (numbered_two p.numbered) p.disk_value (λ i h. past_end a.map.now i (omega arith)) p.others a.stripe
-    (bound p.numbered c.args.map.now c.args.disk p.map_value p.disk_value p.stripe_value) _ c.load.ensures
+    let long = map-disks _ a.grid.base _ p.map_value in
+    loaded_side (numbered_two c.args.grid.numbered) p.disk_value (λ i h. past_end a.map.now i (omega arith)) p.others a.stripe
+    (bound c.args.grid.numbered c.args.map.now c.args.disk p.map_value p.disk_value p.stripe_value) _ c.load.ensures
 
 pub bounds-counts-stripe : goal.bounds-counts-stripe
 bounds-counts-stripe c = counted (goal.at.bounds-counts-stripe c).After-peel-made
@@ -118,8 +105,8 @@ pub returns-then-counts-stripe-ne1 : goal.returns-then-counts-stripe-ne1
 returns-then-counts-stripe-ne1 c =
     let p = c.requires in
     let e = c.peel-made.ensures in
-    tried_none (numbered_two p.numbered) (erasures c.args.map.now) c.args.disk p.disk_value
-    (inside c.args.size c.args.base c.args.map.now p.map_value p.disk_value) c.args.stripe p.stripe_value
+    tried_none (numbered_two c.args.grid.numbered) (erasures c.args.map.now) c.args.disk p.disk_value
+    (inside c.args.grid.size c.args.grid.base c.args.map.now p.map_value p.disk_value) c.args.stripe p.stripe_value
     _ (side (goal.at.returns-then-counts-stripe-ne1 c).After-load) _ _ (e.number, (e.left, (e.list, e.tallied)))
     (counted (goal.at.returns-then-counts-stripe-ne1 c).After-peel-made) c.if-counts-stripe-ne1.true
 
@@ -130,11 +117,11 @@ placed c =
     let less = few c in
     let room = p.room.list_fits in
     let same = c.peel-made.auto.list in
-    let most = stripes_few p.numbered in
-    let low = bound p.numbered c.args.map.now c.args.disk p.map_value p.disk_value p.stripe_value in
-    let here = inside c.args.size c.args.base c.args.map.now p.map_value p.disk_value in
-    let disks = disks-bound c.args.size (size_fits_lem c.args.size p.numbered.fits) in
-    let all = layout-disks c.args.size c.args.base in
+    let most = stripes_few c.args.grid.numbered in
+    let low = bound c.args.grid.numbered c.args.map.now c.args.disk p.map_value p.disk_value p.stripe_value in
+    let here = inside c.args.grid.size c.args.grid.base c.args.map.now p.map_value p.disk_value in
+    let disks = disks-bound c.args.grid.size (size_fits_lem c.args.grid.size c.args.grid.numbered.fits) in
+    let all = layout-disks c.args.grid.size c.args.grid.base in
     (omega arith, (omega arith, omega arith))
 
 pub put-requires : goal.put-requires
@@ -150,7 +137,7 @@ returns c =
     let p = c.requires in
     let e = c.peel-made.ensures in
     let (room, (low, high)) = placed (goal.at.returns c).After-peel-made in
-    tried_list (numbered_two p.numbered) (erasures c.args.map.now) c.args.disk p.disk_value
-    (inside c.args.size c.args.base c.args.map.now p.map_value p.disk_value) c.args.stripe p.stripe_value
+    tried_list (numbered_two c.args.grid.numbered) (erasures c.args.map.now) c.args.disk p.disk_value
+    (inside c.args.grid.size c.args.grid.base c.args.map.now p.map_value p.disk_value) c.args.stripe p.stripe_value
     _ (side (goal.at.returns c).After-load) _ _ (e.number, (e.left, (e.list, e.tallied)))
     (counted (goal.at.returns c).After-peel-made) c.if-counts-stripe-ne1.false room low high c.put.ensures

@@ -14,9 +14,9 @@ use Rattle.wanted.proofs.side.is_in.Goals as goal
 -- The disk with its stripes.
 pair : (c : goal.After-stripes_of-pair) →
     let a = c.args in
-    Crossed (layout_of a.size a.base) a.disk c.stripes_of-pair.result.low c.stripes_of-pair.result.high
+    Crossed (layout_of a.grid.size a.grid.base) a.disk c.stripes_of-pair.result.low c.stripes_of-pair.result.high
 pair c =
-    erased_crossed c.requires.table _ c.requires.disk_value (numbered_two c.requires.numbered) c.stripes_of-pair.ensures
+    erased_crossed c.requires.table _ c.requires.disk_value (numbered_two c.args.grid.numbered) c.stripes_of-pair.ensures
 
 pub bounds-parts-low : goal.bounds-parts-low
 bounds-parts-low c = (crossed_places (pair (goal.at.bounds-parts-low c).After-stripes_of-pair) c.requires.base_in_bounds).0

@@ -1,13 +1,11 @@
 -- `wanted::side::number` meets its contract: each turn of the loop looks one of the others up.
 -- Assumes nothing.
-use Prim.Native.Nat.{◌-◌, ◌≤◌}
-use lib.ListN.{length}
+use mathlib.Core.Path.{◌≡◌}
 use Rattle.model.specs.Grid.{layout_of}
 use Rattle.wanted.proofs.Sided.{Told}
 use Rattle.wanted.proofs.side.number.Given as goal
 
-abbrev pub invariant-loop-size : goal.invariant-loop-size
-invariant-loop-size l = Told (layout_of l.size l.base) l.others l.parts l.name l.from l.number × (l.from ≤ length l.others)
-
-abbrev pub decreases-loop-size : goal.decreases-loop-size
-decreases-loop-size l = length l.others - l.from
+abbrev pub invariant-loop-d : goal.invariant-loop-d
+invariant-loop-d l =
+    (goal.iterator-loop-d).can_next l.d-iterator × (goal.iterator-loop-d).is_finite l.d-iterator × (l.d-iterator.map.now ≡ l.others)
+    × Told (layout_of l.grid.size l.grid.base) l.others l.parts l.name l.d-iterator.from l.number

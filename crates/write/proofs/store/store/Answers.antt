@@ -15,20 +15,20 @@ find_places-at-requires c =
       disk_value = fits.disk;
     }
 
-pub store_parts-requires-clause-room : goal.store_parts-requires-clause-room
-store_parts-requires-clause-room c = rw c.find_places-at.ensures (room _ _ _ _ _ (write_fits _ _ _ _ _ c.requires) refl _ (omega arith))
+pub store_parts-requires : goal.store_parts-requires
+store_parts-requires c = rw c.find_places-at.ensures (room _ _ _ _ _ (write_fits _ _ _ _ _ c.requires) refl _ (omega arith))
 
 pub returns-then-block-lt16 : goal.returns-then-block-lt16
 returns-then-block-lt16 c = bytes-written _ _ _ _ _ (write_fits _ _ _ _ _ c.requires) _ (rw c.find_places-at.ensures at c.store_parts.ensures)
 
-pub store_parts-requires-2-clause-room : goal.store_parts-requires-2-clause-room
-store_parts-requires-2-clause-room c = rw c.find_places-at.ensures (room _ _ _ _ _ (write_fits _ _ _ _ _ c.requires) refl _ (omega arith))
+pub store_parts-requires-2 : goal.store_parts-requires-2
+store_parts-requires-2 c = rw c.find_places-at.ensures (room _ _ _ _ _ (write_fits _ _ _ _ _ c.requires) refl _ (omega arith))
 
-pub store_parts-requires-3-clause-room : goal.store_parts-requires-3-clause-room
-store_parts-requires-3-clause-room c = rw c.find_places-at.ensures (room _ _ _ _ _ (write_fits _ _ _ _ _ c.requires) (omega arith) _ (omega arith))
+pub store_parts-requires-3 : goal.store_parts-requires-3
+store_parts-requires-3 c = rw c.find_places-at.ensures (room _ _ _ _ _ (write_fits _ _ _ _ _ c.requires) (omega arith) _ (omega arith))
 
-pub store_parts-requires-4-clause-room : goal.store_parts-requires-4-clause-room
-store_parts-requires-4-clause-room c = rw c.find_places-at.ensures (room _ _ _ _ _ (write_fits _ _ _ _ _ c.requires) (omega arith) _ (omega arith))
+pub store_parts-requires-4 : goal.store_parts-requires-4
+store_parts-requires-4 c = rw c.find_places-at.ensures (room _ _ _ _ _ (write_fits _ _ _ _ _ c.requires) (omega arith) _ (omega arith))
 
 pub returns : goal.returns
 returns c =

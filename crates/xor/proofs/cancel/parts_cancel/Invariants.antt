@@ -2,12 +2,10 @@
 -- Assumes nothing.
 use mathlib.Core.Path.{◌≡◌}
 use mathlib.Core.Bool.{true}
-use Prim.Native.Nat.{◌≤◌, ◌-◌, ◌*◌}
-use Rattle.xor.specs.Strided.{cancelled}
+use Prim.Native.Nat.{◌*◌}
+use Rattle.xor.specs.Parts.{zero_from}
+use Rattle.xor.specs.Spots.{total_at}
 use Rattle.xor.proofs.cancel.parts_cancel.Given as goal
 
 abbrev pub invariant-loop-i : goal.invariant-loop-i
-invariant-loop-i l = (l.i ≤ l.parts) × (cancelled (l.w * l.i) l.a l.first l.step l.count l.skip ≡ true)
-
-abbrev pub decreases-loop-i : goal.decreases-loop-i
-decreases-loop-i l = l.parts - l.i
+invariant-loop-i g l = zero_from (total_at (g.S.Stretches.spots l.stretches) l.a) l.first (g.row.W * l.i) ≡ true

@@ -1,12 +1,11 @@
--- `xor::fill::fill_parts` meets its contract: after each turn w places more hold the sum.
+-- `xor::fill::fill_parts` meets its contract: after each turn W places more hold the sum.
 -- Assumes nothing.
 use mathlib.Core.Path.{◌≡◌}
-use Prim.Native.Nat.{◌≤◌, ◌-◌, ◌*◌}
-use Rattle.xor.specs.Strided.{filled}
+use Prim.Native.Nat.{◌+◌, ◌*◌}
+use Rattle.xor.specs.Parts.{stored_from}
+use Rattle.xor.specs.Spots.{total_at}
 use Rattle.xor.proofs.fill.fill_parts.Given as goal
 
 abbrev pub invariant-loop-i : goal.invariant-loop-i
-invariant-loop-i l = (l.i ≤ l.parts) × (l.a ≡ filled (l.w * l.i) l.initial.a l.first l.step l.count l.skip)
-
-abbrev pub decreases-loop-i : goal.decreases-loop-i
-decreases-loop-i l = l.parts - l.i
+invariant-loop-i g l =
+    l.a ≡ stored_from l.initial.a (l.first + l.gap) (total_at (g.S.Stretches.spots l.stretches) l.initial.a) l.first (g.row.W * l.i)
