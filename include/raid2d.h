@@ -192,9 +192,9 @@
  *
  * State. There is none: no memory is allocated, nothing is read or written but
  * what is lent and less than 4 KB of stack. Of the C library the archive needs
- * memcpy, memmove and memset, which take stack of their own, and at their first
- * call so does a dynamic linker that has to find them. Calls may run at the same
- * time, also from a signal handler, unless one writes what another is lent.
+ * memcpy and memset, which take stack of their own, and at their first call so
+ * does a dynamic linker that has to find them. Calls may run at the same time,
+ * also from a signal handler, unless one writes what another is lent.
  *
  * Pointers that are not valid. The archive has no unwind tables and no line
  * numbers. A debugger that stops in it on a bad pointer names a function of

@@ -11,12 +11,14 @@ ghost use Rattle.tally.specs.Column.{column_of, Located};
 use layout::stripe::Grid;
 use model::Size;
 
-// `work` becomes a map, with zeros behind it.
+// `work` becomes a map, with zeros behind it. A loop, since `copy_from_slice` would have every host bring `memmove`.
 pub fn copy(map: &[u8], work: &mut [u8])
     requires { length map.now ≤ length work.old }
     ensures { erasures work.new ≡ erasures map.now }
 {
-    work[..map.len()].copy_from_slice(map);
+    for d in 0..map.len() {
+        work[d] = map[d];
+    }
     zeros::wipe(work, map.len(), work.len() - map.len());
 }
 

@@ -1,20 +1,23 @@
--- `tally::load::copy` meets its contract: the map is copied, and the rest is wiped.
+-- `tally::load::copy` meets its contract: the loop copies one byte after the other, and the rest is wiped.
 -- Assumes nothing.
-use Rattle.std.proofs.Common.{◌≡◌, ◌∙◌, ap, List, ℕ, ◌++◌}
+use mathlib.Core.Path.{◌≡◌, ap, ◌∙◌}
+use native.Mathlib.Nat.{not-suc-le-zero}
 use native.Mathlib.Omega.{arith}
 use borrow.Author.Rules.{rules}
-use lib.ListN.{length, drop, get_or}
-use Rattle.std.proofs.lemmas.List.{get_or_append_left}
+use lib.ListN.{length}
+use Rattle.tally.proofs.Scanned.{copied_next, copied_all}
 use Rattle.stripes.specs.Erased.{erasures}
-use Rattle.tally.proofs.Scanned.{copied_all}
 use Rattle.tally.proofs.load.copy.Goals as goal
+
+pub loop-d-init : goal.loop-d-init
+loop-d-init c = (search rules, λ j h. absurd (not-suc-le-zero h))
+
+pub loop-d-preserved : goal.loop-d-preserved
+loop-d-preserved c =
+    let l = c.loop-d in
+    (search rules, copied_next _ l.work l.d (search rules) l.invariant.1)
 
 pub returns : goal.returns
 returns c =
-    let m = c.args.map.now in
-    let new = c.copy_from_slice.new.self in
-    let rest = drop (length m) c.args.work.now in
-    let same : new ≡ m = c.copy_from_slice.ensures.after in
-    let long : length new ≡ length m = ap length same in
-    let copied = copied_all m (new ++ rest) (search rules) (λ j h. get_or_append_left new rest 0 j (omega arith) ∙ ap (λ (x : List ℕ). get_or x j 0) same) in
-    ap erasures c.wipe.ensures ∙ copied
+    let l = c.loop-d in
+    ap erasures c.wipe.ensures ∙ copied_all _ l.work (search rules) (λ j h. l.invariant.1 j (omega arith))
