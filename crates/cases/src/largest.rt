@@ -58,7 +58,7 @@ pub fn run(rt: &impl Print) -> io::Result<()> {
     put_every(&mut array, 1, 1048576, 5, 90);
     put_every(&mut array, 2, 1048576, 4099, 203);
     let status = seal::seal(size, 4096, &mut array);
-    say::status(rt, "seal the largest array", status)?;
+    say::answer(rt, "seal the largest array", status)?;
     say::checked(rt, "check it", scrub::check(size, 4096, &array))?;
     let sealed = array;
     let mut map = [0u8; 256];

@@ -17,9 +17,9 @@ fn parities(
     array: &mut [u8],
     new: &[u8],
 ) -> io::Result<()> {
-    say::status(rt, "seal", seal::seal(size, block, array))?;
+    say::answer(rt, "seal", seal::seal(size, block, array))?;
     say::checked(rt, "check", scrub::check(size, block, array))?;
-    say::status(rt, "write", write::write(size, block, array, 0, new))
+    say::answer(rt, "write", write::write(size, block, array, 0, new))
 }
 
 // What look, rebuild and follow answer. Look has no number: an empty part has length 0.
@@ -36,7 +36,7 @@ fn losses(
     let rebuilt = rebuild::rebuild(size, block, array, block, map, &mut sheet, 31);
     say::outcome(rt, "rebuild", rebuilt)?;
     let followed = follow::follow(size, block, array, block, map, &sheet);
-    say::status(rt, "follow", followed)
+    say::answer(rt, "follow", followed)
 }
 
 // Each call on an array.
@@ -141,7 +141,7 @@ fn map_byte(rt: &impl Print) -> io::Result<()> {
     let rebuilt = rebuild::rebuild(size, 1, &mut array, 1, &mut first, &mut sheet, 31);
     say::outcome(rt, "rebuild with 2 in the map", rebuilt)?;
     let followed = follow::follow(size, 1, &mut array, 1, &first, &sheet);
-    say::status(rt, "follow with 2 in the map", followed)
+    say::answer(rt, "follow with 2 in the map", followed)
 }
 
 // What write answers for disks 2 and 3 of a size with 12 disks.
@@ -150,9 +150,9 @@ fn written(rt: &impl Print, rows: usize, columns: usize) -> io::Result<()> {
     let mut array = [0u8; 12];
     heading(rt, rows, columns, 1)?;
     let second = write::write(size, 1, &mut array, 2, b"a");
-    say::status(rt, "write to disk 2", second)?;
+    say::answer(rt, "write to disk 2", second)?;
     let third = write::write(size, 1, &mut array, 3, b"a");
-    say::status(rt, "write to disk 3", third)
+    say::answer(rt, "write to disk 3", third)
 }
 
 // Row 0 ends with disk 3 where there are three data columns, and with disk 2 where there are two.
@@ -166,7 +166,7 @@ fn parity_disk(rt: &impl Print) -> io::Result<()> {
     let size = two_by_two();
     let mut array = [1u8, 2, 3, 4, 8, 12, 5, 10, 15];
     let status = write::write(size, 1, &mut array, 2, b"a");
-    say::status(rt, "write to disk 2", status)?;
+    say::answer(rt, "write to disk 2", status)?;
     say::checked(rt, "check after it", scrub::check(size, 1, &array))
 }
 
