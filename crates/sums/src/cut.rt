@@ -12,16 +12,17 @@ ghost use Rattle.sums.specs.Cut.{in_part, cut_over, cut_sum, cut_on, Survivors, 
 use layout::stripe::Grid;
 use stripes::Stretch;
 
-// The disk is a survivor, and this other stripe of it is not in the part.
+// The disk is a survivor, and this other stripe of it is not in the part. The stripe is asked first: where many disks are lost at random,
+// it nearly always tells, and a byte of the map is one that a processor cannot foresee.
 fn leaves(map: &[u8], parts: &[u8], name: u8, disk: usize, other: usize) -> bool
     requires disk_in_bounds { disk < length map.now }
     requires other_in_bounds { other < length parts.now }
     ensures { result ≡ (not (erasures map.now disk) && not (in_part parts.now name other)) }
 {
-    if map[disk] == 1 {
+    if parts[other] == name {
         return false;
     }
-    parts[other] != name
+    map[disk] != 1
 }
 
 // Lists such survivors on one stripe, behind the `have` numbers of the list, and answers how many there are then. A stripe that is not

@@ -1,10 +1,13 @@
 -- `sums::cut::leaves` meets its contract.
 -- Assumes nothing.
-use Rattle.stripes.proofs.Erased.{is_erased, is_present}
+use mathlib.Core.Bool.{and-false, and-true}
+use borrow.Author.Tests.{eq-eqb, ne_eqb}
+use Rattle.stripes.specs.Erased.{erasures}
 use Rattle.sums.proofs.cut.leaves.Goals as goal
 
-pub returns-then-map-disk-eq1 : goal.returns-then-map-disk-eq1
-returns-then-map-disk-eq1 c = let a = c.args in rw (is_erased a.map.now a.disk c.if-map-disk-eq1.true)
+pub returns-then-parts-other : goal.returns-then-parts-other
+returns-then-parts-other c = rw (eq-eqb _ _ c.if-parts-other.true, and-false)
 
 pub returns : goal.returns
-returns c = let a = c.args in rw (is_present a.map.now a.disk c.if-map-disk-eq1.false)
+unfolding erasures
+returns c = rw (ne_eqb _ _ c.if-parts-other.false, and-true)
