@@ -202,7 +202,7 @@ fn report_count(answer: Result<usize, Refusal>, count: &mut usize) -> u32
             *count = number;
             0
         }
-        Err(refusal) => refusal.number(),
+        Err(cause) => cause.number(),
     }
 }
 
