@@ -4,7 +4,6 @@ use mathlib.Core.Path.{◌≡◌, ap, ◌∙◌}
 use native.Mathlib.Nat.{not-suc-le-zero}
 use native.Mathlib.Omega.{arith}
 use borrow.Author.Rules.{rules}
-use lib.ListN.{length}
 use Rattle.tally.proofs.Scanned.{copied_next, copied_all}
 use Rattle.stripes.specs.Erased.{erasures}
 use Rattle.tally.proofs.load.copy.Goals as goal
